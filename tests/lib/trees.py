@@ -14,7 +14,7 @@ from lib.program import PROGRAM
 
 # how the program's lines on standard error begin: of a skipped entry, of how many there are, and of how many of these
 # are symbolic links
-SKIPPED, ALL_SKIPPED, LINKS = b"left out: ", b"left out in all: ", b"of these symbolic links, which are no part of a profile: "
+SKIPPED, ALL_SKIPPED, LINKS = b"skipped: ", b"skipped in all: ", b"of these symbolic links, which are no part of a profile: "
 # why an entry is skipped
 LINK = b"it is a symbolic link, which is no part of a profile"
 KIND = b"neither a folder nor a regular file, or it can't be looked at"

@@ -46,7 +46,7 @@ each link is printed on standard error with its path and the reason, and written
 
 Standard error also has the registry, if none was named, and the progress: every ten seconds, or on a
 terminal in one line that is updated. The summary at the end counts the files identified by
-signature, by extension and not at all, mismatches, the ten most frequent formats, what was left out
+signature, by extension and not at all, mismatches, the ten most frequent formats, what was skipped
 and how many links are among that, bytes and seconds.
 
 Each FILE is complete, or as it was before, and has a path of its own. It may be inside DIR: its old

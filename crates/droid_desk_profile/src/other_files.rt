@@ -12,7 +12,7 @@ use std::alloc::Global;
 pub struct OtherFiles<T> {
     /// The whole tree.
     pub tree: T,
-    /// The files that are left out.
+    /// The files that are not listed.
     pub own: Vec<FileId>,
 }
 

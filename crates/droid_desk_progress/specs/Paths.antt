@@ -35,7 +35,7 @@ shown_text path = if is_plain path then path else flat_map escaped_byte path
 
 -- the line for a skipped entry
 abbrev pub skipped_text : List ℕ → List ℕ → List ℕ
-skipped_text path cause = codes "left out: " ++ (path ++ (codes ": " ++ (cause ++ 10 ∷ [])))
+skipped_text path cause = codes "skipped: " ++ (path ++ (codes ": " ++ (cause ++ 10 ∷ [])))
 
 unfoldable pub cause_text : Skipped → List ℕ
 cause_text reasons.Link = codes "it is a symbolic link, which is no part of a profile"

@@ -59,7 +59,7 @@ impl Display for SkippedLine<'_> {
     ghost output = { λ it. Some (skipped_text (shown_text it.path.now) (cause_text it.why)) };
 
     fn fmt<W: Write>(&self, f: &mut Formatter<W>) -> fmt::Result {
-        writeln!(f, "left out: {}: {}", Shown(self.path), cause(self.why))
+        writeln!(f, "skipped: {}: {}", Shown(self.path), cause(self.why))
     }
 }
 

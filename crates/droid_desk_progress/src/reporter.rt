@@ -123,7 +123,7 @@ impl<'a, R: Eprint + Clock> Reporter<'a, R> {
     pub fn end(self) {
         self.clear();
         let skipped = CountLine {
-            name: "left out in all",
+            name: "skipped in all",
             count: self.totals.counts.skipped,
         };
         if self.verbosity == Verbosity::Quiet && skipped.count == 0 {

@@ -1,10 +1,10 @@
 -- A header, and a frame, is determined by its spelling, whatever follows it.
 use Rattle.std.proofs.Common.{◌≡◌, ℕ, List, ◌++◌, length, take, drop, Option, Some, refl, sym, ap, ◌∙◌, arith}
 use Rattle.std.proofs.lemmas.List.{take_at, drop_at}
-use Rattle.droid_frame_values.specs.declared.frame.Frame.{Frame}
+use Rattle.droid_frame_bodies.specs.types.frame.Frame.{Frame}
 use Rattle.droid_frame.specs.declared.stream.header.Header.{Header}
-use Rattle.droid_frame_values.specs.Fields.{u32_bytes, u64_bytes}
-use Rattle.droid_frame_values.specs.Frames.{frame_bytes}
+use Rattle.droid_frame_bodies.specs.Fields.{u32_bytes, u64_bytes}
+use Rattle.droid_frame_bodies.specs.Frames.{frame_bytes}
 use Rattle.droid_frame.specs.Headers.{header_bytes}
 use Rattle.droid_frame.specs.Streams.{IsFrame}
 use Rattle.droid_frame.specs.StreamReads.{IsHeader}

@@ -4,13 +4,13 @@ use Rattle.std.specs.Int.{w32, w64, from_be_bytes}
 use Rattle.std.specs.List.{flat_map}
 use Rattle.std.proofs.lemmas.Bool.{le-ltb, ltb-true, ltb-false, cases_lt}
 use Rattle.std.proofs.lemmas.List.{length-append, length-take, take-append-drop}
-use Rattle.droid_frame_values.specs.declared.frame.Frame.{Frame}
-use Rattle.droid_frame_values.specs.Limits.{body_limit}
+use Rattle.droid_frame_bodies.specs.types.frame.Frame.{Frame}
+use Rattle.droid_frame_bodies.specs.Limits.{body_limit}
 use Rattle.droid_frame.specs.declared.stream.fault.FrameFault.{FrameFault}
 use Rattle.droid_frame.specs.declared.stream.header.Header.{Header}
-use Rattle.droid_frame_values.specs.Fields.{IsBytes, u32_bytes, u64_bytes}
-use Rattle.droid_frame_values.specs.Frames.{frame_bytes}
-use Rattle.droid_frame_values.specs.Versions.{is_version}
+use Rattle.droid_frame_bodies.specs.Fields.{IsBytes, u32_bytes, u64_bytes}
+use Rattle.droid_frame_bodies.specs.Frames.{frame_bytes}
+use Rattle.droid_frame_bodies.specs.Versions.{is_version}
 use Rattle.droid_frame.specs.Headers.{header_bytes}
 use Rattle.droid_frame.specs.Streams.{IsReadable, BeginsNoFrame, Frames, header_size}
 use Rattle.droid_frame.specs.StreamReads.{IsHeader, judged}

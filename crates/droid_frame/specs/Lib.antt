@@ -1,16 +1,16 @@
 -- the definitions of the crates below, re-exported
-pub use Rattle.droid_frame_values.specs.Bodies
-pub use Rattle.droid_frame_values.specs.Fields
-pub use Rattle.droid_frame_values.specs.Filters
-pub use Rattle.droid_frame_values.specs.Frames
-pub use Rattle.droid_frame_values.specs.Hashes
-pub use Rattle.droid_frame_values.specs.Limits
-pub use Rattle.droid_frame_values.specs.Refusals
-pub use Rattle.droid_frame_values.specs.Replies
-pub use Rattle.droid_frame_values.specs.Sequences
-pub use Rattle.droid_frame_values.specs.TextLists
-pub use Rattle.droid_frame_values.specs.Versions
-pub use Rattle.droid_frame_values.specs.declared as types
+pub use Rattle.droid_frame_bodies.specs.Bodies
+pub use Rattle.droid_frame_bodies.specs.Fields
+pub use Rattle.droid_frame_bodies.specs.Filters
+pub use Rattle.droid_frame_bodies.specs.Frames
+pub use Rattle.droid_frame_bodies.specs.Hashes
+pub use Rattle.droid_frame_bodies.specs.Limits
+pub use Rattle.droid_frame_bodies.specs.Refusals
+pub use Rattle.droid_frame_bodies.specs.Replies
+pub use Rattle.droid_frame_bodies.specs.Sequences
+pub use Rattle.droid_frame_bodies.specs.TextLists
+pub use Rattle.droid_frame_bodies.specs.Versions
+pub use Rattle.droid_frame_bodies.specs.types as types
 pub use Rattle.droid_frame_bodies.specs.Outcomes
 pub use Rattle.droid_frame_bodies.specs.fields.Hashes as HashFields
 pub use Rattle.droid_frame_bodies.specs.fields.Reading

@@ -1,11 +1,11 @@
 -- The frames of replies (this project's own).
 use Rattle.std.specs.Prelude.{ℕ, List}
-use Rattle.droid_frame_values.specs.declared.frame.Frame.{Frame}
-use Rattle.droid_frame_values.specs.declared.reply.Reply.{Reply}
-use Rattle.droid_frame_values.specs.Fields.{IsU32, IsU64}
-use Rattle.droid_frame_values.specs.Frames.{frame_bytes}
-use Rattle.droid_frame_values.specs.Replies.{HasReplySpelling, reply_bytes, reply_kind}
-use Rattle.droid_frame_values.specs.Versions.{IsVersion}
+use Rattle.droid_frame_bodies.specs.types.frame.Frame.{Frame}
+use Rattle.droid_frame_bodies.specs.types.reply.Reply.{Reply}
+use Rattle.droid_frame_bodies.specs.Fields.{IsU32, IsU64}
+use Rattle.droid_frame_bodies.specs.Frames.{frame_bytes}
+use Rattle.droid_frame_bodies.specs.Replies.{HasReplySpelling, reply_bytes, reply_kind}
+use Rattle.droid_frame_bodies.specs.Versions.{IsVersion}
 use Rattle.droid_frame.specs.Streams.{IsReadable}
 
 -- the frame of a reply: version, client and number are those of the request

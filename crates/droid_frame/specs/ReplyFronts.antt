@@ -1,11 +1,11 @@
 -- For proofs only: the two parts of a reply's body, a front of short fields and a rest of any length.
 use Rattle.std.specs.Prelude.{ℕ, List, [], ◌++◌, length}
 use Rattle.std.specs.List.{AllByRecursion}
-use Rattle.droid_frame_values.specs.declared.reply.Reply.{Reply}
-use Rattle.droid_frame_values.specs.declared.reply.Reply.TheVariants.{Made, Node, Taken, Finished, Abandoned, Progress, Part, Refused}
-use Rattle.droid_frame_values.specs.Fields.{u16_bytes, u32_bytes, u64_bytes, truth_bytes, method_bytes}
-use Rattle.droid_frame_values.specs.Replies.{IsPuidText, digest_bytes, refusal_bytes}
-use Rattle.droid_frame_values.specs.TextLists.{texts_bytes}
+use Rattle.droid_frame_bodies.specs.types.reply.Reply.{Reply}
+use Rattle.droid_frame_bodies.specs.types.reply.Reply.TheVariants.{Made, Node, Taken, Finished, Abandoned, Progress, Part, Refused}
+use Rattle.droid_frame_bodies.specs.Fields.{u16_bytes, u32_bytes, u64_bytes, truth_bytes, method_bytes}
+use Rattle.droid_frame_bodies.specs.Replies.{IsPuidText, digest_bytes, refusal_bytes}
+use Rattle.droid_frame_bodies.specs.TextLists.{texts_bytes}
 
 -- the front: the fields before a list or bytes
 abbrev pub reply_front : ℕ → Reply → List ℕ

@@ -1,8 +1,8 @@
 -- Laws of the frames of a stream.
 use Rattle.std.specs.Prelude.{◌≡◌, ℕ, List, ◌++◌}
-use Rattle.droid_frame_values.specs.declared.frame.Frame.{Frame}
-use Rattle.droid_frame_values.specs.Fields.{IsBytes}
-use Rattle.droid_frame_values.specs.Frames.{frame_bytes}
+use Rattle.droid_frame_bodies.specs.types.frame.Frame.{Frame}
+use Rattle.droid_frame_bodies.specs.Fields.{IsBytes}
+use Rattle.droid_frame_bodies.specs.Frames.{frame_bytes}
 use Rattle.droid_frame.specs.Streams.{IsFrame, Frames}
 
 -- if one input begins with the spellings of two frames, the frames are equal, and so are the bytes after them

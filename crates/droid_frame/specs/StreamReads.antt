@@ -1,15 +1,15 @@
 -- The bytes that reading one frame consumes, for each result.
 use Rattle.std.specs.Prelude.{◌≡◌, ℕ, ◌+◌, ◌<◌, ◌≤◌, ◌^◌, nat_lt, if◌then◌else◌, ◌⊎◌, List, [], Option, Some, None, IfSome, Result, Ok, Err, length}
 use Rattle.std.specs.Io.KnownBytes.{Consumes, IsAtEnd}
-use Rattle.droid_frame_values.specs.Limits.{body_limit}
+use Rattle.droid_frame_bodies.specs.Limits.{body_limit}
 use Rattle.droid_frame.specs.declared.stream.arrival.Arrival.{Arrival}
 use Rattle.droid_frame.specs.declared.stream.arrival.Arrival.TheVariants as arrivals
 use Rattle.droid_frame.specs.declared.stream.fault.FrameFault.{FrameFault}
 use Rattle.droid_frame.specs.declared.stream.fault.FrameFault.TheVariants.{Truncated, BadVersion, TooLong, Memory, Read}
 use Rattle.droid_frame.specs.declared.stream.header.Header.{Header}
-use Rattle.droid_frame_values.specs.Fields.{IsBytes, IsU32}
-use Rattle.droid_frame_values.specs.Frames.{frame_bytes}
-use Rattle.droid_frame_values.specs.Versions.{IsVersion, is_version}
+use Rattle.droid_frame_bodies.specs.Fields.{IsBytes, IsU32}
+use Rattle.droid_frame_bodies.specs.Frames.{frame_bytes}
+use Rattle.droid_frame_bodies.specs.Versions.{IsVersion, is_version}
 use Rattle.droid_frame.specs.Headers.{header_bytes}
 use Rattle.droid_frame_stream.specs.declared.seen.Seen.{Seen}
 use Rattle.droid_frame_stream.specs.Reads.{ConsumesFewer}

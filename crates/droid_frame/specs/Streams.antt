@@ -2,15 +2,15 @@
 use Rattle.std.specs.Prelude.{◌≡◌, ℕ, ◌<◌, ◌≤◌, ◌^◌, ◌==◌, nat_lt, if◌then◌else◌, List, ◌++◌, length, take, drop, slice_index, Result, Ok, Err}
 use Rattle.std.specs.Int.{w32, from_be_bytes}
 use Rattle.std.specs.List.{AllByRecursion, flat_map}
-use Rattle.droid_frame_values.specs.declared.frame.Frame.{Frame}
-use Rattle.droid_frame_values.specs.Limits.{body_limit}
+use Rattle.droid_frame_bodies.specs.types.frame.Frame.{Frame}
+use Rattle.droid_frame_bodies.specs.Limits.{body_limit}
 use Rattle.droid_frame.specs.declared.stream.arrival.Arrival.{Arrival}
 use Rattle.droid_frame.specs.declared.stream.arrival.Arrival.TheVariants.{End}
 use Rattle.droid_frame.specs.declared.stream.fault.FrameFault.{FrameFault}
 use Rattle.droid_frame.specs.declared.stream.fault.FrameFault.TheVariants.{Truncated, BadVersion, TooLong}
-use Rattle.droid_frame_values.specs.Fields.{IsBytes, IsU32}
-use Rattle.droid_frame_values.specs.Frames.{frame_bytes}
-use Rattle.droid_frame_values.specs.Versions.{IsVersion, is_version}
+use Rattle.droid_frame_bodies.specs.Fields.{IsBytes, IsU32}
+use Rattle.droid_frame_bodies.specs.Frames.{frame_bytes}
+use Rattle.droid_frame_bodies.specs.Versions.{IsVersion, is_version}
 
 -- each field is in its range, and the body is within the limit of the frame's version
 pub record IsFrame (frame : Frame) : Type 0 where

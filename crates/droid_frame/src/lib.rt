@@ -10,15 +10,14 @@ mod requests;
 mod stream;
 mod text_writer;
 
-pub use droid_frame_bodies::{BodyFault, reply_of, request_of};
+pub use droid_frame_bodies::{
+    Blob, BodyFault, Criteria, Criterion, Filter, Frame, HashKind, HashValue, Limit, Method,
+    NUMBER_LIMIT, NodeKind, PART_LIMIT, Record, Refusal, Reply, Request, Text, Texts, body_limit,
+    is_version, mark, reply_of, request_of,
+};
 pub use droid_frame_stream::{
     Condition, InputFault, Noted, ReadFault, Retries, Seen, SteadyRead, SteadyWrite, WriteFault,
     WriteState, read_some, read_to_end, write_all,
-};
-pub use droid_frame_values::{
-    Blob, Criteria, Criterion, Filter, Frame, HashKind, HashValue, Limit, Method, NUMBER_LIMIT,
-    NodeKind, PART_LIMIT, Record, Refusal, Reply, Request, Text, Texts, body_limit, is_version,
-    mark,
 };
 pub use replies::{reply_body, reply_body_len};
 pub use requests::request_frame;

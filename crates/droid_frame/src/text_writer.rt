@@ -3,9 +3,9 @@
 ghost use Rattle.std.specs.Prelude.{◌≡◌, ◌≤◌, ◌++◌, OnOk, length};
 ghost use Rattle.std.specs.List.{AllByRecursion};
 ghost use Rattle.std.specs.Str.{IsUtf8};
-ghost use Rattle.droid_frame_values.specs.TextLists.{sized_bytes, texts_bytes};
+ghost use Rattle.droid_frame_bodies.specs.TextLists.{sized_bytes, texts_bytes};
 
-use droid_frame_values::{Text, Texts};
+use droid_frame_bodies::{Text, Texts};
 use std::alloc::AllocError;
 
 /// Appends the texts, each after its length.

@@ -5,6 +5,8 @@ ghost use Rattle.droid_frame_values.specs.Bodies.{SpellsRequest};
 ghost use Rattle.droid_frame_values.specs.declared.request.Request.{Request};
 ghost use Rattle.droid_frame_bodies.specs.replies.Results.{SpellsOneReply};
 
+pub use droid_frame_values::laws::constants_are_the_limits;
+
 /// A version, a kind and a body spell at most one request.
 pub fn spells_one_request()
     ensures { (version kind : ℕ) (body : List ℕ) (one other : Request)

@@ -9,5 +9,10 @@ mod replies;
 mod requests;
 
 pub use body_fault::BodyFault;
+pub use droid_frame_values::{
+    Blob, Criteria, Criterion, Filter, Frame, HashKind, HashValue, Limit, Method, NUMBER_LIMIT,
+    NodeKind, PART_LIMIT, Record, Refusal, Reply, Request, Text, Texts, body_limit, is_version,
+    mark,
+};
 pub use replies::reply_of;
 pub use requests::request_of;

@@ -41,8 +41,8 @@ class Begun(WithSmallTree):
         with Serve.lasting() as service:
             self.assertEqual(submit(self.top, service.port, 7), (0, b""))
             status, err = submit(self.top, service.port, 7, piece=100)
-            changed = b"".join(b"left out: %s: changed since it was submitted\n" % path for path in (b"/a.bin", b"/z.bin", b"/sub/b.txt"))
-            self.assertEqual((status, err), (5, changed + b"left out in all: 3\n"))
+            changed = b"".join(b"skipped: %s: changed since it was submitted\n" % path for path in (b"/a.bin", b"/z.bin", b"/sub/b.txt"))
+            self.assertEqual((status, err), (5, changed + b"skipped in all: 3\n"))
             self.assertEqual(submit(self.top, service.port, 7, "--export", self.export), (0, b""))
         self.same(self.exported(), walk(self.top)[0])
 

@@ -51,15 +51,15 @@ class Lies(WithSmallTree):
 
 class OfFiles(Lies):
     def test_other_hash_when_a_file_is_finished(self):
-        skipped = b"".join(b"left out: " + path + OTHER_HASH for path in (b"/a.bin", b"/z.bin", b"/sub/b.txt"))
-        for hash, due in (("md5", (5, skipped + b"left out in all: 3\n")), ("sha256", (5, skipped + b"left out in all: 3\n")), ("none", (0, b""))):
+        skipped = b"".join(b"skipped: " + path + OTHER_HASH for path in (b"/a.bin", b"/z.bin", b"/sub/b.txt"))
+        for hash, due in (("md5", (5, skipped + b"skipped in all: 3\n")), ("sha256", (5, skipped + b"skipped in all: 3\n")), ("none", (0, b""))):
             self.assertEqual(self.submitted(other_hash, "--hash", hash)[:2], due, hash)
 
     def test_other_hash_of_an_empty_file(self):
         """Its hash is known though no piece is read. Its Finish is request 9: a profile, a.bin's six and its AddFile come
         before."""
         self.file(b"/empty.txt", b"")
-        self.reports(at(9, other_hash), b"left out: /empty.txt" + OTHER_HASH.rstrip(), b"left out in all: 1")
+        self.reports(at(9, other_hash), b"skipped: /empty.txt" + OTHER_HASH.rstrip(), b"skipped in all: 1")
 
     def test_finished_though_no_piece_came(self):
         """Then the file is not sent; the export, which is right, shows that it is not there."""

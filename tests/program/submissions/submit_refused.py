@@ -56,7 +56,7 @@ class Refused(WithSmallTree):
         return 4, b"fault: " + name.encode(), sentence, b""
 
     def skipped(self, path, reason):
-        return 5, b"left out: " + path + b": " + reason, b"left out in all: 1", b""
+        return 5, b"skipped: " + path + b": " + reason, b"skipped in all: 1", b""
 
     def test_profile(self):
         """(submit_begun has more on NumberReused)"""

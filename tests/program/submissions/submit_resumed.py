@@ -80,7 +80,7 @@ class Unfinished(WithSmallTree):
         with Serve.lasting() as service:
             self.end_early(service.port)
             self.file(b"/a.bin", bytes([content[0] ^ 1]) + content[1:], 1_000_000_000)
-            differs = b"left out: /a.bin: its hash in the profile is another\nleft out in all: 1\n"
+            differs = b"skipped: /a.bin: its hash in the profile is another\nskipped in all: 1\n"
             self.assertEqual(submit(self.top, service.port, 7), (5, differs))
 
     def test_changed_meanwhile(self):
@@ -89,7 +89,7 @@ class Unfinished(WithSmallTree):
             self.end_early(service.port)
             self.file(b"/a.bin", b"another", 1_000_000_001)
             ended = submit(self.top, service.port, 7)
-        self.assertEqual(ended, (5, b"left out: /a.bin: changed since it was submitted\nleft out in all: 1\n"))
+        self.assertEqual(ended, (5, b"skipped: /a.bin: changed since it was submitted\nskipped in all: 1\n"))
 
     def test_removed_meanwhile(self):
         """What is unfinished is not in the profile."""

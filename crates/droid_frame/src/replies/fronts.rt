@@ -1,13 +1,13 @@
 //! The fronts of replies' bodies: the fields before a list or bytes of any length.
 
 ghost use Rattle.std.specs.Prelude.{◌≡◌, ◌≤◌, ◌++◌, [], length};
-ghost use Rattle.droid_frame_values.specs.Hashes.{IsHashValue};
-ghost use Rattle.droid_frame_values.specs.Replies.{HasReplySpelling, HasRefusalSpelling, IsPuidText, digest_bytes, refusal_bytes};
+ghost use Rattle.droid_frame_bodies.specs.Hashes.{IsHashValue};
+ghost use Rattle.droid_frame_bodies.specs.Replies.{HasReplySpelling, HasRefusalSpelling, IsPuidText, digest_bytes, refusal_bytes};
 ghost use Rattle.droid_frame.specs.ReplyFronts.{reply_front};
-ghost use Rattle.droid_frame_values.specs.TextLists.{sized_bytes};
+ghost use Rattle.droid_frame_bodies.specs.TextLists.{sized_bytes};
 
 use super::small_bytes::SmallBytes;
-use droid_frame_values::{HashValue, Refusal, Reply, Text};
+use droid_frame_bodies::{HashValue, Refusal, Reply, Text};
 
 /// Makes the front of the reply's body in this version: the fields before its list or bytes.
 pub(crate) fn front_of(version: u8, reply: &Reply) -> SmallBytes

@@ -5,14 +5,14 @@ mod small_bytes;
 
 ghost use Rattle.std.specs.Prelude.{◌≡◌, ◌≤◌, IfOk, length};
 ghost use Rattle.std.specs.List.{AllByRecursion};
-ghost use Rattle.droid_frame_values.specs.Limits.{puids_limit};
-ghost use Rattle.droid_frame_values.specs.Replies.{HasReplySpelling, IsPuidText, SpellsReply, reply_bytes, reply_kind};
-ghost use Rattle.droid_frame_values.specs.TextLists.{texts_bytes};
-ghost use Rattle.droid_frame_values.specs.Versions.{IsVersion};
+ghost use Rattle.droid_frame_bodies.specs.Limits.{puids_limit};
+ghost use Rattle.droid_frame_bodies.specs.Replies.{HasReplySpelling, IsPuidText, SpellsReply, reply_bytes, reply_kind};
+ghost use Rattle.droid_frame_bodies.specs.TextLists.{texts_bytes};
+ghost use Rattle.droid_frame_bodies.specs.Versions.{IsVersion};
 
 use crate::replies::fronts::front_of;
 use crate::text_writer::append_texts;
-use droid_frame_values::{Blob, Reply, Texts};
+use droid_frame_bodies::{Blob, Reply, Texts};
 use std::alloc::{AllocError, Global};
 
 /// Makes the body of a reply's frame in this version. Allocates once, and fails only when out of memory.

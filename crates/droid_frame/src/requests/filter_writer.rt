@@ -1,11 +1,11 @@
 //! Writers of filters.
 
 ghost use Rattle.std.specs.Prelude.{◌≡◌, ◌++◌, ◌∷◌, ◌<◌, ◌^◌, OnOk};
-ghost use Rattle.droid_frame_values.specs.Fields.{u64_bytes};
-ghost use Rattle.droid_frame_values.specs.Filters.{IsList, IsCriterion, IsFilter, ListFits, CriterionFits, FilterFits, list_bytes, criterion_bytes, filter_bytes};
+ghost use Rattle.droid_frame_bodies.specs.Fields.{u64_bytes};
+ghost use Rattle.droid_frame_bodies.specs.Filters.{IsList, IsCriterion, IsFilter, ListFits, CriterionFits, FilterFits, list_bytes, criterion_bytes, filter_bytes};
 
 use crate::text_writer::append_texts;
-use droid_frame_values::{Criterion, Filter, Texts};
+use droid_frame_bodies::{Criterion, Filter, Texts};
 use std::alloc::AllocError;
 
 /// Appends the filter.

@@ -4,14 +4,14 @@ mod filter_writer;
 
 ghost use Rattle.std.specs.Prelude.{◌≡◌, ◌++◌, IfOk, OnOk};
 ghost use Rattle.std.specs.Str.{IsUtf8};
-ghost use Rattle.droid_frame_values.specs.Bodies.{Fits, HasSpelling, ListsFit, HashFits, SpellsRequest, request_kind, request_body};
-ghost use Rattle.droid_frame_values.specs.Fields.{IsBytes, u32_bytes, u64_bytes, i64_bytes, truth_bytes, IsU32, IsU64, IsI64};
-ghost use Rattle.droid_frame_values.specs.Filters.{FilterFits, IsFilter, filter_bytes};
-ghost use Rattle.droid_frame_values.specs.Frames.{frame_bytes, spelling};
-ghost use Rattle.droid_frame_values.specs.Hashes.{CarriesHash, hash_field};
+ghost use Rattle.droid_frame_bodies.specs.Bodies.{Fits, HasSpelling, ListsFit, HashFits, SpellsRequest, request_kind, request_body};
+ghost use Rattle.droid_frame_bodies.specs.Fields.{IsBytes, u32_bytes, u64_bytes, i64_bytes, truth_bytes, IsU32, IsU64, IsI64};
+ghost use Rattle.droid_frame_bodies.specs.Filters.{FilterFits, IsFilter, filter_bytes};
+ghost use Rattle.droid_frame_bodies.specs.Frames.{frame_bytes, spelling};
+ghost use Rattle.droid_frame_bodies.specs.Hashes.{CarriesHash, hash_field};
 
 use self::filter_writer::append_filter;
-use droid_frame_values::{Blob, Filter, Frame, HashKind, Request, Text};
+use droid_frame_bodies::{Blob, Filter, Frame, HashKind, Request, Text};
 use std::alloc::{AllocError, Global};
 
 /// Makes the frame of a request in this version. Fails only when out of memory.

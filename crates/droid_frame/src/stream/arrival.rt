@@ -1,6 +1,6 @@
 //! The next frame of a stream, or its end.
 
-use droid_frame_values::Frame;
+use droid_frame_bodies::Frame;
 
 /// The result of reading a stream at the beginning of a frame.
 #[derive(Debug, Drop)]

@@ -1,7 +1,7 @@
 //! The reader of frames.
 
 ghost use Rattle.std.specs.Prelude.{◌≡◌, ◌++◌, ℕ, List, Some, Err, IfOk, IfErr, OnErr, IfSome, IsErrOf};
-ghost use Rattle.droid_frame_values.specs.Frames.{frame_bytes};
+ghost use Rattle.droid_frame_bodies.specs.Frames.{frame_bytes};
 ghost use Rattle.droid_frame.specs.Streams.{IsReadable, BeginsNoFrame, why};
 ghost use Rattle.droid_frame_stream.specs.Seen.{Counts, IsSound, ReportsFault};
 ghost use Rattle.droid_frame.specs.StreamReads.{Arrives, BodyCame, Brings, HeaderCame, ReadsGoodHeader, ReadsNoFrame, ReadsOn, Tells, UnlessRefused, judged};
@@ -10,7 +10,7 @@ use super::arrival::Arrival;
 use super::fault::FrameFault;
 use super::header::{HEADER_LENGTH, Header};
 use droid_frame_stream::{Retries, SteadyRead, fill};
-use droid_frame_values::{Blob, Frame, body_limit, is_version};
+use droid_frame_bodies::{Blob, Frame, body_limit, is_version};
 use std::alloc::Global;
 
 /// Reads the next frame, or the end of the stream. It reads the whole header before it checks it, and then allocates

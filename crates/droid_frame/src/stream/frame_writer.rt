@@ -2,15 +2,15 @@
 
 ghost use Rattle.std.specs.Prelude.{◌≤◌, IsErr, OnOk, IfErr, length};
 ghost use Rattle.std.specs.Io.KnownBytes.{Appends};
-ghost use Rattle.droid_frame_values.specs.Frames.{frame_bytes};
-ghost use Rattle.droid_frame_values.specs.Limits.{body_limit};
+ghost use Rattle.droid_frame_bodies.specs.Frames.{frame_bytes};
+ghost use Rattle.droid_frame_bodies.specs.Limits.{body_limit};
 ghost use Rattle.droid_frame_stream.specs.Seen.{IsSound};
 ghost use Rattle.droid_frame_stream.specs.Writes.{Takes, ReportsWrite};
 ghost use Rattle.droid_frame.specs.StreamWrites.{Stops};
 
 use super::header::Header;
 use droid_frame_stream::{SteadyWrite, WriteFault, WriteState, write_all};
-use droid_frame_values::Frame;
+use droid_frame_bodies::Frame;
 
 /// Writes a frame. It allocates nothing, and retries interrupted writes, up to 64 in one frame.
 ///

@@ -3,20 +3,20 @@
 ghost use Rattle.std.specs.Prelude.{◌≡◌, ◌+◌, ◌<◌, ◌≤◌, ◌^◌, ◌-◌, ℕ, IsErr, OnOk, IfErr, length};
 ghost use Rattle.std.specs.Io.KnownBytes.{Appends};
 ghost use Rattle.std.specs.List.{AllByRecursion};
-ghost use Rattle.droid_frame_values.specs.Replies.{HasReplySpelling, IsPuidText};
+ghost use Rattle.droid_frame_bodies.specs.Replies.{HasReplySpelling, IsPuidText};
 ghost use Rattle.droid_frame.specs.ReplyFrames.{reply_frame};
 ghost use Rattle.droid_frame.specs.ReplyFronts.{HasRestSpelling, reply_rest};
 ghost use Rattle.droid_frame.specs.StreamWrites.{Stops};
 ghost use Rattle.droid_frame_stream.specs.Seen.{Counts, IsSound};
 ghost use Rattle.droid_frame_stream.specs.Writes.{StopsWithin, Takes, ReportsWrite, WritesOn};
-ghost use Rattle.droid_frame_values.specs.TextLists.{texts_bytes};
-ghost use Rattle.droid_frame_values.specs.Versions.{IsVersion};
+ghost use Rattle.droid_frame_bodies.specs.TextLists.{texts_bytes};
+ghost use Rattle.droid_frame_bodies.specs.Versions.{IsVersion};
 
 use super::header::Header;
 use crate::replies::fronts::{front_of, sized_puid};
 use crate::replies::reply_body_len;
 use droid_frame_stream::{SteadyWrite, WriteFault, WriteState, write_all};
-use droid_frame_values::{Reply, Texts};
+use droid_frame_bodies::{Reply, Texts};
 
 /// Writes the frame of a reply. The version, client and number are those of the request. It allocates nothing, and
 /// retries interrupted writes, up to 64 in one frame.

@@ -1,8 +1,8 @@
 use Rattle.std.proofs.Common.{◌≡◌, List, ℕ, length, take, ap, sym, subst, arith}
 use Rattle.std.specs.List.{AllByRecursion}
 use Rattle.std.proofs.lemmas.List.{take_all}
-use Rattle.droid_frame_values.specs.Replies.{IsPuidText}
-use Rattle.droid_frame_values.specs.TextLists.{texts_bytes}
+use Rattle.droid_frame_bodies.specs.Replies.{IsPuidText}
+use Rattle.droid_frame_bodies.specs.TextLists.{texts_bytes}
 use Rattle.droid_frame.proofs.ReplyFronts.{puids_are_short, room_for_puid}
 use Rattle.droid_frame.proofs.replies.puids_length.Goals as goal
 

@@ -1,6 +1,6 @@
 -- The bytes of the first identifiers are counted.
 use Rattle.std.proofs.Common.{◌≡◌, length, take}
-use Rattle.droid_frame_values.specs.TextLists.{texts_bytes}
+use Rattle.droid_frame_bodies.specs.TextLists.{texts_bytes}
 use Rattle.droid_frame.proofs.replies.puids_length.Given as goal
 
 abbrev pub invariant-loop-puid : goal.invariant-loop-puid

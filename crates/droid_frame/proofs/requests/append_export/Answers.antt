@@ -1,6 +1,6 @@
 use Rattle.std.proofs.Common.{◌++◌}
-use Rattle.droid_frame_values.specs.Fields.{u32_bytes, u64_bytes}
-use Rattle.droid_frame_values.specs.Filters.{filter_bytes}
+use Rattle.droid_frame_bodies.specs.Fields.{u32_bytes, u64_bytes}
+use Rattle.droid_frame_bodies.specs.Filters.{filter_bytes}
 use Rattle.droid_frame.proofs.Appending.{added_then}
 use Rattle.droid_frame.proofs.requests.append_export.Goals as goal
 

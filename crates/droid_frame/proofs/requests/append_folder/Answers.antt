@@ -1,5 +1,5 @@
 use Rattle.std.proofs.Common.{◌++◌}
-use Rattle.droid_frame_values.specs.Fields.{u32_bytes, i64_bytes}
+use Rattle.droid_frame_bodies.specs.Fields.{u32_bytes, i64_bytes}
 use Rattle.droid_frame.proofs.Appending.{added_then}
 use Rattle.droid_frame.proofs.requests.append_folder.Goals as goal
 

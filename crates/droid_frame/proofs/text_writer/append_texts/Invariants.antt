@@ -2,7 +2,7 @@
 use Rattle.std.proofs.Common.{◌≡◌, ◌++◌, take}
 use Rattle.std.specs.List.{AllByRecursion}
 use Rattle.std.specs.Str.{IsUtf8}
-use Rattle.droid_frame_values.specs.TextLists.{texts_bytes}
+use Rattle.droid_frame_bodies.specs.TextLists.{texts_bytes}
 use Rattle.droid_frame.proofs.text_writer.append_texts.Given as goal
 
 abbrev pub invariant-loop-text : goal.invariant-loop-text

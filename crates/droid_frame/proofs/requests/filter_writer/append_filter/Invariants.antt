@@ -1,7 +1,7 @@
 -- The first criteria were added, and each has a spelling.
 use Rattle.std.proofs.Common.{◌≡◌, ◌++◌, take}
 use Rattle.std.specs.List.{AllByRecursion, flat_map}
-use Rattle.droid_frame_values.specs.Filters.{IsCriterion, criterion_bytes}
+use Rattle.droid_frame_bodies.specs.Filters.{IsCriterion, criterion_bytes}
 use Rattle.droid_frame.proofs.requests.filter_writer.append_filter.Given as goal
 
 abbrev pub invariant-loop-criterion : goal.invariant-loop-criterion

@@ -6,7 +6,7 @@ use Rattle.droid_frame_stream.specs.declared.fault.WriteFault.{WriteFault}
 use Rattle.droid_frame_stream.specs.Writes.{StopsWithin, Takes}
 use Rattle.droid_frame_stream.proofs.Scopes.{counts_begin}
 use Rattle.droid_frame_stream.proofs.Stopping.{reported_stop}
-use Rattle.droid_frame_values.specs.Frames.{frame_bytes}
+use Rattle.droid_frame_bodies.specs.Frames.{frame_bytes}
 use Rattle.droid_frame.specs.StreamWrites.{Stops}
 use Rattle.droid_frame.proofs.StreamEnds.{first_room, reported_last, within_part}
 use Rattle.droid_frame.proofs.StreamWrites.{Sent, sent_nothing, sent_more, stops_after, passed_on, on_ok, if_err}

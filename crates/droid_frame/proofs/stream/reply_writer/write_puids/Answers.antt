@@ -3,7 +3,7 @@ use Rattle.std.proofs.lemmas.Grind.{common_steps}
 use Rattle.droid_frame_stream.specs.declared.fault.WriteFault.{WriteFault}
 use Rattle.droid_frame_stream.specs.Writes.{StopsWithin, Takes}
 use Rattle.droid_frame_stream.proofs.Stopping.{takes_more}
-use Rattle.droid_frame_values.specs.TextLists.{sized_bytes, texts_bytes}
+use Rattle.droid_frame_bodies.specs.TextLists.{sized_bytes, texts_bytes}
 use Rattle.droid_frame.proofs.ReplyWrites.{puid_room, puids_split, stops_on}
 use Rattle.droid_frame.proofs.StreamEnds.{stop_passed}
 use Rattle.droid_frame.proofs.StreamWrites.{passed_on}

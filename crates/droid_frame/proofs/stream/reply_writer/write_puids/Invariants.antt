@@ -3,7 +3,7 @@ use Rattle.std.proofs.Common.{◌≡◌, ◌+◌, ℕ, length, take}
 use Rattle.std.specs.Io.KnownBytes.{Appends}
 use Rattle.droid_frame_stream.specs.Seen.{Counts}
 use Rattle.droid_frame_stream.specs.Writes.{Takes}
-use Rattle.droid_frame_values.specs.TextLists.{texts_bytes}
+use Rattle.droid_frame_bodies.specs.TextLists.{texts_bytes}
 use Rattle.droid_frame.proofs.stream.reply_writer.write_puids.Given as goal
 
 abbrev pub invariant-loop-puid : goal.invariant-loop-puid
