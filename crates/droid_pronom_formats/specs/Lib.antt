@@ -6,3 +6,4 @@ pub mod Found
 pub mod Finding
 -- For proofs: what the steps of identification promise each other.
 pub mod FoundWindows
+pub mod Heads

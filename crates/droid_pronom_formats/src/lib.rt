@@ -7,6 +7,7 @@
 
 mod fields;
 mod format;
+mod head;
 mod identification;
 pub mod laws;
 mod letter_case;

@@ -1,7 +1,10 @@
 //! The rows of a registry's tables. A row names a format by its place in the registry, counted from 0.
 
-ghost use Rattle.std.specs.Prelude.{◌≡◌, ◌++◌, ◌∷◌, [], IfOk, OnOk, OnErr};
+ghost use Rattle.std.specs.Prelude.{◌≡◌, ◌++◌, ◌∷◌, [], ℕ, List, IsTrue, IfOk, OnOk, OnErr};
+ghost use Rattle.std.specs.List.{AllByRecursion};
+ghost use Rattle.droid_pronom_formats.specs.FoundWindows.{HitsWindows};
 
+use crate::head::Head;
 use droid_frame::Text;
 use droid_pronom_pattern::Pattern;
 use std::alloc::{AllocError, Global};
@@ -49,6 +52,8 @@ pub struct ByteSequence {
 #[derive(Debug, Drop)]
 pub struct Signature {
     place: u32,
+    // The byte without which the first byte sequence does not hit, if there is one.
+    head: Option<Head>,
     sequences: Vec<ByteSequence>,
 }
 
@@ -58,6 +63,10 @@ impl Model for Signature {
     ghost Value = { Signed };
 
     ghost view = { λ signature. record { place = signature.place; sequences = signature.sequences.items } };
+
+    ghost use Rattle.droid_pronom_formats.specs.Heads.{KeepsHead};
+
+    ghost invariant = { λ signature. KeepsHead signature.head signature.sequences.items };
 }
 
 impl Signature {
@@ -65,9 +74,14 @@ impl Signature {
     pub fn new(alloc: Global, place: u32, first: ByteSequence) -> Result<Signature, AllocError>
         ensures { IfOk result (λ signature. signature ≡ record { place = place; sequences = first ∷ [] }) }
     {
+        let head = Head::of(&first);
         let mut sequences = Vec::new(alloc);
         sequences.push(first)?;
-        Ok(Signature { place, sequences })
+        Ok(Signature {
+            place,
+            head,
+            sequences,
+        })
     }
 
     /// Adds a byte sequence. Fails only if memory runs out, and then leaves the signature as it was.
@@ -84,6 +98,16 @@ impl Signature {
         ensures { result ≡ self.now.place }
     {
         self.place
+    }
+
+    /// Returns whether a byte in the file's first bytes shows that not all byte sequences hit.
+    pub(crate) fn is_ruled_out(&self, first: &[u8]) -> bool
+        ensures { IsTrue result → (last : List ℕ) → AllByRecursion (HitsWindows first.now last) self.now.sequences → ⊥ }
+    {
+        match self.head {
+            Some(head) => !head.is_in(first),
+            None => false,
+        }
     }
 
     /// Returns the byte sequences, all of which have to hit.

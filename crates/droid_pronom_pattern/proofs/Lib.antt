@@ -8,4 +8,5 @@ pub mod PathLemmas
 pub mod RunLemmas
 pub mod StarLemmas
 pub mod StepLemmas
+pub mod TailLemmas
 pub mod TextLemmas

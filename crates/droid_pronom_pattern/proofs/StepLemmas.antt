@@ -118,6 +118,17 @@ leads_either xs ys bytes p q =
           (λ (b : Leads (Choice ys) bytes p q). record { ordered = b.ordered; inside = b.inside; matched = Contains-append_right xs ys part b.matched }) h,
     )
 
+-- an alternative that doesn't stand at a position leads nowhere from there
+pub choice_less : (run : List ℕ) (more : List (List ℕ)) (bytes : List ℕ) (p q : ℕ) → (OccursAt bytes run p → ⊥)
+    → Leads (Choice (run ∷ more)) bytes p q → Leads (Choice more) bytes p q
+choice_less run more bytes p q fails h =
+    ⊎_elim (λ (a : Leads (Choice (run ∷ [])) bytes p q). absurd (fails (leads_literal run bytes p q a).1)) (λ (b : Leads (Choice more) bytes p q). b)
+    ((leads_either (run ∷ []) more bytes p q).0 h)
+
+-- and no alternative leads nowhere
+pub leads_nowhere : (bytes : List ℕ) (p q : ℕ) → Leads (Choice []) bytes p q → ⊥
+leads_nowhere bytes p q step = let below = step.matched.1 in omega arith
+
 choice_either : (way : Direction) (xs ys : List (List ℕ)) (bytes : List ℕ) (p q : ℕ)
     → Steps way (Choice (xs ++ ys)) bytes p q ↔ (Steps way (Choice xs) bytes p q ⊎ Steps way (Choice ys) bytes p q)
 choice_either direction.End xs ys bytes p q = leads_either xs ys bytes p q

@@ -1,9 +1,11 @@
 //! The cells of a compact pattern, three bytes each.
 
-ghost use Rattle.std.specs.Prelude.{◌≡◌, ◌↔◌, ◌+◌, ◌++◌, ℕ, List, IfSome, IsTrue, OnOk};
+ghost use Rattle.std.specs.Prelude.{◌≡◌, ◌↔◌, ◌+◌, ◌++◌, ◌<◌, ◌≤◌, ℕ, List, IfSome, IsTrue, OnOk, length, ◌∷◌};
+ghost use Rattle.droid_pronom_pattern.specs.Patterns.{Element, first_byte};
 ghost use Rattle.droid_pronom_pattern.specs.Cells.{element_at, elements_at};
 ghost use Rattle.droid_pronom_pattern.specs.Positions.{Leads, Reaches, IsAt, IsInside, AreSetsOf};
 
+use crate::alternatives::none_stands;
 use crate::class::Class;
 use crate::class_set::{ClassSet, one};
 use crate::direction::Direction;
@@ -38,6 +40,8 @@ const _: () = prove!(size_of::<Cell>() == 3);
 
 impl Cell {
     /// Returns whether the cell matches the byte at this place, or `None` if the cell may match other than one byte.
+    ///
+    /// A choice of which no alternative stands at this place is `Some(false)`.
     pub(crate) fn passes(&self, pool: &[u8], bytes: &[u8], place: usize) -> Option<bool>
         ensures { IfSome result (λ passes. (q : ℕ) → Leads (element_at pool.now self.now) bytes.now place q ↔ (IsTrue passes × (q ≡ place + 1))) }
     {
@@ -49,8 +53,48 @@ impl Cell {
             }
             Cell::Except(barred) => Some(Class::Except(*barred).is_at(bytes, place)),
             Cell::AnyByte => Some(place < bytes.len()),
+            Cell::Choice { at } => {
+                let packed = rest_from(pool, at.get());
+                let fails = none_stands(packed, bytes, place);
+                if fails { Some(false) } else { None }
+            }
+            Cell::OpenGap { .. } | Cell::Stars { .. } | Cell::Gap { .. } => None,
+        }
+    }
+
+    /// Returns whether the cell matches the byte just before this position, or `None` if the cell may match other than
+    /// one byte.
+    pub(crate) fn passes_before(&self, bytes: &[u8], end: usize) -> Option<bool>
+        requires { end ≤ length bytes.now }
+        ensures some { IfSome result (λ passes. IsTrue passes → 0 < end) }
+        ensures leads { IfSome result (λ passes. (pool : List ℕ) (p : ℕ) → Leads (element_at pool self.now) bytes.now p end ↔ (IsTrue passes × (p + 1 ≡ end))) }
+    {
+        match self {
+            Cell::Byte(wanted) => Some(Class::Byte(*wanted).is_before(bytes, end)),
+            Cell::Range { low, high } => {
+                let (low, high) = (*low, *high);
+                Some(Class::Range { low, high }.is_before(bytes, end))
+            }
+            Cell::Except(barred) => Some(Class::Except(*barred).is_before(bytes, end)),
+            Cell::AnyByte => Some(end > 0),
             Cell::OpenGap { .. } | Cell::Stars { .. } | Cell::Gap { .. } | Cell::Choice { .. } =>
                 None,
+        }
+    }
+
+    /// Returns the one byte that the cell matches, if it is that.
+    pub(crate) fn byte(&self) -> Option<u8>
+        ensures { (pool : List ℕ) (es : List Element) → result ≡ first_byte (element_at pool self.now ∷ es) }
+    {
+        match self {
+            Cell::Byte(wanted) => Some(*wanted),
+            Cell::Range { .. }
+            | Cell::Except(_)
+            | Cell::AnyByte
+            | Cell::OpenGap { .. }
+            | Cell::Stars { .. }
+            | Cell::Gap { .. }
+            | Cell::Choice { .. } => None,
         }
     }
 

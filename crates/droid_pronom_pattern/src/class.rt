@@ -1,6 +1,6 @@
 //! Classes of bytes.
 
-ghost use Rattle.std.specs.Prelude.{◌≡◌, ◌↔◌, ◌<◌, IsTrue, true, length, slice_index};
+ghost use Rattle.std.specs.Prelude.{◌≡◌, ◌↔◌, ◌-◌, ◌<◌, ◌≤◌, IsTrue, true, length, slice_index};
 ghost use Rattle.droid_pronom_pattern.specs.Tokens.{accepts};
 
 /// A class of bytes that one element of a pattern accepts.
@@ -32,6 +32,18 @@ impl Class {
     {
         if place < bytes.len() {
             self.accepts(bytes[place])
+        } else {
+            false
+        }
+    }
+
+    /// Returns whether there is a byte just before this position and it is in the class.
+    pub(crate) fn is_before(self, bytes: &[u8], end: usize) -> bool
+        requires { end ≤ length bytes.now }
+        ensures { IsTrue result ↔ ((0 < end) × (accepts self (slice_index bytes.now (end - 1)) ≡ true)) }
+    {
+        if end > 0 {
+            self.accepts(bytes[end - 1])
         } else {
             false
         }

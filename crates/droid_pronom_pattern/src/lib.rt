@@ -1,6 +1,7 @@
 //! The patterns of PRONOM's byte sequences: reads their text and finds the bytes that they match.
 #![tactic(auto)]
 
+mod alternatives;
 mod cell;
 mod class;
 mod class_cache;

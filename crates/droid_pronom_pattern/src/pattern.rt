@@ -1,13 +1,13 @@
 //! The pattern of a byte sequence.
 
 ghost use Rattle.std.specs.Prelude.{◌≡◌, ◌↔◌, ◌≤◌, List, length, IsTrue, IfOk, IfSome, OnErr, IsErrOf};
-ghost use Rattle.droid_pronom_pattern.specs.Patterns.{Element, MatchesFrom, MatchesTo, BeginsWithin, EndsWithin};
+ghost use Rattle.droid_pronom_pattern.specs.Patterns.{Element, MatchesFrom, MatchesTo, BeginsWithin, EndsWithin, first_byte};
 ghost use Rattle.droid_pronom_pattern.specs.PatternText.{Spells};
 ghost use Rattle.droid_pronom_pattern.specs.ClassCaches.{AreOf};
 
 use crate::class_cache::ClassCache;
 use crate::compact_form::{Packed, pack};
-use crate::direct_match::settled_at;
+use crate::direct_match::{settled_at, settled_before};
 use crate::direction::Direction;
 use crate::parser::tokens_of;
 use crate::pattern_fault::PatternFault;
@@ -68,6 +68,16 @@ impl Pattern {
         }
         let packed = pack(alloc, &tokens)?;
         Ok(Pattern { packed })
+    }
+
+    /// Returns the byte that each match begins with, if the pattern's first element is one byte.
+    pub fn first_byte(&self) -> Option<u8>
+        ensures { result ≡ first_byte self.now }
+    {
+        match self.packed.cells.first() {
+            Some(cell) => cell.byte(),
+            None => None,
+        }
     }
 
     /// Returns whether a match begins at this position.
@@ -157,6 +167,38 @@ impl Pattern {
     ///
     /// `classes` caches what is known of these bytes, so that the next pattern is faster.
     pub fn ends_with(
+        &self,
+        alloc: Global,
+        bytes: &[u8],
+        low: usize,
+        high: usize,
+        classes: &mut ClassCache,
+    ) -> Result<bool, AllocError>
+        requires { AreOf bytes.now classes.old }
+        ensures classes { AreOf bytes.now classes.new }
+        ensures found { IfOk result (λ found. IsTrue found ↔ EndsWithin self.now bytes.now low high) }
+    {
+        if high == low {
+            if let Some(found) = self.settled_to(bytes, low) {
+                return Ok(found);
+            }
+        }
+        self.ends_by_sets(alloc, bytes, low, high, classes)
+    }
+
+    /// Returns whether a match ends at this offset from the end if the bytes there decide it, and `None` if sets are
+    /// needed.
+    fn settled_to(&self, bytes: &[u8], offset: usize) -> Option<bool>
+        ensures { IfSome result (λ found. IsTrue found ↔ EndsWithin self.now bytes.now offset offset) }
+    {
+        if bytes.len() < offset {
+            return Some(false);
+        }
+        settled_before(&self.packed.cells, bytes, bytes.len() - offset)
+    }
+
+    /// Does the work of `ends_with` by sets of places.
+    fn ends_by_sets(
         &self,
         alloc: Global,
         bytes: &[u8],

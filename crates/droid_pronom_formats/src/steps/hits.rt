@@ -76,6 +76,9 @@ pub fn hit_formats(
         if hit[place] {
             continue;
         }
+        if signature.is_ruled_out(first) {
+            continue;
+        }
         if all_hit(
             alloc,
             signature.sequences(),

@@ -36,7 +36,7 @@ fn is_named(row: &ListedExtension, wanted: &str, signed: &[bool], match_all: boo
     requires { row.now.place < length signed.now }
     ensures { IsTrue result ↔ ((wanted.now ≢ []) × (row.now.extension ≡ wanted.now) × ((match_all ≡ true) ⊎ (Stands signed.now row.now.place → ⊥))) }
 {
-    is_listed(row, wanted) && (match_all || !signed[row.place as usize])
+    (match_all || !signed[row.place as usize]) && is_listed(row, wanted)
 }
 
 /// Returns whether the row lists this extension, which is not empty.

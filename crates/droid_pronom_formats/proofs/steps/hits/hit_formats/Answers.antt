@@ -13,6 +13,12 @@ loop-signature-preserved-then-index c =
     let next = hit_before (HitsWindows c.args.first.now c.args.last.now) c.args.count c.loop-signature.hit.items c.signature-item.result _ _ _ (all.2, all.3, all.4) (rw c.place-place.ensures at (sym c.index.ensures ∙ c.if-index.true)) in
     (all.0, all.1, next.0, next.1, next.2)
 
+pub loop-signature-preserved-then-is_ruled_out : goal.loop-signature-preserved-then-is_ruled_out
+loop-signature-preserved-then-is_ruled_out c =
+    let all = rw (rest_of_item c.args.signatures.now c.loop-signature.signature-index c.signature-item.result c.loop-signature-test.true c.signature-item.is) at c.loop-signature.invariant in
+    let next = hit_not (HitsWindows c.args.first.now c.args.last.now) c.args.count c.loop-signature.hit.items c.signature-item.result _ _ (all.2, all.3, all.4) (c.is_ruled_out.ensures c.if-is_ruled_out.true c.args.last.now) in
+    (all.0, all.1, next.0, next.1, next.2)
+
 pub loop-signature-preserved : goal.loop-signature-preserved
 loop-signature-preserved c =
     let all = rw (rest_of_item c.args.signatures.now c.loop-signature.signature-index c.signature-item.result c.loop-signature-test.true c.signature-item.is) at c.loop-signature.invariant in

@@ -8,7 +8,7 @@ use Rattle.droid_pronom_pattern.specs.Positions.{IsAt}
 use Rattle.droid_pronom_pattern.specs.declared.direction.Direction.TheVariants as direction
 use Rattle.droid_pronom_pattern.proofs.PathLemmas.{ends_first, ends_last, rest_and_last, no_items, at_none, at_some}
 use Rattle.droid_pronom_pattern.proofs.StarLemmas.{ends_cell}
-use Rattle.droid_pronom_pattern.proofs.pattern.Pattern.ends_with.Goals as goal
+use Rattle.droid_pronom_pattern.proofs.pattern.Pattern.ends_by_sets.Goals as goal
 
 pub loop-rest-init : goal.loop-rest-init
 loop-rest-init c =

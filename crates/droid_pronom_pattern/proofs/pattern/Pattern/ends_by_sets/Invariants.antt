@@ -6,7 +6,7 @@ use Rattle.droid_pronom_pattern.specs.Cells.{elements_at}
 use Rattle.droid_pronom_pattern.specs.Positions.{IsAt, IsInside, Path}
 use Rattle.droid_pronom_pattern.specs.ClassCaches.{AreOf}
 use Rattle.droid_pronom_pattern.specs.declared.direction.Direction.TheVariants as direction
-use Rattle.droid_pronom_pattern.proofs.pattern.Pattern.ends_with.Given as goal
+use Rattle.droid_pronom_pattern.proofs.pattern.Pattern.ends_by_sets.Given as goal
 
 abbrev pub invariant-loop-rest : goal.invariant-loop-rest
 invariant-loop-rest l = record {

@@ -1,0 +1,41 @@
+//! Compares the alternatives of a choice with the bytes at one place.
+
+ghost use Rattle.std.specs.Prelude.{◌≡◌, ℕ, IsTrue, false};
+ghost use Rattle.memchr.specs.Find.{OccursAt};
+ghost use Rattle.droid_pronom_pattern.specs.Patterns.{Choice};
+ghost use Rattle.droid_pronom_pattern.specs.Cells.{alternatives_in};
+ghost use Rattle.droid_pronom_pattern.specs.Positions.{Leads};
+
+use crate::pool::{cut_run, rest_from};
+use crate::short::front_number;
+
+/// Returns whether none of the alternatives stands at this place. The alternatives stand at the front of `packed`.
+pub(crate) fn none_stands(packed: &[u8], bytes: &[u8], place: usize) -> bool
+    ensures { IsTrue result → (q : ℕ) → Leads (Choice (alternatives_in packed.now)) bytes.now place q → ⊥ }
+{
+    let mut rest = rest_from(packed, 2);
+    for _ in 0..front_number(packed) {
+        let (run, after) = cut_run(rest);
+        if stands_at(run, bytes, place) {
+            return false;
+        }
+        rest = after;
+    }
+    true
+}
+
+/// Returns whether the run of bytes stands at this place.
+fn stands_at(run: &[u8], bytes: &[u8], place: usize) -> bool
+    ensures { result ≡ false → OccursAt bytes.now run.now place → ⊥ }
+{
+    let rest = rest_from(bytes, place);
+    if rest.len() < run.len() {
+        return false;
+    }
+    for i in 0..run.len() {
+        if rest[i] != run[i] {
+            return false;
+        }
+    }
+    true
+}
