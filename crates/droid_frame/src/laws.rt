@@ -3,7 +3,9 @@
 ghost use Rattle.droid_frame.specs.ReplyFrames.{ReplyFramesAreReadable};
 ghost use Rattle.droid_frame.specs.StreamLaws.{OneFrameAtTheFront, EachStreamHasFrames, NoStreamHasOthers};
 
-pub use droid_frame_bodies::laws::{constants_are_the_limits, spells_one_reply, spells_one_request};
+pub use droid_frame_bodies::laws::{
+    constants_are_the_limits, spells_one_reply, spells_one_request,
+};
 
 /// No frame's spelling is a prefix of another frame's. If the same input begins with the spellings of two frames, the
 /// frames are equal, and so are the bytes after them. The law holds for bodies within the

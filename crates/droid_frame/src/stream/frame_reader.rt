@@ -9,8 +9,8 @@ ghost use Rattle.droid_frame.specs.StreamReads.{Arrives, BodyCame, Brings, Heade
 use super::arrival::Arrival;
 use super::fault::FrameFault;
 use super::header::{HEADER_LENGTH, Header};
-use droid_frame_stream::{Retries, SteadyRead, fill};
 use droid_frame_bodies::{Blob, Frame, body_limit, is_version};
+use droid_frame_stream::{Retries, SteadyRead, fill};
 use std::alloc::Global;
 
 /// Reads the next frame, or the end of the stream. It reads the whole header before it checks it, and then allocates

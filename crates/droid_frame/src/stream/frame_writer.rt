@@ -9,8 +9,8 @@ ghost use Rattle.droid_frame_stream.specs.Writes.{Takes, ReportsWrite};
 ghost use Rattle.droid_frame.specs.StreamWrites.{Stops};
 
 use super::header::Header;
-use droid_frame_stream::{SteadyWrite, WriteFault, WriteState, write_all};
 use droid_frame_bodies::Frame;
+use droid_frame_stream::{SteadyWrite, WriteFault, WriteState, write_all};
 
 /// Writes a frame. It allocates nothing, and retries interrupted writes, up to 64 in one frame.
 ///

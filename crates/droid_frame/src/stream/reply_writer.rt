@@ -15,8 +15,8 @@ ghost use Rattle.droid_frame_bodies.specs.Versions.{IsVersion};
 use super::header::Header;
 use crate::replies::fronts::{front_of, sized_puid};
 use crate::replies::reply_body_len;
-use droid_frame_stream::{SteadyWrite, WriteFault, WriteState, write_all};
 use droid_frame_bodies::{Reply, Texts};
+use droid_frame_stream::{SteadyWrite, WriteFault, WriteState, write_all};
 
 /// Writes the frame of a reply. The version, client and number are those of the request. It allocates nothing, and
 /// retries interrupted writes, up to 64 in one frame.
