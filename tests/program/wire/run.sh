@@ -9,4 +9,4 @@ export PRELOAD_STREAMS="$work/streams.so" PRELOAD_REFUSE="$work/refuse.so" PYTHO
 build_library ../streams.c "$PRELOAD_STREAMS"
 build_library ../../memory/refuse.c "$PRELOAD_REFUSE"
 run_modules run_command both_versions cases_as_frames export_parts serve_command send_faults send_streams send_memory \
-    serve_memory send_sizes two_senders idle_streams steady_memory hostile_rows hostile_streams hostile_registries
+    serve_memory serve_at_once send_sizes two_senders idle_streams steady_memory hostile_rows hostile_streams hostile_registries
