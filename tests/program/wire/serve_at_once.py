@@ -1,19 +1,23 @@
 """`serve --at-once`: many connections at once, in turns, with one service."""
 
 import random
+import select
 import socket
 import struct
 import subprocess
+import threading
 import time
 import unittest
 
-from lib.connections import SECONDS, connect, read_exactly, read_frame, read_until_reset
-from lib.frames import ADD_FOLDER, CREATE_PROFILE, MADE, NODE, REFUSED, STATUS, folder_body, frame, profile_body
+from lib.connections import HOST, SECONDS, connect, read_exactly, read_frame, read_until_reset, reset
+from lib.frames import ADD_FOLDER, CAUSES, CREATE_PROFILE, MADE, NODE, REFUSED, STATUS
+from lib.frames import folder_body, frame, profile_body, refusal, status
 from lib.program import PROGRAM, Serve
 from run_command import REQUESTS, SESSION, session_in
 
-# a Status of a node that nobody has added: NoSuchProfile
-NOTHING = frame(STATUS, 9, 1, struct.pack(">II", 1, 1))
+# a Status of a profile that nobody has made, and its reply: NoSuchProfile
+NOTHING = status(1, 1, client=9)
+NO_PROFILE = refusal(1, CAUSES["NoSuchProfile"], client=9)
 
 
 def at_once(seats, *options, connections=None):
@@ -31,6 +35,15 @@ def is_closed(stream, seconds=SECONDS):
         return stream.recv(1) == b""
     except (TimeoutError, ConnectionResetError) as error:
         return isinstance(error, ConnectionResetError)
+
+
+def slow_reader(port):
+    """Connects with little room for what comes."""
+    stream = socket.socket()
+    stream.setsockopt(socket.SOL_SOCKET, socket.SO_RCVBUF, 4_096)
+    stream.settimeout(SECONDS)
+    stream.connect((HOST, port))
+    return stream
 
 
 class ServeAtOnce(unittest.TestCase):
@@ -88,6 +101,57 @@ class ServeAtOnce(unittest.TestCase):
                     idle.recv(1)
                 self.assertTrue(is_closed(idle, 2))
                 self.assertLess(time.monotonic() - begun, 2)
+
+    def test_idle_ones_of_each_kind(self):
+        """One that is silent, one within a header, one within a body, and one that was answered: each is closed after a
+        second, and not before."""
+        with lasting(4, "--idle", "1") as service:
+            streams = [connect(service.port) for _ in range(4)]
+            begun = time.monotonic()
+            for stream, sent in zip(streams, (b"", NOTHING[:7], NOTHING[:-1], NOTHING)):
+                stream.sendall(sent)
+            self.assertEqual(read_frame(streams[3])[0], REFUSED)
+            self.assertEqual(select.select(streams, [], [], 0.8)[0], [])
+            for stream in streams:
+                self.assertTrue(is_closed(stream, 2))
+                stream.close()
+            self.assertLess(time.monotonic() - begun, 2)
+
+    def test_a_byte_a_second(self):
+        """A desk that sends a byte a second is not idle; one that takes a byte a second gets all replies; and neither
+        holds up another one."""
+        asked = 200_000
+        with lasting(4, "--idle", "2") as impatient, lasting(4) as service:
+            with connect(impatient.port) as writes, slow_reader(service.port) as reads, connect(service.port) as asks:
+                sender = threading.Thread(target=reads.sendall, args=(NOTHING * asked,), daemon=True)
+                sender.start()
+                for place in range(4):
+                    writes.sendall(NOTHING[place : place + 1])
+                    self.assertEqual(len(reads.recv(1)), 1)
+                    begun = time.monotonic()
+                    for _ in range(100):
+                        asks.sendall(NOTHING)
+                        self.assertEqual(read_frame(asks)[0], REFUSED)
+                    self.assertLess(time.monotonic() - begun, 1)
+                    time.sleep(1)
+                writes.sendall(NOTHING[4:])
+                reply = read_exactly(writes, len(NO_PROFILE))
+                self.assertEqual(reply, NO_PROFILE)
+                replies = read_exactly(reads, asked * len(reply) - 4)
+                self.assertTrue(replies == (reply * asked)[4:], len(replies))
+                sender.join(SECONDS)
+
+    def test_a_port_scan(self):
+        """Connections that are reset, that say nothing, or that speak another language. A desk beside them is served."""
+        talks = (b"", b"\0", b"GET / HTTP/1.1\r\n\r\n", b"\x16\x03\x01\x02\0\x01\0\x01\xfc\x03\x03", b"SSH-2.0-scan\r\n", b"\xff" * 5_000)
+        with lasting(3) as service, connect(service.port) as desk:
+            for talk in talks * 20:
+                for end in (reset, socket.socket.close):
+                    stream = connect(service.port)
+                    stream.sendall(talk)
+                    end(stream)
+                    desk.sendall(NOTHING)
+                    self.assertEqual(read_frame(desk)[0], REFUSED)
 
     def test_replies_that_nobody_reads(self):
         """A desk that reads no reply is not read any more; the other one is."""
