@@ -1,6 +1,6 @@
 //! `serve` for many connections at once.
 
-ghost use Rattle.std.specs.Prelude.{◌≡◌};
+ghost use Rattle.std.specs.Prelude.{◌≡◌, true, false};
 ghost use Rattle.droid_desk_service.specs.Fresh.{IsMade};
 ghost use Rattle.droid_desk_service.specs.Many.{EndsServing, ManyEndsAs, many_ending_of, rules_named};
 ghost use Rattle.droid_wire.specs.Standing.{limits_of, registry_of};
