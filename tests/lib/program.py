@@ -14,6 +14,8 @@ SAMPLE = os.path.join(TOP, "tests", "program", "sample_registry.csv")
 EVERYDAY = os.path.join(TOP, "registries", "common.csv")
 # the service takes at most this many connections
 MOST_CONNECTIONS = 1_000
+# the tests of `serve` are run once more with these options: `--at-once 8`
+MORE_OPTIONS = os.environ.get("SERVE_OPTIONS", "").split()
 # on this many free ports a service is tried
 TRIES = 5
 # this many requests are sent before their replies are read
@@ -68,7 +70,7 @@ class Serve:
         self.port = port
         self.env = env
         self.killed = killed
-        self.options = list(options)
+        self.options = [*options, *MORE_OPTIONS]
         if connections is not None:
             self.options += ["--connections", str(connections)]
 

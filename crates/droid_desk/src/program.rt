@@ -7,6 +7,7 @@ use droid_desk_folders::submit_folder;
 use droid_desk_profile::profile_folder;
 use droid_desk_service::{
     Ended, registry_for, run_command, script_command, send_command, serve_command,
+    serve_many_command,
 };
 use std::process::ExitCode;
 use std::{env, io};
@@ -39,6 +40,11 @@ fn fulfil(rt: &HostRuntime, asked: Asked<'_>, on_terminal: bool) -> ExitCode {
             port,
             connections,
         } => end(rt, &serve_command(rt, registry, port, connections)),
+        Asked::ServeMany {
+            registry,
+            port,
+            options,
+        } => end(rt, &serve_many_command(rt, registry, port, options)),
         Asked::Send {
             port,
             client,

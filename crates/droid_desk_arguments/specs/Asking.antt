@@ -6,7 +6,8 @@ use Rattle.droid_frame.specs.types.hash_kind.HashKind.{HashKind}
 use Rattle.droid_frame.specs.types.hash_kind.HashKind.TheVariants as hashes
 use Rattle.droid_desk_arguments.specs.Commands.{program}
 use Rattle.droid_desk_arguments.specs.declared.arguments.Asked.{Asked}
-use Rattle.droid_desk_arguments.specs.declared.arguments.Asked.TheVariants.{Profile, Submit, Script, Run, Serve, Send}
+use Rattle.droid_desk_arguments.specs.declared.arguments.Asked.TheVariants.{Profile, Submit, Script, Run, Serve, ServeMany, Send}
+use Rattle.droid_desk_arguments.specs.declared.many.ManyOptions.{ManyOptions}
 use Rattle.droid_desk_arguments.specs.declared.profile.ProfileOptions.{ProfileOptions}
 use Rattle.droid_desk_arguments.specs.declared.source.RegistrySource.{RegistrySource}
 use Rattle.droid_desk_arguments.specs.declared.source.RegistrySource.TheVariants as sources
@@ -90,6 +91,25 @@ pub record IsSubmit (rows : List Row) (options : SubmitOptions) : Type 0 where
   pub skipped : option_map (λ path. path.now) options.skipped ≡ first_of (codes "skipped") rows
   pub quiet : IsFlag (one_of (codes "quiet") rows) options.quiet
 
+-- how many connections are served: there is no end, or this many
+abbrev pub IsCount : List Row → Option ℕ → Type 0
+IsCount rows None = IsFlag (one_of (codes "forever") rows) true × (first_of (codes "connections") rows ≡ None)
+IsCount rows (Some count) = IsFlag (one_of (codes "forever") rows) false × IsNumberOr 32 1 (one_of (codes "connections") rows) count
+
+-- the options of `serve` for many connections at once
+pub record IsMany (rows : List Row) (options : ManyOptions) : Type 0 where
+  pub seats : option_map number_of (one_of (codes "at-once") rows) ≡ Some options.seats
+  pub connections : IsCount rows options.connections
+  pub idle : IsNumberOr 32 60 (one_of (codes "idle") rows) options.idle
+  pub verbose : IsFlag (one_of (codes "verbose") rows) options.verbose
+
+-- none of them is given
+pub record IsOneByOne (rows : List Row) : Type 0 where
+  pub seats : first_of (codes "at-once") rows ≡ None
+  pub forever : IsFlag (one_of (codes "forever") rows) false
+  pub idle : first_of (codes "idle") rows ≡ None
+  pub verbose : IsFlag (one_of (codes "verbose") rows) false
+
 -- what the options of the command with this name ask for
 abbrev pub IsAskedBy : Text → List Row → Asked → Type 0
 IsAskedBy name rows (Profile options) = (name ≡ codes "profile") × IsProfile rows options
@@ -99,7 +119,10 @@ IsAskedBy name rows (Run registry) = (name ≡ codes "run") × IsSource rows reg
 IsAskedBy name rows (Serve registry port connections) =
     (name ≡ codes "serve") × IsSource rows registry
     × (option_map number_of (one_of (codes "port") rows) ≡ Some port)
-    × IsNumberOr 32 1 (one_of (codes "connections") rows) connections
+    × IsNumberOr 32 1 (one_of (codes "connections") rows) connections × IsOneByOne rows
+IsAskedBy name rows (ServeMany registry port options) =
+    (name ≡ codes "serve") × IsSource rows registry
+    × (option_map number_of (one_of (codes "port") rows) ≡ Some port) × IsMany rows options
 IsAskedBy name rows (Send port client first) =
     (name ≡ codes "send") × (option_map number_of (one_of (codes "port") rows) ≡ Some port)
     × (option_map number_of (one_of (codes "client") rows) ≡ Some client)

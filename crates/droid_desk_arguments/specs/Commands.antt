@@ -25,6 +25,12 @@ port_option = needed (number_named (codes "port") 1 65535)
 abbrev pub connections_option : Rule
 connections_option = number_named (codes "connections") 1 1000
 
+abbrev pub at_once_option : Rule
+at_once_option = number_named (codes "at-once") 1 64
+
+abbrev pub idle_option : Rule
+idle_option = number_named (codes "idle") 1 3600
+
 abbrev pub client_option : Rule
 client_option = needed (number_named (codes "client") 0 4294967295)
 
@@ -112,8 +118,11 @@ run_command = with_rule (with_rule (new_app (codes "run")) everyday_flag) regist
 abbrev pub serve_numbers : App
 serve_numbers = with_rule (with_rule (new_app (codes "serve")) port_option) connections_option
 
+abbrev pub serve_many : App
+serve_many = with_rule (with_rule (with_rule (with_rule serve_numbers at_once_option) idle_option) (flag_named (codes "forever"))) (flag_named (codes "verbose"))
+
 abbrev pub serve_command : App
-serve_command = with_rule (with_rule serve_numbers everyday_flag) registry_option
+serve_command = with_rule (with_rule serve_many everyday_flag) registry_option
 
 abbrev pub send_command : App
 send_command = with_rule (with_rule (with_rule (new_app (codes "send")) port_option) client_option) first_option

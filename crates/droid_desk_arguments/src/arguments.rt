@@ -7,6 +7,7 @@ ghost use Rattle.droid_desk_arguments.specs.Asking.{IsAsked, IsAskedBy, WordsAsk
 ghost use Rattle.droid_desk_arguments.specs.Commands.{client_option, connections_option, first_option, number_named, port_option, profile_command, program, registry_option, run_command, script_command, send_command, serve_command, serve_numbers, top_command};
 
 use crate::help::{ABOUT, EVERYDAY_HELP, HELP, REGISTRY_HELP, SCRIPT_ABOUT, SCRIPT_HELP};
+use crate::many::{AT_ONCE, ManyOptions, is_one_by_one, many_options, serve_many};
 use crate::no_command::{NoCommand, unused_words};
 use crate::profile::{HASH, PROFILE, ProfileOptions, flag, hash_of, profile, profile_asked};
 use crate::source::{EVERYDAY, RegistrySource, source_of};
@@ -33,14 +34,14 @@ pub(crate) const REGISTRY: &str = "registry";
 
 pub(crate) const PORT: &str = "port";
 
-const CONNECTIONS: &str = "connections";
+pub(crate) const CONNECTIONS: &str = "connections";
 
 pub(crate) const CLIENT: &str = "client";
 
 const FIRST: &str = "first";
 
 /// How many connections `serve` serves by default.
-const DEFAULT_CONNECTIONS: u32 = 1;
+pub(crate) const DEFAULT_CONNECTIONS: u32 = 1;
 
 /// The number of the first request that `send` sends by default.
 const DEFAULT_FIRST: u64 = 1;
@@ -54,6 +55,13 @@ const NO_SUCH_HASH: &str = "the value of '--hash <HASH>' is none of md5, sha256 
 /// The error for a list of checksums where files get no hash.
 const NO_CHECKSUMS: &str =
     "the option '--manifest <FILE>' writes checksums: it cannot be used with '--hash none'";
+
+/// The error for an option of many connections without `--at-once`.
+const ONE_AT_A_TIME: &str =
+    "the options '--idle <SECONDS>', '--forever' and '--verbose' need '--at-once <N>'";
+
+/// The error for a number of connections beside no end.
+const NO_END: &str = "the options '--forever' and '--connections <K>' cannot be used together";
 
 /// The error for two registries.
 const TWO_REGISTRIES: &str =
@@ -79,6 +87,12 @@ pub enum Asked<'a> {
         registry: RegistrySource<'a>,
         port: u16,
         connections: u32,
+    },
+    /// Serve many connections to a port at once.
+    ServeMany {
+        registry: RegistrySource<'a>,
+        port: u16,
+        options: ManyOptions,
     },
     /// Send requests to a port, as this client, under numbers from `first` on.
     Send {
@@ -128,9 +142,22 @@ fn mistake_in(matches: &ArgMatches<'_>) -> &'static str {
             None => NO_SUCH_HASH,
         };
     }
+    if let Some(serve) = matches.subcommand_matches(SERVE) {
+        return mistake_in_serve(serve);
+    }
     match matches.subcommand_name() {
         Some(SUBMIT) => NO_SUCH_HASH,
         _ => TWO_REGISTRIES,
+    }
+}
+
+fn mistake_in_serve(serve: &ArgMatches<'_>) -> &'static str {
+    if source_of(serve).is_none() {
+        return TWO_REGISTRIES;
+    }
+    match serve.get_str(AT_ONCE) {
+        Some(_) => NO_END,
+        None => ONE_AT_A_TIME,
     }
 }
 
@@ -174,6 +201,9 @@ fn run_asked<'a>(run: &ArgMatches<'a>) -> Option<Asked<'a>>
 fn serve_asked<'a>(serve: &ArgMatches<'a>) -> Option<Asked<'a>>
     ensures { IfSome result (λ asked. IsAskedBy (codes "serve") (rows_of (found_of serve.now)) asked) }
 {
+    if !is_one_by_one(serve) {
+        return serve_many_asked(serve);
+    }
     let registry = source_of(serve)?;
     let port = serve.get_one(PORT)?;
     let connections = serve.get_one(CONNECTIONS).unwrap_or(DEFAULT_CONNECTIONS);
@@ -181,6 +211,19 @@ fn serve_asked<'a>(serve: &ArgMatches<'a>) -> Option<Asked<'a>>
         registry,
         port,
         connections,
+    })
+}
+
+fn serve_many_asked<'a>(serve: &ArgMatches<'a>) -> Option<Asked<'a>>
+    ensures { IfSome result (λ asked. IsAskedBy (codes "serve") (rows_of (found_of serve.now)) asked) }
+{
+    let registry = source_of(serve)?;
+    let port = serve.get_one(PORT)?;
+    let options = many_options(serve)?;
+    Some(Asked::ServeMany {
+        registry,
+        port,
+        options,
     })
 }
 
@@ -246,13 +289,13 @@ fn serve<'a>(alloc: Global) -> Result<Command<'a>, AllocError>
     ensures shape { IfOk result (λ c. app_of c ≡ serve_command) }
     ensures local { IfOk result (λ c. (out-Command c).has_globals ≡ false) }
 {
-    serve_numbers(alloc)?
+    serve_many(alloc)?
         .arg(flag(alloc, EVERYDAY, EVERYDAY_HELP))?
         .arg(registry(alloc, REGISTRY_HELP))
 }
 
 /// Makes the command with its first options.
-fn serve_numbers<'a>(alloc: Global) -> Result<Command<'a>, AllocError>
+pub(crate) fn serve_numbers<'a>(alloc: Global) -> Result<Command<'a>, AllocError>
     ensures shape { IfOk result (λ c. app_of c ≡ serve_numbers) }
     ensures local { IfOk result (λ c. (out-Command c).has_globals ≡ false) }
 {

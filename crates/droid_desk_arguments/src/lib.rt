@@ -3,6 +3,7 @@
 
 mod arguments;
 mod help;
+mod many;
 mod no_command;
 mod profile;
 mod profile_help;
@@ -12,6 +13,7 @@ mod submit;
 mod submit_help;
 
 pub use arguments::{Asked, what_is_asked};
+pub use many::ManyOptions;
 pub use no_command::{NoCommand, unread_words};
 pub use profile::ProfileOptions;
 pub use source::RegistrySource;

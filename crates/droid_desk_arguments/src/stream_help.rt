@@ -31,17 +31,32 @@ Example:
   droid_desk run --everyday <requests >replies";
 
 pub const SERVE_ABOUT: &str =
-    "Answer request frames on connections to a port of 127.0.0.1, one connection after the other";
+    "Answer request frames on connections to a port of 127.0.0.1, one after the other or many at once";
 
 pub const SERVE_PORT_HELP: &str = "Listen on this port of 127.0.0.1 (1 to 65535)";
 
 pub const CONNECTIONS_HELP: &str = "Exit after this many connections (1 to 1000, default 1)";
+
+pub const AT_ONCE_HELP: &str = "Serve up to this many connections at once, in turns (1 to 64)";
+
+pub const IDLE_HELP: &str =
+    "With --at-once: close a connection that sends and takes nothing for so long (1 to 3600, default 60)";
+
+pub const FOREVER_HELP: &str = "With --at-once, in the place of --connections: never exit";
+
+pub const VERBOSE_HELP: &str =
+    "With --at-once: print a line to standard error for each connection that ended, and one a minute";
 
 pub const SERVE_HELP: &str = "\
 The service prints `listening P` to standard output once it listens. It answers each connection as
 `droid_desk run` answers its input, up to 1,000,000 frames. The next connection finds all that the
 ones before have sent; when the service ends, all is lost. Failed connections aren't logged and don't
 stop it: a client that lost its connection sends its requests again under the same numbers.
+
+With --at-once no client waits for another's silence. Replies come in order on each connection; the
+requests of all are handled one after another, up to 16 of one before the next one's turn. A further
+client waits until one leaves. A connection is closed when its frames end, at a faulty frame, when it
+fails, or when it was idle for too long.
 
 Exit status:
 

@@ -1,4 +1,5 @@
 pub mod FreshServices
+pub mod ManyEndings
 pub mod ScriptEndings
 pub mod SendEndings
 pub mod StreamEndings

@@ -1,6 +1,6 @@
 -- A fresh service: its registry and limits, and why none is made.
 use Rattle.std.specs.Prelude.{◌≡◌, ℕ, List, [], Option, IfSome, Ok}
-use Rattle.droid_wire.specs.Standing.{StandsFor, limits_of}
+use Rattle.droid_wire.specs.Standing.{StandsFor, limits_of, registry_of}
 use Rattle.droid_wire.specs.core_types.service.Service.{Service}
 use Rattle.droid_desk_service.specs.Endings.{IsFaultOf, IsProgramSetting, program_limits}
 use Rattle.droid_desk_service.specs.declared.ending.Ending.{Ending}
@@ -13,6 +13,11 @@ use Rattle.droid_pronom.specs.RegistryFile.{File}
 pub record IsMadeWith (registry : Contents) (service : Service) : Type 0 where
   pub stands : (setting : Setting) → IsProgramSetting registry setting → StandsFor setting service []
   pub limits : limits_of service ≡ program_limits
+  pub same_registry : registry_of service ≡ registry
+
+-- a service is made with some registry
+abbrev pub IsMade : Service → Type 0
+IsMade service = (registry : Contents) × IsMadeWith registry service
 
 -- the file gives a registry, if its bytes are known, and the service is made with it
 pub record IsMadeOf (file : Option (List ℕ)) (service : Service) : Type 0 where
@@ -35,3 +40,8 @@ IsNoService Done = ⊥
 abbrev pub IsNotMadeOf : Option (List ℕ) → Ending → Type 0
 IsNotMadeOf file (Registry fault) = IsFaultOf file fault
 IsNotMadeOf file ending = IsNoService ending × (registry : Contents) × IfSome file (λ bytes. File bytes (Ok registry))
+
+-- no registry could be read, or no service be made
+abbrev pub IsUnmade : Ending → Type 0
+IsUnmade (Registry fault) = Unit {0}
+IsUnmade ending = IsNoService ending

@@ -1,5 +1,6 @@
 pub mod Endings
 pub mod Fresh
+pub mod Many
 pub mod Sample
 pub mod Sends
 pub mod Streams

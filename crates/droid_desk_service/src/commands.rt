@@ -119,7 +119,7 @@ where
 }
 
 /// Notes on standard error that the sample registry is used.
-fn note_sample<R: Eprint>(rt: &R, source: RegistrySource<'_>) {
+pub(crate) fn note_sample<R: Eprint>(rt: &R, source: RegistrySource<'_>) {
     if let RegistrySource::Sample = source {
         let _ = eprintln!(rt;
             "registry: the sample of four invented formats, for trying: use --everyday or --registry FILE for real ones"

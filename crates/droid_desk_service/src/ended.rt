@@ -1,5 +1,8 @@
 //! How a command ended, with what standard error says of it.
 
+ghost use Rattle.std.specs.Prelude.{◌≡◌, None, Some};
+ghost use Rattle.droid_desk_service.specs.Endings.{status_of};
+
 use crate::advice::{
     frame_advice, is_of_the_service, record_of, registry_advice, script_advice, send_advice,
     service_advice, unread_advice,
@@ -31,7 +34,9 @@ pub enum Used<'a> {
 
 impl<'a> Ended<'a> {
     /// Ends a command that used this registry.
-    pub(crate) fn over(ending: Ending, source: RegistrySource<'a>) -> Ended<'a> {
+    pub(crate) fn over(ending: Ending, source: RegistrySource<'a>) -> Ended<'a>
+        ensures ending { result.ending ≡ ending }
+    {
         Ended {
             ending,
             used: Used::Registry(source),
@@ -40,7 +45,9 @@ impl<'a> Ended<'a> {
     }
 
     /// Ends a command whose registry file could not be opened.
-    pub(crate) fn unopened(source: RegistrySource<'a>, cause: ErrorKind) -> Ended<'a> {
+    pub(crate) fn unopened(source: RegistrySource<'a>, cause: ErrorKind) -> Ended<'a>
+        ensures ending { result.ending ≡ Ending.Registry RegistryFault.Read }
+    {
         Ended {
             ending: Ending::Registry(RegistryFault::Read),
             used: Used::Registry(source),
@@ -49,7 +56,10 @@ impl<'a> Ended<'a> {
     }
 
     /// Ends a command that used this port.
-    pub(crate) fn at(ending: Ending, port: u16) -> Ended<'a> {
+    pub(crate) fn at(ending: Ending, port: u16) -> Ended<'a>
+        ensures ending { result.ending ≡ ending }
+        ensures cause { result.cause ≡ None }
+    {
         Ended {
             ending,
             used: Used::Port(port),
@@ -58,7 +68,10 @@ impl<'a> Ended<'a> {
     }
 
     /// Ends a command that could not use this port.
-    pub(crate) fn unconnected(port: u16, cause: ErrorKind) -> Ended<'a> {
+    pub(crate) fn unconnected(port: u16, cause: ErrorKind) -> Ended<'a>
+        ensures ending { result.ending ≡ Ending.Socket }
+        ensures cause { result.cause ≡ Some cause }
+    {
         Ended {
             ending: Ending::Socket,
             used: Used::Port(port),
@@ -69,7 +82,9 @@ impl<'a> Ended<'a> {
 
 impl Ended<'_> {
     /// Returns the exit status.
-    pub fn status(&self) -> u8 {
+    pub fn status(&self) -> u8
+        ensures { result ≡ status_of self.now.ending }
+    {
         self.ending.status()
     }
 

@@ -1,5 +1,8 @@
 //! The registry that a command uses: the sample, the built-in one, or a file.
 
+ghost use Rattle.std.specs.Prelude.{IfErr, IfOk};
+ghost use Rattle.droid_desk_service.specs.Fresh.{IsMade, IsUnmade};
+
 use crate::ended::Ended;
 use crate::ending::Ending;
 use crate::fresh::service_with;
@@ -16,7 +19,10 @@ use std::io::ErrorKind;
 pub(crate) fn service_for<'a, R: Files + Eprint + AllocGlobal>(
     rt: &R,
     source: RegistrySource<'a>,
-) -> Result<Service, Ended<'a>> {
+) -> Result<Service, Ended<'a>>
+    ensures made { IfOk result IsMade }
+    ensures unmade { IfErr result (λ ended. IsUnmade ended.ending) }
+{
     let registry = registry_for(rt, source)?;
     match service_with(rt.alloc(), registry) {
         Ok(service) => Ok(service),
@@ -28,7 +34,9 @@ pub(crate) fn service_for<'a, R: Files + Eprint + AllocGlobal>(
 pub fn registry_for<'a, R: Files + Eprint + AllocGlobal>(
     rt: &R,
     source: RegistrySource<'a>,
-) -> Result<Registry, Ended<'a>> {
+) -> Result<Registry, Ended<'a>>
+    ensures { IfErr result (λ ended. IsUnmade ended.ending) }
+{
     let read = match source {
         RegistrySource::Sample => Registry::read(rt.alloc(), &mut sample_registry()),
         RegistrySource::Everyday => Registry::read(rt.alloc(), &mut common_registry()),
@@ -43,7 +51,9 @@ pub fn registry_for<'a, R: Files + Eprint + AllocGlobal>(
 fn registry_by_file<'a, R: Files + Eprint + AllocGlobal>(
     rt: &R,
     path: &'a str,
-) -> Result<Registry, Ended<'a>> {
+) -> Result<Registry, Ended<'a>>
+    ensures { IfErr result (λ ended. IsUnmade ended.ending) }
+{
     let source = RegistrySource::File(path);
     let file = match open_registry(rt, path) {
         Ok(file) => file,

@@ -8,6 +8,7 @@ pub mod Passing
 pub mod ReadStreams
 pub mod RequestKinds
 pub mod SentWhole
+pub mod ServiceSteps
 pub mod SoFar
 pub mod Stays
 pub mod Steps

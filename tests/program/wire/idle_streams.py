@@ -12,7 +12,7 @@ import long_session
 from lib.connections import SECONDS, connect, read_exactly, read_frame
 from lib.frames import HEADER, LIMITS, MADE, create, numbers
 from lib.processes import processor_seconds
-from lib.program import PROGRAM, Serve
+from lib.program import MORE_OPTIONS, PROGRAM, Serve
 from lib.rows import COLUMNS, IN_ROW
 
 
@@ -29,6 +29,7 @@ class Idle(unittest.TestCase):
             stream.sendall(whole[20:])
             self.assertEqual(read_frame(stream), (MADE, 7, 1, numbers(1)))
 
+    @unittest.skipIf(MORE_OPTIONS, "with --at-once it is served before")
     def test_a_second_client_is_served_when_the_first_has_gone(self):
         with Serve(2) as service, connect(service.port) as first, connect(service.port) as second:
             second.sendall(create(1, client=8))

@@ -9,4 +9,9 @@ export PRELOAD_STREAMS="$work/streams.so" PRELOAD_REFUSE="$work/refuse.so" PYTHO
 build_library ../streams.c "$PRELOAD_STREAMS"
 build_library ../../memory/refuse.c "$PRELOAD_REFUSE"
 run_modules run_command both_versions cases_as_frames export_parts serve_command send_faults send_streams send_memory \
-    serve_memory send_sizes two_senders idle_streams steady_memory hostile_rows hostile_streams hostile_registries
+    serve_memory serve_at_once serve_many_desks send_sizes two_senders idle_streams steady_memory hostile_rows \
+    hostile_streams hostile_registries || exit 1
+# once more, by a service for many connections at once
+export SERVE_OPTIONS="--at-once 8"
+run_modules serve_command send_faults idle_streams steady_memory.SteadyConnections hostile_streams.ChangedBytes.test_through_serve \
+    hostile_streams.CutSessions hostile_streams.SlowClients hostile_streams.Floods.test_through_serve

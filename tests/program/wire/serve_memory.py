@@ -1,5 +1,6 @@
 """Runs `serve` again and again, and refuses another of its allocations each time (tests/memory/refuse.c)."""
 
+import contextlib
 import os
 import subprocess
 import tempfile
@@ -23,25 +24,29 @@ SHORT = {b"".join(ANSWERS[:at] + [refusal(NUMBERS[at], 18)] + ANSWERS[at + 1 :])
 WITHOUT_PROFILE = refusal(1, 18) + refusal(2, 3) * 3
 
 
-def served(requests, **variables):
+def served(requests, options=(), **variables):
     """Runs `serve` over connections with these requests: its status, its standard error, and what came on each
     connection; no connection is made where the program ended before."""
     port = free_port()
-    words = [PROGRAM, "serve", "--port", str(port), "--connections", str(CONNECTIONS)]
+    words = [PROGRAM, "serve", "--port", str(port), "--connections", str(CONNECTIONS), *options]
     with subprocess.Popen(
         words, stdin=subprocess.DEVNULL, stdout=subprocess.PIPE, stderr=subprocess.PIPE, env=preloaded("REFUSE", **variables)
     ) as service:
         is_there = service.stdout.readline() == b"listening %d\n" % port
-        came = [exchange(port, requests, len(REPLIES) + 1) for _ in range(CONNECTIONS)] if is_there else []
+        came = []
+        # (with --at-once it may run out of memory once it listens)
+        with contextlib.suppress(ConnectionError):
+            while is_there and len(came) < CONNECTIONS:
+                came.append(exchange(port, requests, len(REPLIES) + 1))
         _, said = service.communicate(timeout=SECONDS)
     return service.returncode, faults(said), came
 
 
 class ServeMemory(unittest.TestCase):
-    def allocations(self, requests, replies):
+    def allocations(self, requests, replies, options=()):
         with tempfile.TemporaryDirectory() as folder:
             path = os.path.join(folder, "count")
-            self.assertEqual(served(requests, ALLOCATIONS=path), (0, b"", [replies] * CONNECTIONS))
+            self.assertEqual(served(requests, options, ALLOCATIONS=path), (0, b"", [replies] * CONNECTIONS))
             with open(path, encoding="ascii") as file:
                 return int(file.read())
 
@@ -63,13 +68,33 @@ class ServeMemory(unittest.TestCase):
                     self.assertEqual(said, MEMORY)
                     self.assertIn(status, (3, 6))
                     continue
-                self.assertEqual((status, said), (0, b""))
+                self.assertEqual((status, said, len(came)), (0, b"", CONNECTIONS))
                 others = [replies for replies in came if replies != whole]
                 self.assertLessEqual(len(others), 1, others)
                 if others:
                     self.assertIn(others[0], fronts | short | {without_profile})
         expected = {(3,), (6,), (0, b""), (0, without_profile)} | {(0, replies) for replies in fronts}
         self.assertLessEqual(expected, found)
+
+    def test_each_allocation_refused_at_once(self):
+        """With --at-once there may also be no memory for the list of connections."""
+        options = ["--at-once", "2"]
+        requests, whole = session_in(2)
+        parts = {in_version(2, replies) for replies in {*FRONTS, *SHORT, WITHOUT_PROFILE}}
+        found = set()
+        for number in range(1, self.allocations(requests, whole, options) + 1):
+            with self.subTest(number=number):
+                status, said, came = served(requests, options, REFUSE=number)
+                found.add((status, *came[:1]))
+                if status:
+                    self.assertIn((status, said), {(3, MEMORY), (6, MEMORY), (4, MEMORY), (4, b"fault: Socket\n")})
+                    self.assertEqual(set(came) - {b""}, set())
+                    continue
+                self.assertEqual((said, len(came)), (b"", CONNECTIONS))
+                others = [replies for replies in came if replies != whole]
+                self.assertLessEqual(len(others), 1, others)
+                self.assertLessEqual(set(others), parts)
+        self.assertLessEqual({(3,), (6,), (0, b""), (0, in_version(2, WITHOUT_PROFILE))}, found)
 
 
 if __name__ == "__main__":

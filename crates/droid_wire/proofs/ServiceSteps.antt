@@ -14,9 +14,9 @@ use Rattle.droid_wire_turns.specs.Turns.{ServesAll}
 use Rattle.droid_wire_turns.specs.Steps.{Does, Goes, Handles, Happens, Step}
 use Rattle.droid_wire_turns.specs.declared.rules.Rules.{Rules}
 use Rattle.droid_wire_turns.specs.declared.served.Served.{Served}
-use Rattle.droid_wire_many.specs.Answers.{IsAnswered}
-use Rattle.droid_wire_many.specs.ManyConnections.{ServesMany, events_of, frames_of, replies_of}
-use Rattle.droid_wire_many.specs.declared.service_handler.ServiceHandler.{ServiceHandler}
+use Rattle.droid_wire.specs.OneAnswer.{IsAnswered}
+use Rattle.droid_wire.specs.ManyConnections.{ServesMany, events_of, frames_of, replies_of}
+use Rattle.droid_wire.specs.declared.service_handler.ServiceHandler.{ServiceHandler}
 
 -- how the handler handles
 abbrev pub Answers : ServiceHandler → Frame → Reply → ServiceHandler → Type 0

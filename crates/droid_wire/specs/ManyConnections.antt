@@ -36,3 +36,9 @@ pub record ServesMany {C : Type 0} (does : C → Event → C → Type 0) (rules 
   pub done : GoesOver does connections (events_of steps) later
   pub serves : ServesAll rules result steps
   pub runs : Runs setting history (frames_of steps) (replies_of steps) after
+
+-- the same, of connections of which nothing is known
+pub record ServesSome (rules : Rules) (setting : Setting) (history : History) (after : Service) (result : Served) : Type 0 where
+  pub steps : List Step
+  pub serves : ServesAll rules result steps
+  pub runs : Runs setting history (frames_of steps) (replies_of steps) after

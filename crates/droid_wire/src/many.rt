@@ -4,7 +4,7 @@ ghost use Rattle.std.specs.Prelude.{◌≡◌};
 ghost use Rattle.droid_core.specs.Histories.{History};
 ghost use Rattle.droid_core.specs.Setting.{Setting};
 ghost use Rattle.droid_core.specs.Standing.{StandsFor, limits_of, registry_of};
-ghost use Rattle.droid_wire_many.specs.ManyConnections.{ServesMany};
+ghost use Rattle.droid_wire.specs.ManyConnections.{ServesMany};
 
 use crate::service_handler::ServiceHandler;
 use droid_wire_turns::{Connections, Rules, Served, serve_in_turns};

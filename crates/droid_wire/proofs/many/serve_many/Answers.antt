@@ -1,5 +1,5 @@
-use Rattle.droid_wire_many.proofs.ServiceSteps.{same_limits, same_registry, serves_many}
-use Rattle.droid_wire_many.proofs.service.serve_many.Goals as goal
+use Rattle.droid_wire.proofs.ServiceSteps.{same_limits, same_registry, serves_many}
+use Rattle.droid_wire.proofs.many.serve_many.Goals as goal
 
 pub returns-clause-many : goal.returns-clause-many
 returns-clause-many g c = λ setting history stands.

@@ -12,7 +12,7 @@ pub struct ServiceHandler {
 }
 
 impl Handler for ServiceHandler {
-    ghost use Rattle.droid_wire_many.specs.Answers.{IsAnswered};
+    ghost use Rattle.droid_wire.specs.OneAnswer.{IsAnswered};
 
     ghost handles = { λ old frame reply new. IsAnswered old.service frame reply new.service };
 

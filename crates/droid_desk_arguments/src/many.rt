@@ -1,0 +1,122 @@
+//! The options of `serve` for many connections at once.
+
+ghost use Rattle.std.specs.Prelude.{◌≡◌, IfOk, IfSome, None, codes, false, option_map, true};
+ghost use Rattle.clap.specs.Words.{app_of, found_of, rows_of, rule_of};
+ghost use Rattle.clap.specs.declared.builder.command.Command.TheViews.{out-Command};
+ghost use Rattle.droid_desk_arguments.specs.Asking.{IsCount, IsMany, IsOneByOne};
+ghost use Rattle.droid_desk_arguments.specs.Commands.{at_once_option, idle_option, serve_many};
+
+use crate::arguments::{CONNECTIONS, DEFAULT_CONNECTIONS, number, serve_numbers};
+use crate::profile::{flag, flag_of};
+use crate::stream_help::{AT_ONCE_HELP, FOREVER_HELP, IDLE_HELP, VERBOSE_HELP};
+use clap::{Arg, ArgMatches, Command};
+use std::alloc::{AllocError, Global};
+
+// The names of the options.
+pub(crate) const AT_ONCE: &str = "at-once";
+
+const IDLE: &str = "idle";
+
+const FOREVER: &str = "forever";
+
+const VERBOSE: &str = "verbose";
+
+/// After how many seconds an idle connection is closed by default.
+const DEFAULT_IDLE: u32 = 60;
+
+/// How `serve` serves many connections at once.
+#[derive(Clone, Copy)]
+pub struct ManyOptions {
+    /// The most connections that are open at once.
+    pub seats: u32,
+    /// How many connections are served. `None`: there is no end.
+    pub connections: Option<u32>,
+    /// A connection is closed after this many seconds in which no byte of it came and it took none.
+    pub idle: u32,
+    /// Print a line for each connection that ended, and one a minute.
+    pub verbose: bool,
+}
+
+/// Makes the command `serve` with the options that have numbers, and those for many connections.
+pub(crate) fn serve_many<'a>(alloc: Global) -> Result<Command<'a>, AllocError>
+    ensures shape { IfOk result (λ c. app_of c ≡ serve_many) }
+    ensures local { IfOk result (λ c. (out-Command c).has_globals ≡ false) }
+{
+    serve_numbers(alloc)?
+        .arg(at_once(alloc))?
+        .arg(idle(alloc))?
+        .arg(flag(alloc, FOREVER, FOREVER_HELP))?
+        .arg(flag(alloc, VERBOSE, VERBOSE_HELP))
+}
+
+fn at_once<'a>(alloc: Global) -> Arg<'a>
+    ensures rule { rule_of result ≡ at_once_option }
+    ensures local { result.global ≡ false }
+{
+    number(alloc, AT_ONCE, "N", AT_ONCE_HELP, 1, 64)
+}
+
+fn idle<'a>(alloc: Global) -> Arg<'a>
+    ensures rule { rule_of result ≡ idle_option }
+    ensures local { result.global ≡ false }
+{
+    number(alloc, IDLE, "SECONDS", IDLE_HELP, 1, 3_600)
+}
+
+/// Whether none of these options is given.
+pub(crate) fn is_one_by_one(serve: &ArgMatches<'_>) -> bool
+    ensures { result ≡ true → IsOneByOne (rows_of (found_of serve.now)) }
+{
+    let seats = serve.get_str(AT_ONCE);
+    let forever = flag_of(serve, FOREVER);
+    let idle = serve.get_str(IDLE);
+    let verbose = flag_of(serve, VERBOSE);
+    none_given(seats, forever, idle, verbose)
+}
+
+fn none_given(seats: Option<&str>, forever: bool, idle: Option<&str>, verbose: bool) -> bool
+    ensures seats { result ≡ true → option_map (λ text. text.now) seats.entry ≡ None }
+    ensures forever { result ≡ true → forever ≡ false }
+    ensures idle { result ≡ true → option_map (λ text. text.now) idle.entry ≡ None }
+    ensures verbose { result ≡ true → verbose ≡ false }
+{
+    if forever || verbose {
+        return false;
+    }
+    match (seats, idle) {
+        (None, None) => true,
+        (Some(_), _) => false,
+        (None, Some(_)) => false,
+    }
+}
+
+/// Reads the options. They are none without `--at-once`, or if both `--forever` and `--connections` are given.
+pub(crate) fn many_options(serve: &ArgMatches<'_>) -> Option<ManyOptions>
+    ensures { IfSome result (IsMany (rows_of (found_of serve.now))) }
+{
+    let seats = serve.get_one(AT_ONCE)?;
+    let connections = count_of(serve)?;
+    let idle = serve.get_one(IDLE).unwrap_or(DEFAULT_IDLE);
+    let verbose = flag_of(serve, VERBOSE);
+    Some(ManyOptions {
+        seats,
+        connections,
+        idle,
+        verbose,
+    })
+}
+
+/// Reads how many connections are served. `--forever` and `--connections` together say nothing.
+fn count_of(serve: &ArgMatches<'_>) -> Option<Option<u32>>
+    ensures { IfSome result (IsCount (rows_of (found_of serve.now))) }
+{
+    let forever = flag_of(serve, FOREVER);
+    if forever {
+        return match serve.get_str(CONNECTIONS) {
+            None => Some(None),
+            Some(_) => None,
+        };
+    }
+    let connections = serve.get_one(CONNECTIONS).unwrap_or(DEFAULT_CONNECTIONS);
+    Some(Some(connections))
+}

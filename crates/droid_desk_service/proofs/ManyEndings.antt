@@ -1,0 +1,75 @@
+-- What the end of serving many connections says of the program's ending.
+use Rattle.std.proofs.Common.{◌≡◌, [], Option, Some, None, refl, subst, sym, ◌∙◌}
+use Rattle.std.specs.declared.io.ErrorKind.{ErrorKind}
+use Rattle.droid_desk_arguments.specs.declared.many.ManyOptions.{ManyOptions}
+use Rattle.droid_desk_service.specs.Fresh.{IsMade, IsNoService, IsUnmade}
+use Rattle.droid_desk_service.specs.Many.{EndsServing, ManyEndsAs, ServesFresh, many_ending_of, rules_named}
+use Rattle.droid_desk_service.specs.declared.ending.Ending.{Ending}
+use Rattle.droid_desk_service.specs.declared.ending.Ending.TheVariants.{Done, Registry, NoService, Script, Stream, Send, Socket, BadLine}
+use Rattle.droid_wire.specs.Events.{Event}
+use Rattle.droid_wire.specs.Histories.{History}
+use Rattle.droid_wire.specs.ManyConnections.{ServesMany, ServesSome}
+use Rattle.droid_wire.specs.Setting.{Setting}
+use Rattle.droid_wire.specs.Standing.{limits_of, registry_of}
+use Rattle.droid_wire.specs.core_types.service.Service.{Service}
+use Rattle.droid_wire.specs.declared.serve_fault.ServeFault.TheVariants as serve_faults
+use Rattle.droid_wire.specs.turn_types.rules.Rules.{Rules}
+use Rattle.droid_wire.specs.turn_types.served.Served.{Served}
+use Rattle.droid_wire.specs.turn_types.served.Served.TheVariants as ways
+
+some_of : {C : Type 0} (does : C → Event → C → Type 0) (rules : Rules) (setting : Setting) (history : History) (connections later : C) (after : Service) (result : Served)
+    → ServesMany does rules setting history connections later after result → ServesSome rules setting history after result
+some_of does rules setting history connections later after result serves = record { steps = serves.steps; serves = serves.serves; runs = serves.runs }
+
+ends_so : (options : ManyOptions) (served : Served) → ServesFresh options served → ManyEndsAs options (many_ending_of served) None
+ends_so options ways.All fresh = fresh
+ends_so options ways.Stopped fresh = fresh
+ends_so options ways.Memory fresh = fresh
+
+-- a fresh service served connections, and the command ends by that
+pub ends_serving : {C : Type 0} (does : C → Event → C → Type 0) (options : ManyOptions) (connections later : C) (before after : Service) (ending ended : Ending) (cause : Option ErrorKind)
+    → IsMade before → EndsServing does options connections later before after ending → limits_of after ≡ limits_of before → registry_of after ≡ registry_of before
+    → ended ≡ ending → cause ≡ None → ManyEndsAs options ended cause
+ends_serving {C} does options connections later before after ending ended cause made ends limits registry is none =
+    let fresh : ServesFresh options ends.served = record {
+      registry = made.0;
+      after = after;
+      serves = λ setting program. some_of does (rules_named options) setting [] connections later after ends.served (ends.serves setting [] (made.1.stands setting program));
+      limits = limits ∙ made.1.limits;
+      same_registry = registry ∙ made.1.same_registry;
+    } in
+    subst (λ (k : Option ErrorKind). ManyEndsAs options ended k) (sym none)
+    (subst (λ (e : Ending). ManyEndsAs options e None) (sym (is ∙ ends.ends)) (ends_so options ends.served fresh))
+
+-- the port could not be used
+pub ends_unused : (options : ManyOptions) (ended : Ending) (cause : Option ErrorKind) (kind : ErrorKind) → ended ≡ Socket → cause ≡ Some kind → ManyEndsAs options ended cause
+ends_unused options ended cause kind is named =
+    subst (λ (k : Option ErrorKind). ManyEndsAs options ended k) (sym named) (subst (λ (e : Ending). ManyEndsAs options e (Some kind)) (sym is) tt)
+
+-- `listening` could not be printed
+pub ends_unprinted : (options : ManyOptions) (ended : Ending) (cause : Option ErrorKind) → ended ≡ Stream (serve_faults.Write 0) → ManyEndsAs options ended cause
+ends_unprinted options ended cause is = subst (λ (e : Ending). ManyEndsAs options e cause) (sym is) refl
+
+-- no registry could be read, or no service be made
+pub ends_unmade : (options : ManyOptions) (ended : Ending) (cause : Option ErrorKind) → IsUnmade ended → ManyEndsAs options ended cause
+ends_unmade options (Registry fault) cause unmade = tt
+ends_unmade options (NoService fault) cause unmade = tt
+ends_unmade options (Script fault) cause unmade = absurd unmade
+ends_unmade options (Stream fault) cause unmade = absurd unmade
+ends_unmade options (Send fault) cause unmade = absurd unmade
+ends_unmade options Socket cause unmade = absurd unmade
+ends_unmade options BadLine cause unmade = absurd unmade
+ends_unmade options Done cause unmade = absurd unmade
+
+widened : (ending : Ending) → IsNoService ending → IsUnmade ending
+widened (NoService fault) none = none
+widened (Registry fault) none = absurd none
+widened (Script fault) none = none
+widened (Stream fault) none = none
+widened (Send fault) none = none
+widened Socket none = none
+widened BadLine none = none
+widened Done none = none
+
+pub unmade_of_no_service : (ending ended : Ending) → ended ≡ ending → IsNoService ending → IsUnmade ended
+unmade_of_no_service ending ended is none = subst (λ (e : Ending). IsUnmade e) (sym is) (widened ending none)

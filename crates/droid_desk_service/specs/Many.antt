@@ -1,0 +1,59 @@
+-- How `serve` for many connections at once ends.
+use Rattle.std.specs.Prelude.{◌≡◌, ℕ, ◌*◌, [], Option, None, Some}
+use Rattle.std.specs.declared.io.ErrorKind.{ErrorKind}
+use Rattle.droid_desk_arguments.specs.declared.many.ManyOptions.{ManyOptions}
+use Rattle.droid_desk_service.specs.Endings.{IsProgramSetting, program_limits}
+use Rattle.droid_desk_service.specs.declared.ending.Ending.{Ending}
+use Rattle.droid_desk_service.specs.declared.ending.Ending.TheVariants.{Done, Registry, NoService, Script, Stream, Send, Socket, BadLine}
+use Rattle.droid_frame.specs.declared.stream.fault.FrameFault.TheVariants as frame_faults
+use Rattle.droid_pronom.specs.Registry.{Contents}
+use Rattle.droid_wire.specs.Events.{Event}
+use Rattle.droid_wire.specs.Histories.{History}
+use Rattle.droid_wire.specs.ManyConnections.{ServesMany, ServesSome}
+use Rattle.droid_wire.specs.Setting.{Setting}
+use Rattle.droid_wire.specs.Standing.{StandsFor, limits_of, registry_of}
+use Rattle.droid_wire.specs.core_types.service.Service.{Service}
+use Rattle.droid_wire.specs.declared.serve_fault.ServeFault.TheVariants as serve_faults
+use Rattle.droid_wire.specs.turn_types.rules.Rules.{Rules}
+use Rattle.droid_wire.specs.turn_types.served.Served.{Served}
+use Rattle.droid_wire.specs.turn_types.served.Served.TheVariants as ways
+
+-- the rules that the options name; the time is in milliseconds
+abbrev pub rules_named : ManyOptions → Rules
+rules_named options = record { seats = options.seats; total = options.connections; idle = options.idle * 1000 }
+
+-- how the end of serving ends the program
+abbrev pub many_ending_of : Served → Ending
+many_ending_of ways.All = Done
+many_ending_of ways.Stopped = Socket
+many_ending_of ways.Memory = Stream (serve_faults.Frame frame_faults.Memory)
+
+-- Connections were served as the options say, by one service that goes on from whatever history it stood for; and the
+-- program ends by how that ended.
+pub record EndsServing {C : Type 0} (does : C → Event → C → Type 0) (options : ManyOptions) (connections later : C) (before after : Service) (ending : Ending) : Type 0 where
+  pub served : Served
+  pub ends : ending ≡ many_ending_of served
+  pub serves : (setting : Setting) (history : History) → StandsFor setting before history → ServesMany does (rules_named options) setting history connections later after served
+
+-- a fresh service with the program's limits served connections as the options say, and kept its registry
+pub record ServesFresh (options : ManyOptions) (served : Served) : Type 0 where
+  pub registry : Contents
+  pub after : Service
+  pub serves : (setting : Setting) → IsProgramSetting registry setting → ServesSome (rules_named options) setting [] after served
+  pub limits : limits_of after ≡ program_limits
+  pub same_registry : registry_of after ≡ registry
+
+-- What the command's ending says, with the cause that the system gave. Connections were served; or nobody was, since the
+-- registry could not be read, no service be made, the port not be used, or `listening` not be printed.
+abbrev pub ManyEndsAs : ManyOptions → Ending → Option ErrorKind → Type 0
+ManyEndsAs options Done cause = ServesFresh options ways.All
+ManyEndsAs options Socket None = ServesFresh options ways.Stopped
+ManyEndsAs options Socket (Some kind) = Unit {0}
+ManyEndsAs options (Stream (serve_faults.Write written)) cause = written ≡ 0
+ManyEndsAs options (Stream (serve_faults.Frame frame_faults.Memory)) cause = ServesFresh options ways.Memory
+ManyEndsAs options (Stream (serve_faults.Frame fault)) cause = ⊥
+ManyEndsAs options (Registry fault) cause = Unit {0}
+ManyEndsAs options (NoService fault) cause = Unit {0}
+ManyEndsAs options (Script fault) cause = ⊥
+ManyEndsAs options (Send fault) cause = ⊥
+ManyEndsAs options BadLine cause = ⊥
