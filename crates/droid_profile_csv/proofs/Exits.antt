@@ -13,7 +13,7 @@ use Rattle.droid_profile_spec.specs.declared.fault.ProfileFault.{ProfileFault}
 use Rattle.droid_profile_spec.specs.declared.fault.ProfileFault.TheVariants as walk_faults
 use Rattle.droid_profile_spec.specs.declared.options.Options.{Options}
 use Rattle.droid_profile_spec.specs.declared.recipient.RecipientFault.TheVariants as recipient_faults
-use Rattle.droid_profile_csv.specs.Taking.{EndsRest, Fails, Takes, WritesRest, stopped_writer}
+use Rattle.droid_profile_csv.specs.Taking.{EndsRest, Fails, TakesSoon, WritesRest, stopped_writer}
 use Rattle.droid_profile_csv.specs.WrittenTrees.{After, During, EndsWriting, Explains, IsOfWriter, ReportsCsv, ReportsList, WritesTree}
 use Rattle.droid_profile_csv.specs.declared.csv_fault.CsvFault.{CsvFault}
 use Rattle.droid_profile_csv.specs.declared.csv_recipient.CsvRecipient.{CsvRecipient}
@@ -31,7 +31,7 @@ module _ {T W O M : Type 0} (observes : T → Observation → T → Type 0) (hea
     pub registry : new.registry.now ≡ old.registry.now
 
   pub ends_well : (options : Options) (whole : Bool) (tree tree_after : T) (watcher watcher_after : W) (old start middle new : CsvRecipient O M) → Begins options old start
-      → ProfilesTree observes hears (Takes contents seen list_contents list_seen) start.registry.now options whole tree tree_after watcher watcher_after start middle
+      → ProfilesTree observes hears (TakesSoon contents seen list_contents list_seen) start.registry.now options whole tree tree_after watcher watcher_after start middle
       → WritesRest contents seen list_contents list_seen middle new
       → EndsWell options whole tree tree_after watcher watcher_after old new
   ends_well options whole tree tree_after watcher watcher_after old start middle new begins walk rest =
@@ -65,7 +65,7 @@ module _ {T W O M : Type 0} (observes : T → Observation → T → Type 0) (hea
 
   -- after the walk
   pub ends_after : (options : Options) (whole : Bool) (fault : CsvFault) (tree tree_after : T) (watcher watcher_after : W) (old start middle new : CsvRecipient O M) → Begins options old start
-      → ProfilesTree observes hears (Takes contents seen list_contents list_seen) start.registry.now options whole tree tree_after watcher watcher_after start middle
+      → ProfilesTree observes hears (TakesSoon contents seen list_contents list_seen) start.registry.now options whole tree tree_after watcher watcher_after start middle
       → IsOfWriter fault × EndsRest contents seen room list_contents list_seen list_room fault middle new
       → EndsBadly options fault tree tree_after watcher watcher_after old new
   ends_after options whole fault tree tree_after watcher watcher_after old start middle new begins walk stops =
@@ -81,7 +81,7 @@ module _ {T W O M : Type 0} (observes : T → Observation → T → Type 0) (hea
 
   -- during the walk
   pub ends_during : (options : Options) (why : ProfileFault) (fault : CsvFault) (tree tree_after : T) (watcher watcher_after : W) (old start middle new : CsvRecipient O M) → Begins options old start
-      → EndsEarly observes hears (Takes contents seen list_contents list_seen) (Fails contents seen room list_contents list_seen list_room) start.registry.now options why tree tree_after watcher watcher_after start middle
+      → EndsEarly observes hears (TakesSoon contents seen list_contents list_seen) (Fails contents seen room list_contents list_seen list_room) start.registry.now options why tree tree_after watcher watcher_after start middle
       → Explains why fault
       → ((stopped : WriteFault) → why ≡ walk_faults.Recipient (recipient_faults.Write stopped) → (new ≡ middle) × (fault ≡ stopped_writer middle.wrote_list stopped))
       → (((stopped : WriteFault) → ¬ (why ≡ walk_faults.Recipient (recipient_faults.Write stopped))) → EndsRest contents seen room list_contents list_seen list_room fault middle new)
