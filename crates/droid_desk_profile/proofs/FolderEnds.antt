@@ -1,5 +1,5 @@
 -- How the profile of a tree ends, with what was skipped.
-use Rattle.std.proofs.Common.{ℕ, Bool, List, [], Option, Result, Ok, Err}
+use Rattle.std.proofs.Common.{ℕ, Bool, List, Option, Result, Ok, Err}
 use Rattle.std.specs.Prelude.{IfErr, IfOk}
 use Rattle.droid_frame.specs.stream_types.seen.Seen.{Seen}
 use Rattle.droid_pronom.specs.Registry.{Contents}

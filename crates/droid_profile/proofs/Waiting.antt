@@ -1,10 +1,10 @@
 -- How many entries wait, and how many were reported.
-use Rattle.std.proofs.Common.{◌≡◌, inl, inr, ℕ, ◌+◌, ◌≤◌, ◌&&◌, Bool, true, false, List, [], ◌∷◌, ◌++◌, length, length-append, Option, Some, None, slice_get, refl, sym, ap, ◌∙◌, arith}
+use Rattle.std.proofs.Common.{◌≡◌, ℕ, ◌+◌, ◌≤◌, ◌&&◌, Bool, true, false, List, [], ◌∷◌, ◌++◌, length, length-append, Option, Some, None, slice_get, refl, ap, arith}
 use Rattle.std.specs.List.{count_by, flat_map, list_all, AllByRecursion}
 use Rattle.std.proofs.lemmas.List.Sums.{count_by-le-length}
-use Rattle.droid_frame.specs.types.record.Record.{Record}
 use Rattle.droid_pronom.specs.Registry.{Contents}
 use Rattle.droid_tree.specs.Heard.{Heard, Left, Held, TookBytes, TookFolder, TookFile}
+use Rattle.droid_tree.specs.Paths.{below}
 use Rattle.droid_tree.specs.declared.folder_entry.FolderEntry.{FolderEntry}
 use Rattle.droid_profile_spec.specs.Calls.{Call, heard_of_calls}
 use Rattle.droid_profile_spec.specs.EarlyEnds.{AreFirst, is_counted, is_of_record}
@@ -70,8 +70,13 @@ module _ (registry : Contents) (options : Options) (readings : Readings) (files 
   pub rows_wait : (taken : List Row) → count_by is_counted (flat_map (heard_of_row registry options readings files) taken) ≤ count_by is_counted_row taken
   rows_wait [] = omega arith
   rows_wait (row ∷ taken) =
-      omega (arith, counts_append is_counted (heard_of_row registry options readings files row) (flat_map (heard_of_row registry options readings files) taken),
-        counts_append is_counted_row (row ∷ []) taken, row_waits row, rows_wait taken)
+      omega (
+        arith,
+        counts_append is_counted (heard_of_row registry options readings files row) (flat_map (heard_of_row registry options readings files) taken),
+        counts_append is_counted_row (row ∷ []) taken,
+        row_waits row,
+        rows_wait taken,
+      )
 
 -- those after the first ones are no more
 pub rest_waits : (first all : List Heard) (are : AreFirst first all) → count_by is_counted are.rest ≤ count_by is_counted all
@@ -83,8 +88,8 @@ no_record : (report : Heard) → OfBytes report → is_of_record report ≡ fals
 no_record (TookBytes path count) of = refl
 no_record (Left path why) of = refl
 no_record (Held path count) of = refl
-no_record (TookFolder path) of = absurd cc
-no_record (TookFile path found) of = absurd cc
+no_record (TookFolder path) of = let it : false ≡ true = of.0 in absurd cc
+no_record (TookFile path found) of = let it : false ≡ true = of.0 in absurd cc
 
 none_of_records : (heard : List Heard) → AllByRecursion OfBytes heard → count_by is_of_record heard ≡ 0
 none_of_records [] all = refl
@@ -108,7 +113,7 @@ module _ (registry : Contents) (options : Options) where
   kid_reported : (path : List ℕ) (kid : Kid) → is_done kid ≡ true → length (numbers_in kid) ≤ length (heard_of_kid registry options path kid)
   kid_reported path (Subfolder entry number) done = omega arith
   kid_reported path (ClosedFolder entry) done = omega arith
-  kid_reported path (AFile entry number reading) done = file_reported _ entry reading reading.ending done
+  kid_reported path (AFile entry number reading) done = file_reported (below path entry.name) entry reading reading.ending done
   kid_reported path (AnotherKind entry) done = omega arith
   kid_reported path (NoText entry) done = omega arith
   kid_reported path (RefusedEntry entry refusal) done = omega arith
@@ -122,8 +127,13 @@ module _ (registry : Contents) (options : Options) where
   kids_reported path [] done = omega arith
   kids_reported path (kid ∷ kids) done =
       let both = both_true (is_done kid) (list_all is_done kids) done in
-      omega (arith, length-append (numbers_in kid) (flat_map numbers_in kids), length-append (heard_of_kid registry options path kid) (flat_map (heard_of_kid registry options path) kids),
-        kid_reported path kid both.0, kids_reported path kids both.1)
+      omega (
+        arith,
+        length-append (numbers_in kid) (flat_map numbers_in kids),
+        length-append (heard_of_kid registry options path kid) (flat_map (heard_of_kid registry options path) kids),
+        kid_reported path kid both.0,
+        kids_reported path kids both.1,
+      )
 
   visit_reported : (visit : Visit) → is_complete visit ≡ true → length (numbers_of visit) ≤ length (heard_of_visit registry options visit)
   visit_reported visit done =
@@ -135,5 +145,10 @@ module _ (registry : Contents) (options : Options) where
   visits_reported [] done = omega arith
   visits_reported (visit ∷ visits) done =
       let both = both_true (is_complete visit) (list_all is_complete visits) done in
-      omega (arith, length-append (numbers_of visit) (flat_map numbers_of visits), length-append (heard_of_visit registry options visit) (flat_map (heard_of_visit registry options) visits),
-        visit_reported visit both.0, visits_reported visits both.1)
+      omega (
+        arith,
+        length-append (numbers_of visit) (flat_map numbers_of visits),
+        length-append (heard_of_visit registry options visit) (flat_map (heard_of_visit registry options) visits),
+        visit_reported visit both.0,
+        visits_reported visits both.1,
+      )

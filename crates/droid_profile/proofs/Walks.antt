@@ -174,8 +174,15 @@ module _ {T W R : Type 0} (observes : T → Observation → T → Type 0) (hears
         observed = observed_more on.calls all.calls start tree tree_after on.observed all.observed;
         informed = over_more hears begun watcher_read watcher_after (on.heard ++ heard_of_calls all.calls) entries (over_more hears begun watcher watcher_read on.heard (heard_of_calls all.calls) on.informed all.heard) handed.informed;
         taken = over_more takes first recipient recipient_after on.given records on.taken handed.taken;
-        reported = omega (arith, counts_append is_of_record (on.heard ++ heard_of_calls all.calls) entries, counts_append is_of_record on.heard (heard_of_calls all.calls), bytes_uncounted all.calls,
-          rows_counted registry options read.readings files rows, length-append on.given records, on.reported);
+        reported = omega (
+          arith,
+          counts_append is_of_record (on.heard ++ heard_of_calls all.calls) entries,
+          counts_append is_of_record on.heard (heard_of_calls all.calls),
+          bytes_uncounted all.calls,
+          rows_counted registry options read.readings files rows,
+          length-append on.given records,
+          on.reported,
+        );
         few_rows = omega arith;
         few_numbers = omega (arith, on.few_numbers, ap length are, length-append (filter is_of_entry on.heard) entries);
       }

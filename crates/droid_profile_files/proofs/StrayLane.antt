@@ -1,6 +1,5 @@
 -- A lane in which no file is read becomes idle.
-use Rattle.std.proofs.Common.{◌≡◌, inl, inr, ℕ, List, length, slice_get, Some, Contains, refl, sym, ap, subst, ◌∙◌}
-use Rattle.std.proofs.lemmas.Bool.Decides.{eqb_tells}
+use Rattle.std.proofs.Common.{◌≡◌, ℕ, List, length, slice_get, Some, Contains, refl, sym, ap, subst, ◌∙◌}
 use Rattle.droid_pronom.specs.Registry.{Contents}
 use Rattle.droid_profile_spec.specs.Calls.{Call}
 use Rattle.droid_profile_spec.specs.Readings.{Reading}

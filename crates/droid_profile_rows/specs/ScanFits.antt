@@ -73,9 +73,9 @@ IsExplained fault number = (fault ≡ faults.Memory) ⊎ ((fault ≡ faults.Numb
 
 -- At most this many entries were taken: no more got a number, and there are no more rows, without those of repeated
 -- names.
-pub record AddsFew (most : ℕ) (scan scan_after : Scan) (rows rows_after : List Row) : Type 0 where
+pub record AddsFew (most : ℕ) (scan scan_after : Scan) (before after : List Row) : Type 0 where
   pub numbers : scan_after.number ≤ scan.number + most
-  pub rows : count_by is_counted_row rows_after ≤ count_by is_counted_row rows + most
+  pub rows : count_by is_counted_row after ≤ count_by is_counted_row before + most
 
 -- the taking ended early, with this fault: up to some entry all was taken as it should, and at most this many
 pub record TakesFront {T : Type 0} (observes : T → Observation → T → Type 0) (registry : Contents) (options : Options) (calls : List Call) (heard : List Heard) (given : List Record) (fault : ProfileFault) (most : ℕ) (before : Scan) (rows_before : List Row) (tree tree_after : T) : Type 0 where
