@@ -1,7 +1,9 @@
 -- What a step takes at most, and that it leaves less to be taken.
-use Rattle.std.proofs.Common.{◌≡◌, inl, inr, ℕ, suc, ◌+◌, ◌-◌, ◌*◌, ◌<◌, ◌≤◌, Bool, true, false, List, [], ◌∷◌, ◌++◌, length, length-append, map, Option, Some, None, refl, sym, ap, ◌∙◌, ◌^◌, arith}
+use Rattle.std.proofs.Common.{◌≡◌, inl, inr, ℕ, suc, ◌+◌, ◌-◌, ◌*◌, ◌<◌, ◌≤◌, Bool, List, [], ◌∷◌, ◌++◌, length, length-append, map, filter, Option, Some, None, refl, sym, ap, ◌∙◌, ◌^◌, arith}
 use Rattle.std.specs.List.{count_by}
-use Rattle.std.proofs.Math.Nat.{mul-le-mul_right}
+use Rattle.std.proofs.lemmas.List.Elements.{filter-append}
+use Rattle.std.proofs.lemmas.List.Sums.{count_by-le-length, length-filter}
+use Rattle.std.proofs.Math.Nat.{mul-le-mul_right, suc-mul}
 use Rattle.droid_tree.specs.Observation.{Observation}
 use Rattle.droid_tree.specs.Paths.{below}
 use Rattle.droid_tree.specs.declared.folder_entry.FolderEntry.{FolderEntry}
@@ -17,19 +19,11 @@ use Rattle.droid_profile_rows.specs.declared.scan.Scan.{Scan}
 -- ---- how many items pass a test
 
 pub counts_append : {A : Type 0} (test : A → Bool) (xs ys : List A) → count_by test (xs ++ ys) ≡ count_by test xs + count_by test ys
-counts_append test [] ys = refl
-counts_append {A = A} test (x ∷ xs) ys = by_test (test x) refl
-  where
-    by_test : (b : Bool) → test x ≡ b → count_by test ((x ∷ xs) ++ ys) ≡ count_by test (x ∷ xs) + count_by test ys
-    by_test true is = rw is (omega (arith, counts_append test xs ys))
-    by_test false is = rw is (counts_append test xs ys)
+counts_append {A = A} test xs ys =
+    omega (arith, length-filter test (xs ++ ys), length-filter test xs, length-filter test ys, ap (λ (l : List A). length l) (filter-append test xs ys), length-append (filter test xs) (filter test ys))
 
 pub counts_one : {A : Type 0} (test : A → Bool) (x : A) → count_by test (x ∷ []) ≤ 1
-counts_one {A = A} test x = by_test (test x) refl
-  where
-    by_test : (b : Bool) → test x ≡ b → count_by test (x ∷ []) ≤ 1
-    by_test true is = rw is (omega arith)
-    by_test false is = rw is (omega arith)
+counts_one test x = omega (arith, count_by-le-length test (x ∷ []))
 
 -- ---- at most so many
 
@@ -58,9 +52,7 @@ unlisted_few path (Some observed) = omega arith
 
 -- fewer folders are left, whatever entries
 fewer_folders : (m n entries before : ℕ) → m < n → entries < many → m * many + entries < n * many + before
-fewer_folders m n entries before less few =
-    let times : many + m * many ≤ n * many = mul-le-mul_right {m = suc m} {n = n} many less in
-    omega (arith, times, few)
+fewer_folders m n entries before less few = omega (arith, suc-mul m many, mul-le-mul_right {m = suc m} {n = n} many less, few)
 
 -- one folder less waits
 listed_less : (waiting number entries : ℕ) → entries < many → left_of waiting number entries < left_of (suc waiting) number 0
@@ -99,8 +91,9 @@ module _ {T : Type 0} (observes : T → Observation → T → Type 0) where
       → ListsFolder observes folder popped listed before after tree tree_after → length listed.entries.items < many → scan_left listed < scan_left scan
   listing_less folder scan popped listed before after tree tree_after empty first same lists few =
       let now : scan_left listed ≡ left_of (length popped.waiting.items) popped.number (length listed.entries.items) = ap (λ (s : Scan). left_of (length s.waiting.items) s.number (length listed.entries.items)) lists.scan_is in
+      let more : length scan.waiting.items ≡ suc (length popped.waiting.items) = omega (arith, ap length first) in
       let was : scan_left scan ≡ left_of (suc (length popped.waiting.items)) popped.number 0 =
-      ap (λ (l : List PendingFolder). left_of (length l) scan.number (length scan.entries.items)) first
+      ap (λ (n : ℕ). left_of n scan.number (length scan.entries.items)) more
       ∙ (ap (λ (n : ℕ). left_of (suc (length popped.waiting.items)) n (length scan.entries.items)) (sym same)
       ∙ ap (λ (l : List FolderEntry). left_of (suc (length popped.waiting.items)) popped.number (length l)) empty) in
       omega (arith, now, was, listed_less (length popped.waiting.items) popped.number (length listed.entries.items) few)

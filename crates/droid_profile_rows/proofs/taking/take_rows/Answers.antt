@@ -1,4 +1,4 @@
-use Rattle.std.proofs.Common.{arith}
+use Rattle.std.proofs.Common.{◌+◌, arith}
 use Rattle.droid_profile_rows.specs.ScanFits.{EndsTaking}
 use Rattle.droid_profile_rows.proofs.Runs.{ends_then, handed_on, takes_none, takes_then}
 use Rattle.droid_profile_rows.proofs.StepsMade.{few_none, few_then}
