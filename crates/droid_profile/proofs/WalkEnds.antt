@@ -1,5 +1,5 @@
 -- How a profile ends early.
-use Rattle.std.proofs.Common.{◌≡◌, ◌⊎◌, inl, inr, ℕ, ◌+◌, ◌≤◌, Bool, List, [], ◌∷◌, ◌++◌, length, length-append, map, filter, append-nil, refl, sym, ap, subst, ◌∙◌, arith}
+use Rattle.std.proofs.Common.{◌≡◌, ◌⊎◌, inl, inr, ℕ, ◌+◌, ◌≤◌, Bool, List, [], ◌∷◌, ◌++◌, length, length-append, map, filter, append-nil, append_assoc, refl, sym, ap, subst, ◌∙◌, arith}
 use Rattle.std.specs.List.{count_by, flat_map, AllByRecursion}
 use Rattle.droid_frame.specs.types.record.Record.{Record}
 use Rattle.droid_pronom.specs.Registry.{Contents}
@@ -26,7 +26,7 @@ use Rattle.droid_profile_rows.proofs.StepsMade.{counts_append}
 use Rattle.droid_profile.specs.HandedOut.{AreSettled, HandsFront}
 use Rattle.droid_profile.specs.Walking.{StandsAt}
 use Rattle.droid_profile.proofs.ChosenReadings.{ReadLike, begun_as, read_as}
-use Rattle.droid_profile.proofs.Handing.{first_after, takes_after}
+use Rattle.droid_profile.proofs.Handing.{takes_after}
 use Rattle.droid_profile.proofs.ReportKinds.{OfEntry, all_front, of_rows, entries_before_bytes, bytes_of_calls, entries_then, bytes_then}
 use Rattle.droid_profile.proofs.Waiting.{bytes_uncounted, rest_waits, rows_wait}
 use Rattle.droid_profile.proofs.Walks.{after_folders, calls_of, like_none_read, none_read, observed_more}
@@ -173,10 +173,9 @@ module _ {T W R : Type 0} (observes : T → Observation → T → Type 0) (hears
       let given : List Record = front.given in
       let of : AllByRecursion OfEntry front.heard = all_front OfEntry front.heard front.are_first.rest (subst (AllByRecursion OfEntry) front.are_first.are (of_rows registry options read.readings files rows)) in
       let are = entries_then on.heard front.heard all.calls of in
-      let first_are = first_after (filter is_of_entry on.heard) front.heard entries front.are_first in
       ends_visited fault read.readings on.calls all.calls (filter is_of_entry on.heard) on.given scan rows files start tree_after tree_after begun watcher_after first recipient_after ((on.heard ++ heard_of_calls all.calls) ++ front.heard) (on.given ++ given)
       (on.fits.visited read.readings read.like.may) read.like
-      (record { rest = front.are_first.rest; are = first_are.are ∙ ap (λ (l : List Heard). l ++ front.are_first.rest) (sym are) })
+      (record { rest = front.are_first.rest; are = ap (λ (l : List Heard). filter is_of_entry on.heard ++ l) front.are_first.are ∙ (sym (append_assoc (filter is_of_entry on.heard) front.heard front.are_first.rest) ∙ ap (λ (l : List Heard). l ++ front.are_first.rest) (sym are)) })
       (omega (arith, rest_waits front.heard entries front.are_first, rows_wait registry options read.readings files rows, on.few_rows))
       (omega (arith, on.few_numbers, ap length are, length-append (filter is_of_entry on.heard) front.heard))
       (omega (arith, counts_append is_of_record (on.heard ++ heard_of_calls all.calls) front.heard, counts_append is_of_record on.heard (heard_of_calls all.calls), bytes_uncounted all.calls, on.reported, front.reported, length-append on.given given))

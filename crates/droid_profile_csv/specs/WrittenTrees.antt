@@ -50,16 +50,20 @@ abbrev pub AddsPart : List Record → Record → RecipientFault → List Record 
 AddsPart old next recipient_faults.Memory new = new ≡ old
 AddsPart old next (recipient_faults.Write fault) new = new ≡ old ++ next ∷ []
 
--- if a writer stopped in the walk, this is its fault
-abbrev pub IsOfStop : ProfileFault → WriteFault → Type 0
-IsOfStop why fault = (stopped : WriteFault) → why ≡ walk_faults.Recipient (recipient_faults.Write stopped) → fault ≡ stopped
-
 -- the fault of the walk, as it is returned; if a writer stopped, that is returned
 abbrev pub Explains : ProfileFault → CsvFault → Type 0
 Explains why faults.Memory = (why ≡ walk_faults.Memory) ⊎ (why ≡ walk_faults.Recipient recipient_faults.Memory)
 Explains why faults.Numbers = why ≡ walk_faults.Numbers
-Explains why (faults.Csv fault) = IsOfStop why fault
-Explains why (faults.Manifest fault) = IsOfStop why fault
+Explains why _ = Unit {0}
+
+-- if a writer stopped in the walk, its fault is returned as it was
+abbrev pub IsOfStop : ProfileFault → WriteFault → Type 0
+IsOfStop why fault = (stopped : WriteFault) → why ≡ walk_faults.Recipient (recipient_faults.Write stopped) → fault ≡ stopped
+
+abbrev pub KeepsStop : ProfileFault → CsvFault → Type 0
+KeepsStop why (faults.Csv fault) = IsOfStop why fault
+KeepsStop why (faults.Manifest fault) = IsOfStop why fault
+KeepsStop why _ = Unit {0}
 
 -- a writer stopped
 abbrev pub IsOfWriter : CsvFault → Type 0
@@ -90,7 +94,7 @@ pub data EndsWriting {T W M : Type 0} (observes : T → Observation → T → Ty
     (tree tree_after : T) (watcher watcher_after : W) (csv csv_after : Option (List ℕ)) (manifest manifest_after : Option M) : Type 0 where
   Before : fault ≡ faults.Memory → tree_after ≡ tree → watcher_after ≡ watcher → csv_after ≡ csv → manifest_after ≡ manifest
       → EndsWriting observes hears list_contents registry options fault tree tree_after watcher watcher_after csv csv_after manifest manifest_after
-  During : (shown : List Record) (why : ProfileFault) → EndsEarly observes hears Adds AddsPart registry options why tree tree_after watcher watcher_after [] shown → Explains why fault
+  During : (shown : List Record) (why : ProfileFault) → EndsEarly observes hears Adds AddsPart registry options why tree tree_after watcher watcher_after [] shown → Explains why fault × KeepsStop why fault
       → CsvIsFront fault csv csv_after (csv_text registry options shown) → ListIsFront list_contents fault manifest manifest_after (list_text shown)
       → EndsWriting observes hears list_contents registry options fault tree tree_after watcher watcher_after csv csv_after manifest manifest_after
   After : (shown : List Record) (whole : Bool) → ProfilesTree observes hears Adds registry options whole tree tree_after watcher watcher_after [] shown → IsOfWriter fault

@@ -128,6 +128,7 @@ impl<O: SteadyWrite, M: SteadyWrite> CsvRecipient<'_, O, M> {
         self.write_rows()
     }
 
+    #[tactic(auto, using(crate::proofs::FewPending::few_lines))]
     fn write_full_lines(&mut self) -> Result<(), WriteFault>
         ensures rows { self.new.rows ≡ self.old.rows }
         ensures ok { OnOk result (GoesOn O.contents O.seen M.contents M.seen self.old [] [] self.new) }
@@ -145,6 +146,7 @@ impl<O: SteadyWrite, M: SteadyWrite> CsvRecipient<'_, O, M> {
     fn write_rows(&mut self) -> Result<(), WriteFault>
         ensures ok { OnOk result (GoesOn O.contents O.seen M.contents M.seen self.old [] [] self.new) }
         ensures emptied { OnOk result (self.new.rows ≡ []) }
+        ensures few { OnOk result (length self.new.rows < 65536) }
         ensures err { OnErr result (BreaksCsv O.contents O.seen O.room M.contents M.seen self.old [] [] self.new) }
         ensures flag { OnErr result (self.new.wrote_list ≡ false) }
     {
