@@ -1,11 +1,11 @@
 -- How the profile of a tree ends, with what was skipped.
-use Rattle.std.proofs.Common.{ℕ, Bool, List, [], Option, Result, Ok, Err}
+use Rattle.std.proofs.Common.{ℕ, Bool, List, Option, Result, Ok, Err}
 use Rattle.std.specs.Prelude.{IfErr, IfOk}
 use Rattle.droid_frame.specs.stream_types.seen.Seen.{Seen}
 use Rattle.droid_pronom.specs.Registry.{Contents}
 use Rattle.droid_tree.specs.Heard.{Heard}
 use Rattle.droid_tree.specs.Observation.{GoesOver, Observation}
-use Rattle.droid_profile_csv.specs.WrittenTrees.{After, Before, During, EndsWriting, WritesTree}
+use Rattle.droid_profile_csv.specs.WrittenTrees.{After, Before, During, EndsWriting, WritesTree, heard_in}
 use Rattle.droid_profile_csv.specs.declared.csv_fault.CsvFault.{CsvFault}
 use Rattle.droid_profile_csv.specs.declared.csv_recipient.CsvRecipient.{CsvRecipient}
 use Rattle.droid_profile_csv.specs.profile_types.profiler.Profiler.{Profiler}
@@ -18,10 +18,10 @@ use Rattle.droid_desk_profile.proofs.SkippedLines.{lines_noted}
 -- what a watcher learned of a profile that ended early
 module _ {T W M : Type 0} (observes : T → Observation → T → Type 0) (hears : W → Heard → W → Type 0) (list_contents : M → Option (List ℕ)) (registry : Contents) (options : Options) (fault : CsvFault)
     (tree tree_after : T) (watcher watcher_after : W) (csv csv_after : Option (List ℕ)) (manifest manifest_after : Option M) where
-  learned : EndsWriting observes hears list_contents registry options fault tree tree_after watcher watcher_after csv csv_after manifest manifest_after → (heard : List Heard) × GoesOver hears watcher heard watcher_after
-  learned (Before is same_tree same_watcher same_csv same_list) = ([], same_watcher)
-  learned (During shown why ends explains text list) = (ends.heard, ends.informed)
-  learned (After shown whole profiled is text list) = (profiled.heard, profiled.informed)
+  learned : (ends : EndsWriting observes hears list_contents registry options fault tree tree_after watcher watcher_after csv csv_after manifest manifest_after) → GoesOver hears watcher (heard_in ends) watcher_after
+  learned (Before is same_tree same_watcher same_csv same_list) = same_watcher
+  learned (During shown why ends explains text list) = ends.informed
+  learned (After shown whole profiled is text list) = profiled.informed
 
 module _ {T W S O M : Type 0} (observes : T → Observation → T → Type 0) (hears : W → Heard → W → Type 0)
     (skipped_contents : S → Option (List ℕ)) (skipped_seen : S → Seen) (skipped_room : S → Option ℕ)
@@ -42,7 +42,5 @@ module _ {T W S O M : Type 0} (observes : T → Observation → T → Type 0) (h
       (csv_contents old.recipient.csv) (csv_contents new.recipient.csv) old.recipient.manifest new.recipient.manifest early in
       record {
         tree = early;
-        heard = known.0;
-        informed = known.1;
-        lines = lines_noted skipped_contents skipped_seen skipped_room hears known.0 old.watcher new.watcher known.1;
+        lines = lines_noted skipped_contents skipped_seen skipped_room hears (heard_in early) old.watcher new.watcher known;
       }

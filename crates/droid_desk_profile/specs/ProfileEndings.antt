@@ -44,7 +44,6 @@ output_fault_text outputs.Refused = codes "Output"
 abbrev pub csv_fault_text : CsvFault → List ℕ
 csv_fault_text faults.Memory = codes "Memory"
 csv_fault_text faults.Numbers = codes "Numbers"
-csv_fault_text faults.Turns = codes "Turns"
 csv_fault_text (faults.Csv why) = codes "Write"
 csv_fault_text (faults.Manifest why) = codes "Write"
 

@@ -3,9 +3,9 @@ use Rattle.std.specs.Prelude.{◌≡◌, ℕ, Bool, List, Option, Some, None, Re
 use Rattle.droid_frame.specs.Seen.{IsSound}
 use Rattle.droid_frame.specs.stream_types.seen.Seen.{Seen}
 use Rattle.droid_tree.specs.Heard.{Heard}
-use Rattle.droid_tree.specs.Observation.{Observation, GoesOver}
+use Rattle.droid_tree.specs.Observation.{Observation}
 use Rattle.droid_profile_csv.specs.profile_types.profiler.Profiler.{Profiler}
-use Rattle.droid_profile_csv.specs.WrittenTrees.{EndsWriting, ReportsCsv, ReportsList, WritesTree}
+use Rattle.droid_profile_csv.specs.WrittenTrees.{EndsWriting, ReportsCsv, ReportsList, WritesTree, heard_in}
 use Rattle.droid_profile_csv.specs.declared.csv_fault.CsvFault.{CsvFault}
 use Rattle.droid_profile_csv.specs.declared.csv_recipient.CsvRecipient.{CsvRecipient}
 use Rattle.droid_profile_csv.specs.types.options.Options.{Options}
@@ -41,9 +41,7 @@ module _ {T W S O M : Type 0} (observes : T → Observation → T → Type 0) (h
   pub record EndsFolder (fault : CsvFault) (old new : Made) : Type 0 where
     pub tree : EndsWriting observes Hears list_contents old.recipient.registry.now options fault old.tree new.tree old.watcher new.watcher
         (csv_contents old.recipient.csv) (csv_contents new.recipient.csv) old.recipient.manifest new.recipient.manifest
-    pub heard : List Heard
-    pub informed : GoesOver Hears old.watcher heard new.watcher
-    pub lines : HasLines skipped_contents skipped_seen skipped_room old.watcher.file new.watcher.file heard
+    pub lines : HasLines skipped_contents skipped_seen skipped_room old.watcher.file new.watcher.file (heard_in tree)
 
   abbrev pub EndsBy : Result Bool CsvFault → Made → Made → Type 0
   EndsBy (Ok whole) old new = WritesFolder whole old new

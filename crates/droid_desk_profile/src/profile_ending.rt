@@ -101,7 +101,6 @@ fn csv_fault_name(fault: CsvFault) -> &'static str
     match fault {
         CsvFault::Memory => "Memory",
         CsvFault::Numbers => "Numbers",
-        CsvFault::Turns => "Turns",
         CsvFault::Csv(_) | CsvFault::Manifest(_) => "Write",
     }
 }

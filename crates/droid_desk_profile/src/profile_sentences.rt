@@ -49,13 +49,6 @@ impl ProfileEnding {
                     "too large: take its subfolders one by one",
                 )
             }
-            ProfileEnding::Fault(CsvFault::Turns) => {
-                print_folder(
-                    rt,
-                    options.folder,
-                    "a file had no end: this is a mistake in droid_desk",
-                )
-            }
         }
     }
 }

@@ -30,7 +30,9 @@ front_of_memory hears takes fails entries records watcher recipient = record {
   heard = [];
   are_first = record { rest = entries; are = refl };
   informed = refl;
-  taken = Took [] (record { rest = records; are = refl }) refl (λ why is. absurd cc);
+  given = [];
+  taken = Took (record { rest = records; are = refl }) refl (λ why is. absurd cc);
+  reported = refl;
   explained = inl refl;
 }
 
@@ -41,7 +43,9 @@ front_of_recipient hears takes fails entries shown more why fault watcher recipi
   heard = [];
   are_first = record { rest = entries; are = refl };
   informed = refl;
-  taken = Failed [] shown recipient why (record { rest = more; are = refl }) refl failed is;
+  given = [];
+  taken = Failed shown recipient why (record { rest = more; are = refl }) refl failed is;
+  reported = refl;
   explained = inr (why, is);
 }
 

@@ -1,18 +1,19 @@
 -- What is handed out one after the other.
-use Rattle.std.proofs.Common.{◌≡◌, ℕ, ◌+◌, ◌<◌, ◌&&◌, Bool, true, List, [], ◌∷◌, ◌++◌, length, take, drop, get_or, append_assoc, take-append-drop, refl, sym, ap, ap₂, subst, ◌∙◌}
-use Rattle.std.specs.List.{flat_map}
+use Rattle.std.proofs.Common.{◌≡◌, ℕ, ◌+◌, ◌<◌, ◌&&◌, Bool, true, List, [], ◌∷◌, ◌++◌, length, take, drop, get_or, append_assoc, take-append-drop, length-append, refl, sym, ap, ap₂, subst, ◌∙◌, arith}
+use Rattle.std.specs.List.{count_by, flat_map}
 use Rattle.std.proofs.lemmas.List.{drop_more, take_more}
 use Rattle.std.proofs.lemmas.List.Concat.{flat_map-append}
 use Rattle.std.proofs.lemmas.List.Folds.{list_all-append}
 use Rattle.droid_frame.specs.types.record.Record.{Record}
 use Rattle.droid_tree.specs.Heard.{Heard}
 use Rattle.droid_tree.specs.Observation.{GoesOver}
-use Rattle.droid_profile_spec.specs.EarlyEnds.{AreFirst, TakesFirst, Took, Failed}
+use Rattle.droid_profile_spec.specs.EarlyEnds.{AreFirst, TakesFirst, Took, Failed, is_of_record}
 use Rattle.droid_profile_spec.specs.declared.fault.ProfileFault.{ProfileFault}
 use Rattle.droid_profile_spec.specs.declared.recipient.RecipientFault.{RecipientFault}
 use Rattle.droid_profile_spec.proofs.VisitSteps.{given_more}
 use Rattle.droid_profile_files.proofs.BatchEnds.{over_more}
 use Rattle.droid_profile_rows.specs.RowsTaken.{is_kept}
+use Rattle.droid_profile_rows.proofs.StepsMade.{counts_append}
 use Rattle.droid_profile.specs.HandedOut.{Hands, HandsFront}
 
 -- ---- the first of a list
@@ -29,19 +30,25 @@ split_at {A = A} {B = B} f xs i x within is =
     ∙ (flat_map-append f (take i xs) (drop i xs)
     ∙ ap (λ (l : List B). flat_map f (take i xs) ++ l) (ap (flat_map f) (drop_more xs i x within ∙ ap (λ (y : A). y ∷ drop (i + 1) xs) (sym is))))
 
+-- as many reports of records as records
+pub all_counted : {A : Type 0} (entries_of : A → List Heard) (records_of : A → List Record) → ((its : A) → count_by is_of_record (entries_of its) ≡ length (records_of its)) → (xs : List A) → count_by is_of_record (flat_map entries_of xs) ≡ length (flat_map records_of xs)
+all_counted entries_of records_of counts [] = refl
+all_counted entries_of records_of counts (x ∷ xs) =
+    omega (arith, counts_append is_of_record (entries_of x) (flat_map entries_of xs), length-append (records_of x) (flat_map records_of xs), counts x, all_counted entries_of records_of counts xs)
+
 -- ---- records
 
 module _ {R : Type 0} (takes : R → Record → R → Type 0) (fails : R → Record → RecipientFault → R → Type 0) (fault : ProfileFault) where
-  pub takes_after : (given records : List Record) (start old new : R) → GoesOver takes start given old → TakesFirst takes fails fault records old new → TakesFirst takes fails fault (given ++ records) start new
-  takes_after given records start old new before (Took taken first goes not) = Took (given ++ taken) (first_after given taken records first) (over_more takes start old new given taken before goes) not
-  takes_after given records start old new before (Failed taken next reached why first goes failed is) =
-      Failed (given ++ taken) next reached why
+  pub takes_after : (given records taken : List Record) (start old new : R) → GoesOver takes start given old → TakesFirst takes fails fault records taken old new → TakesFirst takes fails fault (given ++ records) (given ++ taken) start new
+  takes_after given records taken start old new before (Took first goes not) = Took (first_after given taken records first) (over_more takes start old new given taken before goes) not
+  takes_after given records taken start old new before (Failed next reached why first goes failed is) =
+      Failed next reached why
       (subst (λ (l : List Record). AreFirst l (given ++ records)) (sym (append_assoc given taken (next ∷ []))) (first_after given (taken ++ next ∷ []) records first))
       (over_more takes start old reached given taken before goes) failed is
 
-  pub takes_of_more : (records more : List Record) (old new : R) → TakesFirst takes fails fault records old new → TakesFirst takes fails fault (records ++ more) old new
-  takes_of_more records more old new (Took taken first goes not) = Took taken (first_of_more taken records more first) goes not
-  takes_of_more records more old new (Failed taken next reached why first goes failed is) = Failed taken next reached why (first_of_more (taken ++ next ∷ []) records more first) goes failed is
+  pub takes_of_more : (records more taken : List Record) (old new : R) → TakesFirst takes fails fault records taken old new → TakesFirst takes fails fault (records ++ more) taken old new
+  takes_of_more records more taken old new (Took first goes not) = Took (first_of_more taken records more first) goes not
+  takes_of_more records more taken old new (Failed next reached why first goes failed is) = Failed next reached why (first_of_more (taken ++ next ∷ []) records more first) goes failed is
 
 -- ---- rows
 
@@ -59,13 +66,15 @@ module _ {W R : Type 0} (hears : W → Heard → W → Type 0) (takes : R → Re
   }
 
   pub front_after : (fails : R → Record → RecipientFault → R → Type 0) (fault : ProfileFault) (entries more : List Heard) (records after : List Record) (kept : Bool) (watcher watcher_now watcher_after : W) (recipient recipient_now recipient_after : R)
-      → Hands hears takes entries records kept watcher watcher_now recipient recipient_now → HandsFront hears takes fails more after fault watcher_now watcher_after recipient_now recipient_after
+      → count_by is_of_record entries ≡ length records → Hands hears takes entries records kept watcher watcher_now recipient recipient_now → HandsFront hears takes fails more after fault watcher_now watcher_after recipient_now recipient_after
       → HandsFront hears takes fails (entries ++ more) (records ++ after) fault watcher watcher_after recipient recipient_after
-  front_after fails fault entries more records after kept watcher watcher_now watcher_after recipient recipient_now recipient_after first front = record {
+  front_after fails fault entries more records after kept watcher watcher_now watcher_after recipient recipient_now recipient_after counts first front = record {
     heard = entries ++ front.heard;
     are_first = first_after entries front.heard more front.are_first;
     informed = over_more hears watcher watcher_now watcher_after entries front.heard first.informed front.informed;
-    taken = takes_after takes fails fault records after recipient recipient_now recipient_after first.taken front.taken;
+    given = records ++ front.given;
+    taken = takes_after takes fails fault records after front.given recipient recipient_now recipient_after first.taken front.taken;
+    reported = omega (arith, counts_append is_of_record entries front.heard, length-append records front.given, counts, front.reported);
     explained = front.explained;
   }
 
@@ -75,7 +84,9 @@ module _ {W R : Type 0} (hears : W → Heard → W → Type 0) (takes : R → Re
     heard = front.heard;
     are_first = first_of_more front.heard entries more front.are_first;
     informed = front.informed;
-    taken = takes_of_more takes fails fault records after recipient recipient_after front.taken;
+    given = front.given;
+    taken = takes_of_more takes fails fault records after front.given recipient recipient_after front.taken;
+    reported = front.reported;
     explained = front.explained;
   }
 
@@ -95,11 +106,11 @@ module _ {W R : Type 0} (hears : W → Heard → W → Type 0) (takes : R → Re
         one_more {B = B} f = ap (flat_map f) (take_more rows i row within ∙ ap (λ (y : A). take i rows ++ y ∷ []) (sym is)) ∙ given_more f (take i rows) row
 
     -- the next row was not handed out
-    pub front_row : (fails : R → Record → RecipientFault → R → Type 0) (fault : ProfileFault) → HandsFront hears takes fails (entries_of row) (records_of row) fault watcher_now watcher_after recipient_now recipient_after
+    pub front_row : (fails : R → Record → RecipientFault → R → Type 0) (fault : ProfileFault) → ((its : A) → count_by is_of_record (entries_of its) ≡ length (records_of its)) → HandsFront hears takes fails (entries_of row) (records_of row) fault watcher_now watcher_after recipient_now recipient_after
         → HandsFront hears takes fails (flat_map entries_of rows) (flat_map records_of rows) fault watcher watcher_after recipient recipient_after
-    front_row fails fault front =
+    front_row fails fault counts front =
         subst (λ (l : List Heard). HandsFront hears takes fails l (flat_map records_of rows) fault watcher watcher_after recipient recipient_after) (sym (split_at entries_of rows i row within is))
         (subst (λ (l : List Record). HandsFront hears takes fails (flat_map entries_of (take i rows) ++ (entries_of row ++ flat_map entries_of (drop (i + 1) rows))) l fault watcher watcher_after recipient recipient_after) (sym (split_at records_of rows i row within is))
         (front_after fails fault (flat_map entries_of (take i rows)) (entries_of row ++ flat_map entries_of (drop (i + 1) rows)) (flat_map records_of (take i rows)) (records_of row ++ flat_map records_of (drop (i + 1) rows)) kept
-        watcher watcher_now watcher_after recipient recipient_now recipient_after first
+        watcher watcher_now watcher_after recipient recipient_now recipient_after (all_counted entries_of records_of counts (take i rows)) first
         (front_of_more fails fault (entries_of row) (flat_map entries_of (drop (i + 1) rows)) (records_of row) (flat_map records_of (drop (i + 1) rows)) watcher_now watcher_after recipient_now recipient_after front)))

@@ -1,5 +1,5 @@
 -- How a profile goes on, batch after batch, and ends.
-use Rattle.std.proofs.Common.{◌≡◌, ◌⊎◌, inl, inr, ℕ, ◌&&◌, Bool, true, List, [], ◌∷◌, ◌++◌, map, filter, reverse, append-nil, refl, sym, ap, ap₂, subst, ◌∙◌, arith}
+use Rattle.std.proofs.Common.{◌≡◌, ◌⊎◌, inl, inr, ℕ, ◌&&◌, Bool, true, List, [], ◌∷◌, ◌++◌, map, filter, reverse, append-nil, length, length-append, ◌+◌, ◌≤◌, refl, sym, ap, ap₂, subst, ◌∙◌, arith}
 use Rattle.std.specs.List.{flat_map, list_all, AllByRecursion}
 use Rattle.std.proofs.lemmas.Bool.Decides.{eqb_tells}
 use Rattle.std.proofs.lemmas.List.{map-append}
@@ -12,6 +12,7 @@ use Rattle.droid_tree.specs.Observation.{Observation, GoesOver}
 use Rattle.droid_tree.specs.Paths.{top}
 use Rattle.droid_tree.specs.declared.folder_entry.FolderEntry.{FolderEntry}
 use Rattle.droid_profile_spec.specs.Calls.{Call, OfFolder, folder_calls, folder_observed, heard_of_call, heard_of_calls, observation_of, reads_of}
+use Rattle.droid_profile_spec.specs.EarlyEnds.{is_of_record}
 use Rattle.droid_profile_spec.specs.Profiles.{AreCallsOf, ProfilesTree, is_of_entry}
 use Rattle.droid_profile_spec.specs.Readings.{IsReading, unread}
 use Rattle.droid_profile_spec.specs.Visits.{Visit, InTurn, IsBegun, IsVisit}
@@ -22,13 +23,15 @@ use Rattle.droid_profile_files.specs.declared.file_row.FileRow.{FileRow}
 use Rattle.droid_profile_files.proofs.BatchEnds.{over_more}
 use Rattle.droid_profile_files.proofs.ReadsSplit.{reads_append}
 use Rattle.droid_profile_rows.specs.RowsTaken.{HaveEnded, Readings, heard_of_row, is_kept, reads_of_files, records_of_row}
-use Rattle.droid_profile_rows.specs.ScanFits.{IsOpen, NoneOpen, ScanFits, Takes, TakesMore, Visited}
+use Rattle.droid_profile_rows.specs.ScanFits.{AddsFew, IsOpen, NoneOpen, ScanFits, Takes, TakesMore, Visited}
 use Rattle.droid_profile_rows.specs.declared.row.Row.{Row}
 use Rattle.droid_profile_rows.specs.declared.scan.Scan.{Scan}
+use Rattle.droid_profile_rows.proofs.StepsMade.{counts_append}
 use Rattle.droid_profile.specs.HandedOut.{AreSettled, Hands}
 use Rattle.droid_profile.specs.Walking.{StandsAt}
 use Rattle.droid_profile.proofs.ChosenReadings.{ReadLike, all_from_places, none_there, read_as}
 use Rattle.droid_profile.proofs.ReportKinds.{folders_observed, folders_unheard, of_rows, entries_then, bytes_then}
+use Rattle.droid_profile.proofs.Waiting.{bytes_uncounted, rows_counted, visits_reported}
 use Rattle.droid_profile.proofs.WholeVisits.{visits_kept}
 
 -- ---- no file read yet
@@ -66,8 +69,27 @@ calls_of registry options readings calls reads heard given scan rows files visit
 }
 
 module _ {T W R : Type 0} (observes : T → Observation → T → Type 0) (hears : W → Heard → W → Type 0) (takes : R → Record → R → Type 0) (registry : Contents) (options : Options) where
-  pub stands_at_first : (scan : Scan) (tree : T) (watcher : W) (recipient : R) → ScanFits registry options [] [] [] scan [] [] → StandsAt observes hears takes registry options true scan [] [] tree tree watcher watcher recipient recipient
-  stands_at_first scan tree watcher recipient fits = record { calls = []; heard = []; given = []; fits = fits; bytes = refl; whole_is = refl; observed = refl; informed = refl; taken = refl }
+  pub stands_at_first : (scan : Scan) (tree : T) (watcher : W) (recipient : R) → scan.number ≡ 0 → ScanFits registry options [] [] [] scan [] [] → StandsAt observes hears takes registry options true scan [] [] tree tree watcher watcher recipient recipient
+  stands_at_first scan tree watcher recipient none fits = record {
+    calls = [];
+    heard = [];
+    given = [];
+    fits = fits;
+    bytes = refl;
+    whole_is = refl;
+    observed = refl;
+    informed = refl;
+    taken = refl;
+    reported = refl;
+    few_rows = omega arith;
+    few_numbers = omega (arith, none);
+  }
+
+  -- if no rows are left, all that has a number was reported
+  all_reported : (whole : Bool) (scan : Scan) (start tree : T) (begun watcher : W) (first recipient : R) (on : StandsAt observes hears takes registry options whole scan [] [] start tree begun watcher first recipient) → scan.number ≤ length (filter is_of_entry on.heard)
+  all_reported whole scan start tree begun watcher first recipient on =
+      let visited = on.fits.visited none_read tt in
+      omega (arith, visited.counted, visits_reported registry options visited.visits (visited.complete tt), ap length visited.entries, length-append (filter is_of_entry on.heard) [])
 
   -- more reads after those before
   pub observed_more : (calls reads : List Call) (start tree tree_after : T) → GoesOver observes start (map observation_of calls) tree → GoesOver observes tree (map observation_of reads) tree_after → GoesOver observes start (map observation_of (calls ++ reads)) tree_after
@@ -76,9 +98,10 @@ module _ {T W R : Type 0} (observes : T → Observation → T → Type 0) (hears
 
   -- ---- rows are taken
 
-  pub after_folders : (whole : Bool) (scan scan_after : Scan) (rows rows_after : List Row) (files files_after : List FileRow) (start tree tree_after : T) (begun watcher : W) (first recipient : R) (on : StandsAt observes hears takes registry options whole scan rows files start tree begun watcher first recipient)
-      → TakesMore observes registry options on.calls (filter is_of_entry on.heard) on.given scan_after rows_after files_after tree tree_after → StandsAt observes hears takes registry options whole scan_after rows_after files_after start tree_after begun watcher first recipient
-  after_folders whole scan scan_after rows rows_after files files_after start tree tree_after begun watcher first recipient on next = record {
+  pub after_folders : (whole : Bool) (scan scan_after : Scan) (rows_after : List Row) (files_after : List FileRow) (start tree tree_after : T) (begun watcher : W) (first recipient : R) (on : StandsAt observes hears takes registry options whole scan [] [] start tree begun watcher first recipient)
+      → TakesMore observes registry options on.calls (filter is_of_entry on.heard) on.given scan_after rows_after files_after tree tree_after → AddsFew 8192 scan scan_after [] rows_after
+      → StandsAt observes hears takes registry options whole scan_after rows_after files_after start tree_after begun watcher first recipient
+  after_folders whole scan scan_after rows_after files_after start tree tree_after begun watcher first recipient on next few = record {
     calls = on.calls ++ map OfFolder next.more;
     heard = on.heard;
     given = on.given;
@@ -88,12 +111,19 @@ module _ {T W R : Type 0} (observes : T → Observation → T → Type 0) (hears
     observed = observed_more on.calls (map OfFolder next.more) start tree tree_after on.observed (subst (λ (l : List Observation). GoesOver observes tree l tree_after) (sym (folders_observed next.more)) next.observed);
     informed = on.informed;
     taken = on.taken;
+    reported = on.reported;
+    few_rows = few.rows;
+    few_numbers = omega (arith, few.numbers, all_reported whole scan start tree begun watcher first recipient on);
   }
 
-  pub rows_taken : (whole : Bool) (scan scan_after : Scan) (rows rows_after : List Row) (files files_after : List FileRow) (start tree tree_after : T) (begun watcher : W) (first recipient : R) → Takes observes scan scan_after rows rows_after files files_after tree tree_after
-      → StandsAt observes hears takes registry options whole scan rows files start tree begun watcher first recipient → StandsAt observes hears takes registry options whole scan_after rows_after files_after start tree_after begun watcher first recipient
-  rows_taken whole scan scan_after rows rows_after files files_after start tree tree_after begun watcher first recipient took on =
-      after_folders whole scan scan_after rows rows_after files files_after start tree tree_after begun watcher first recipient on (took registry options on.calls (filter is_of_entry on.heard) on.given on.fits)
+  pub rows_taken : (whole : Bool) (scan scan_after : Scan) (rows rows_after : List Row) (files files_after : List FileRow) (start tree tree_after : T) (begun watcher : W) (first recipient : R) → rows ≡ [] → files ≡ []
+      → Takes observes scan scan_after rows rows_after files files_after tree tree_after → AddsFew 8192 scan scan_after rows rows_after
+      → StandsAt observes hears takes registry options whole scan [] [] start tree begun watcher first recipient → StandsAt observes hears takes registry options whole scan_after rows_after files_after start tree_after begun watcher first recipient
+  rows_taken whole scan scan_after rows rows_after files files_after start tree tree_after begun watcher first recipient none no_files took few on =
+      let takes_from : Takes observes scan scan_after [] rows_after [] files_after tree tree_after =
+      subst (λ (l : List Row). Takes observes scan scan_after l rows_after [] files_after tree tree_after) none (subst (λ (l : List FileRow). Takes observes scan scan_after rows rows_after l files_after tree tree_after) no_files took) in
+      after_folders whole scan scan_after rows_after files_after start tree tree_after begun watcher first recipient on (takes_from registry options on.calls (filter is_of_entry on.heard) on.given on.fits)
+      (subst (λ (l : List Row). AddsFew 8192 scan scan_after l rows_after) none few)
 
   -- ---- a batch is read and handed out
 
@@ -144,6 +174,17 @@ module _ {T W R : Type 0} (observes : T → Observation → T → Type 0) (hears
         observed = observed_more on.calls all.calls start tree tree_after on.observed all.observed;
         informed = over_more hears begun watcher_read watcher_after (on.heard ++ heard_of_calls all.calls) entries (over_more hears begun watcher watcher_read on.heard (heard_of_calls all.calls) on.informed all.heard) handed.informed;
         taken = over_more takes first recipient recipient_after on.given records on.taken handed.taken;
+        reported = omega (
+          arith,
+          counts_append is_of_record (on.heard ++ heard_of_calls all.calls) entries,
+          counts_append is_of_record on.heard (heard_of_calls all.calls),
+          bytes_uncounted all.calls,
+          rows_counted registry options read.readings files rows,
+          length-append on.given records,
+          on.reported,
+        );
+        few_rows = omega arith;
+        few_numbers = omega (arith, on.few_numbers, ap length are, length-append (filter is_of_entry on.heard) entries);
       }
 
   -- ---- all is taken

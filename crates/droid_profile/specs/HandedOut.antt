@@ -1,11 +1,11 @@
 -- What is handed out of rows.
-use Rattle.std.specs.Prelude.{◌≡◌, ◌⊎◌, ℕ, Bool, List, Some, slice_get}
-use Rattle.std.specs.List.{list_all}
+use Rattle.std.specs.Prelude.{◌≡◌, ◌⊎◌, ℕ, Bool, List, Some, length, slice_get}
+use Rattle.std.specs.List.{count_by, list_all}
 use Rattle.droid_frame.specs.types.record.Record.{Record}
 use Rattle.droid_pronom.specs.Registry.{Contents}
 use Rattle.droid_tree.specs.Heard.{Heard}
 use Rattle.droid_tree.specs.Observation.{GoesOver}
-use Rattle.droid_profile_spec.specs.EarlyEnds.{AreFirst, TakesFirst}
+use Rattle.droid_profile_spec.specs.EarlyEnds.{AreFirst, TakesFirst, is_of_record}
 use Rattle.droid_profile_spec.specs.declared.fault.ProfileFault.{ProfileFault}
 use Rattle.droid_profile_spec.specs.declared.fault.ProfileFault.TheVariants as faults
 use Rattle.droid_profile_spec.specs.declared.options.Options.{Options}
@@ -32,10 +32,12 @@ pub record Hands {W R : Type 0} (hears : W → Heard → W → Type 0) (takes : 
   pub kept_is : kept ≡ list_all is_kept entries
 
 -- The handing out ended early: memory ran out, or the recipient did not take a record. The watcher was informed of the
--- first of this, and the recipient took the first of these records.
+-- first of this, and the recipient took the first of these records: as many as were reported.
 pub record HandsFront {W R : Type 0} (hears : W → Heard → W → Type 0) (takes : R → Record → R → Type 0) (fails : R → Record → RecipientFault → R → Type 0) (entries : List Heard) (records : List Record) (fault : ProfileFault) (watcher watcher_after : W) (recipient recipient_after : R) : Type 0 where
   pub heard : List Heard
   pub are_first : AreFirst heard entries
   pub informed : GoesOver hears watcher heard watcher_after
-  pub taken : TakesFirst takes fails fault records recipient recipient_after
+  pub given : List Record
+  pub taken : TakesFirst takes fails fault records given recipient recipient_after
+  pub reported : count_by is_of_record heard ≡ length given
   pub explained : (fault ≡ faults.Memory) ⊎ ((why : RecipientFault) × (fault ≡ faults.Recipient why))

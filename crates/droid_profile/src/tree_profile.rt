@@ -40,7 +40,7 @@ pub fn profile<T: Tree, W: Watcher, R: Recipient>(
     let mut batch = Batch::new(profiler.alloc, options)?;
     let mut rows = Vec::new(profiler.alloc);
     let mut whole = true;
-    for _ in 0..u64::MAX {
+    'batches: loop {
         let more = take_rows(
             profiler.alloc,
             &mut profiler.tree,
@@ -54,7 +54,6 @@ pub fn profile<T: Tree, W: Watcher, R: Recipient>(
             return Ok(whole);
         }
     }
-    Err(ProfileFault::Turns)
 }
 
 /// Reads the files of a batch, and hands its rows out.

@@ -96,13 +96,6 @@ module _ {O M : Type 0} (contents : O → Option (List ℕ)) (seen : O → Seen)
     list_reports = list_lasts_on contents seen list_contents list_seen list_room (Err faults.Numbers) shown start middle new goes rest (λ old now left lasts. lasts);
     registry = rest.registry ∙ goes.registry;
   }
-  fronts_rest faults.Turns middle new goes rest = record {
-    csv = csv_written contents seen list_contents list_seen options shown start middle new begun goes rest;
-    list = list_written contents seen list_contents list_seen options shown start middle new begun goes rest;
-    csv_reports = csv_lasts contents seen list_contents list_seen shown start middle new goes rest;
-    list_reports = list_lasts_on contents seen list_contents list_seen list_room (Err faults.Turns) shown start middle new goes rest (λ old now left lasts. lasts);
-    registry = rest.registry ∙ goes.registry;
-  }
   fronts_rest (faults.Csv stopped) middle new goes rest =
       let joined = on-breaks_csv contents seen list_contents list_seen room start middle new rows lines [] [] goes rest in
       fronts_csv stopped new (subst (λ (l : List ℕ). BreaksCsv contents seen room list_contents list_seen start l lines new) (append-nil rows)
@@ -117,7 +110,6 @@ module _ {O M : Type 0} (contents : O → Option (List ℕ)) (seen : O → Seen)
       → EndsRest contents seen room list_contents list_seen list_room fault middle new → CsvAtEnd fault (contents start.csv) (contents new.csv) (csv_text start.registry.now options shown)
   csv_at_end faults.Memory middle new goes rest = csv_written contents seen list_contents list_seen options shown start middle new begun goes rest
   csv_at_end faults.Numbers middle new goes rest = csv_written contents seen list_contents list_seen options shown start middle new begun goes rest
-  csv_at_end faults.Turns middle new goes rest = csv_written contents seen list_contents list_seen options shown start middle new begun goes rest
   csv_at_end (faults.Csv stopped) middle new goes rest = (fronts_rest (faults.Csv stopped) middle new goes rest).csv
   csv_at_end (faults.Manifest stopped) middle new goes rest =
       rows_written contents seen options shown start middle new begun goes.csv
@@ -140,6 +132,5 @@ module _ {O M : Type 0} (contents : O → Option (List ℕ)) (seen : O → Seen)
       → AreFronts contents seen room list_contents list_seen list_room options shown fault start new
   fronts_walk walk_faults.Memory fault middle new leaves ends = fronts_rest fault middle new leaves (ends.rest (λ stopped same. cc))
   fronts_walk walk_faults.Numbers fault middle new leaves ends = fronts_rest fault middle new leaves (ends.rest (λ stopped same. cc))
-  fronts_walk walk_faults.Turns fault middle new leaves ends = fronts_rest fault middle new leaves (ends.rest (λ stopped same. cc))
   fronts_walk (walk_faults.Recipient recipient_faults.Memory) fault middle new leaves ends = fronts_rest fault middle new leaves (ends.rest (λ stopped same. cc))
   fronts_walk (walk_faults.Recipient (recipient_faults.Write stopped)) fault middle new leaves ends = stopped_at fault stopped middle new leaves (ends.writer stopped refl)

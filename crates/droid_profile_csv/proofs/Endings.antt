@@ -16,7 +16,7 @@ use Rattle.droid_profile_spec.specs.declared.fault.ProfileFault.TheVariants as w
 use Rattle.droid_profile_spec.specs.declared.options.Options.{Options}
 use Rattle.droid_profile_spec.specs.declared.recipient.RecipientFault.{RecipientFault}
 use Rattle.droid_profile_spec.specs.declared.recipient.RecipientFault.TheVariants as recipient_faults
-use Rattle.droid_profile_csv.specs.Taking.{BreaksOne, Fails, GoesOn, Takes}
+use Rattle.droid_profile_csv.specs.Taking.{BreaksOne, Fails, GoesOn, TakesSoon}
 use Rattle.droid_profile_csv.specs.Texts.{line_of}
 use Rattle.droid_profile_csv.specs.WrittenTrees.{Adds, AddsPart}
 use Rattle.droid_profile_csv.specs.declared.csv_recipient.CsvRecipient.{CsvRecipient}
@@ -54,7 +54,7 @@ profiled_list {registry = registry} {options = options} walk = record {
 listed : {T W R : Type 0} {observes : T → Observation → T → Type 0} {hears : W → Heard → W → Type 0} {takes : R → Record → R → Type 0} {fails : R → Record → RecipientFault → R → Type 0} {registry : Contents} {options : Options} {fault : ProfileFault}
     {tree tree_after : T} {watcher watcher_after : W} {recipient recipient_after : R}
     → (shown : List Record) → (walk : EndsEarly observes hears takes fails registry options fault tree tree_after watcher watcher_after recipient recipient_after)
-    → TakesFirst Adds AddsPart fault (records_of registry options walk.visits) [] shown
+    → TakesFirst Adds AddsPart fault (records_of registry options walk.visits) walk.given [] shown
     → EndsEarly observes hears Adds AddsPart registry options fault tree tree_after watcher watcher_after [] shown
 listed shown walk taken = record {
   visits = walk.visits;
@@ -69,9 +69,13 @@ listed shown walk taken = record {
   stands = walk.stands;
   heard = walk.heard;
   entries = walk.entries;
+  few_wait = walk.few_wait;
+  few_unreported = walk.few_unreported;
   bytes = walk.bytes;
   informed = walk.informed;
+  given = walk.given;
   taken = taken;
+  reported = walk.reported;
   all_numbers = walk.all_numbers;
 }
 
@@ -83,7 +87,6 @@ module _ {O M : Type 0} (contents : O → Option (List ℕ)) (seen : O → Seen)
   abbrev pub Leaves : CsvRecipient O M → List Record → ProfileFault → CsvRecipient O M → Type 0
   Leaves old shown walk_faults.Memory new = GoesOn contents seen list_contents list_seen old (flat_map (record_text old.registry.now) shown) (flat_map line_of shown) new
   Leaves old shown walk_faults.Numbers new = GoesOn contents seen list_contents list_seen old (flat_map (record_text old.registry.now) shown) (flat_map line_of shown) new
-  Leaves old shown walk_faults.Turns new = GoesOn contents seen list_contents list_seen old (flat_map (record_text old.registry.now) shown) (flat_map line_of shown) new
   Leaves old shown (walk_faults.Recipient recipient_faults.Memory) new = GoesOn contents seen list_contents list_seen old (flat_map (record_text old.registry.now) shown) (flat_map line_of shown) new
   Leaves old shown (walk_faults.Recipient (recipient_faults.Write fault)) new =
       BreaksOne contents seen room list_contents list_seen list_room old (flat_map (record_text old.registry.now) shown) (flat_map line_of shown) new
@@ -92,7 +95,6 @@ module _ {O M : Type 0} (contents : O → Option (List ℕ)) (seen : O → Seen)
       → GoesOn contents seen list_contents list_seen old (flat_map (record_text old.registry.now) shown) (flat_map line_of shown) new → Leaves old shown fault new
   leaves_took old new shown walk_faults.Memory none goes = goes
   leaves_took old new shown walk_faults.Numbers none goes = goes
-  leaves_took old new shown walk_faults.Turns none goes = goes
   leaves_took old new shown (walk_faults.Recipient recipient_faults.Memory) none goes = goes
   leaves_took old new shown (walk_faults.Recipient (recipient_faults.Write fault)) none goes = absurd (none (recipient_faults.Write fault) refl)
 
@@ -129,21 +131,21 @@ module _ {O M : Type 0} (contents : O → Option (List ℕ)) (seen : O → Seen)
     pub leaves : Leaves old shown fault new
 
   pub ends_listed : {T W : Type 0} (observes : T → Observation → T → Type 0) (hears : W → Heard → W → Type 0) (registry : Contents) (options : Options) (fault : ProfileFault) (tree tree_after : T) (watcher watcher_after : W) (old new : CsvRecipient O M)
-      → EndsEarly observes hears (Takes contents seen list_contents list_seen) (Fails contents seen room list_contents list_seen list_room) registry options fault tree tree_after watcher watcher_after old new
+      → EndsEarly observes hears (TakesSoon contents seen list_contents list_seen) (Fails contents seen room list_contents list_seen list_room) registry options fault tree tree_after watcher watcher_after old new
       → EndsListed observes hears registry options fault tree tree_after watcher watcher_after old new
   ends_listed {T} {W} observes hears registry options fault tree tree_after watcher watcher_after old new walk = by_taken walk.taken
     where
-      by_taken : TakesFirst (Takes contents seen list_contents list_seen) (Fails contents seen room list_contents list_seen list_room) fault (records_of registry options walk.visits) old new
+      by_taken : TakesFirst (TakesSoon contents seen list_contents list_seen) (Fails contents seen room list_contents list_seen list_room) fault (records_of registry options walk.visits) walk.given old new
           → EndsListed observes hears registry options fault tree tree_after watcher watcher_after old new
-      by_taken (Took taken first goes none) = record {
-        shown = taken;
-        ended = listed taken walk (Took taken first (goes_adds [] taken) none);
-        leaves = leaves_took old new taken fault none (takes_all contents seen list_contents list_seen old taken new goes);
+      by_taken (Took first goes none) = record {
+        shown = walk.given;
+        ended = listed walk.given walk (Took first (goes_adds [] walk.given) none);
+        leaves = leaves_took old new walk.given fault none (takes_all contents seen list_contents list_seen old walk.given new goes);
       }
-      by_taken (Failed taken next reached why first goes fails is) =
-          let part = leaves_failed old reached new taken next why (takes_all contents seen list_contents list_seen old taken reached goes) fails in
+      by_taken (Failed next reached why first goes fails is) =
+          let part = leaves_failed old reached new walk.given next why (takes_all contents seen list_contents list_seen old walk.given reached goes) fails in
           record {
             shown = part.shown;
-            ended = listed part.shown walk (Failed taken next taken why first (goes_adds [] taken) part.adds is);
+            ended = listed part.shown walk (Failed next walk.given why first (goes_adds [] walk.given) part.adds is);
             leaves = subst (λ (it : ProfileFault). Leaves old part.shown it new) (sym is) part.leaves;
           }

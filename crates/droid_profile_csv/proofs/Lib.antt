@@ -1,3 +1,4 @@
+pub mod FewPending
 pub mod Moments
 pub mod Stopping
 pub mod Takings

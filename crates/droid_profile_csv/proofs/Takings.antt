@@ -9,7 +9,7 @@ use Rattle.droid_frame.specs.types.record.Record.{Record}
 use Rattle.droid_export.specs.Text.{record_text}
 use Rattle.droid_pronom.specs.Registry.{Contents}
 use Rattle.droid_tree.specs.Observation.{GoesOver}
-use Rattle.droid_profile_csv.specs.Taking.{Breaks, BreaksCsv, BreaksList, BreaksOne, Goes, GoesOn, ListBreaks, ListGoes, Stays, Takes}
+use Rattle.droid_profile_csv.specs.Taking.{Breaks, BreaksCsv, BreaksList, BreaksOne, Goes, GoesOn, ListBreaks, ListGoes, Stays, TakesSoon}
 use Rattle.droid_profile_csv.specs.Texts.{line_of}
 use Rattle.droid_profile_csv.specs.declared.csv_recipient.CsvRecipient.{CsvRecipient}
 
@@ -174,9 +174,9 @@ module _ {O M : Type 0} (contents : O → Option (List ℕ)) (seen : O → Seen)
   abbrev pub TakesAll : CsvRecipient O M → List Record → CsvRecipient O M → Type 0
   TakesAll old records new = GoesOn contents seen list_contents list_seen old (flat_map (record_text old.registry.now) records) (flat_map line_of records) new
 
-  pub takes_all : (old : CsvRecipient O M) (records : List Record) (new : CsvRecipient O M) → GoesOver (Takes contents seen list_contents list_seen) old records new → TakesAll old records new
+  pub takes_all : (old : CsvRecipient O M) (records : List Record) (new : CsvRecipient O M) → GoesOver (TakesSoon contents seen list_contents list_seen) old records new → TakesAll old records new
   takes_all old [] new same = subst (λ (r : CsvRecipient O M). GoesOn contents seen list_contents list_seen old [] [] r) (sym same) (on-none old)
   takes_all old (next ∷ records) new steps =
       let rest = takes_all steps.0 records new steps.2 in
-      on-more old steps.0 new (record_text old.registry.now next) (line_of next) (flat_map (record_text old.registry.now) records) (flat_map line_of records) steps.1
-      (subst (λ (registry : Contents). GoesOn contents seen list_contents list_seen steps.0 (flat_map (record_text registry) records) (flat_map line_of records) new) steps.1.registry rest)
+      on-more old steps.0 new (record_text old.registry.now next) (line_of next) (flat_map (record_text old.registry.now) records) (flat_map line_of records) steps.1.0
+      (subst (λ (registry : Contents). GoesOn contents seen list_contents list_seen steps.0 (flat_map (record_text registry) records) (flat_map line_of records) new) steps.1.0.registry rest)

@@ -17,7 +17,7 @@ use Rattle.droid_profile_spec.proofs.SomeNodes.{tree_nodes}
 use Rattle.droid_profile_spec.specs.ProfileRecords.{records_of}
 use Rattle.droid_profile_spec.specs.Profiles.{ProfilesTree}
 use Rattle.droid_profile_spec.specs.declared.options.Options.{Options}
-use Rattle.droid_profile_csv.specs.Taking.{Goes, GoesOn, ListGoes, Takes, WritesRest}
+use Rattle.droid_profile_csv.specs.Taking.{Goes, GoesOn, ListGoes, TakesSoon, WritesRest}
 use Rattle.droid_profile_csv.specs.Texts.{csv_text, line_of, list_text}
 use Rattle.droid_profile_csv.specs.Writers.{LastsOn, Lists}
 use Rattle.droid_profile_csv.specs.WrittenTrees.{ReportsList, WritesTree}
@@ -77,7 +77,7 @@ module _ {O M : Type 0} (contents : O → Option (List ℕ)) (seen : O → Seen)
 
   pub writes_tree : {T W : Type 0} (observes : T → Observation → T → Type 0) (hears : W → Heard → W → Type 0) (options : Options) (whole : Bool) (tree tree_after : T) (watcher watcher_after : W) (start middle new : CsvRecipient O M)
       → IsBegun options start
-      → ProfilesTree observes hears (Takes contents seen list_contents list_seen) start.registry.now options whole tree tree_after watcher watcher_after start middle
+      → ProfilesTree observes hears (TakesSoon contents seen list_contents list_seen) start.registry.now options whole tree tree_after watcher watcher_after start middle
       → WritesRest contents seen list_contents list_seen middle new
       → WritesTree observes hears list_contents start.registry.now options whole tree tree_after watcher watcher_after (contents start.csv) (contents new.csv) start.manifest new.manifest
   writes_tree observes hears options whole tree tree_after watcher watcher_after start middle new begun walk rest =

@@ -81,6 +81,20 @@ BreaksOne contents seen room list_contents list_seen list_room old rows lines ne
 abbrev pub Takes : {O M : Type 0} → (O → Option (List ℕ)) → (O → Seen) → (M → Option (List ℕ)) → (M → Seen) → CsvRecipient O M → Record → CsvRecipient O M → Type 0
 Takes contents seen list_contents list_seen old next new = GoesOn contents seen list_contents list_seen old (record_text old.registry.now next) (line_of next) new
 
+-- if there is a list, fewer than 64 KiB of its lines are pending
+abbrev pub FewLines : {M : Type 0} → Option M → List ℕ → Type 0
+FewLines None lines = Unit {0}
+FewLines (Some writer) lines = length lines < 65536
+
+-- fewer than 64 KiB of the rows are pending, and of the lines
+pub record IsFew {O M : Type 0} (it : CsvRecipient O M) : Type 0 where
+  pub rows : length it.rows < 65536
+  pub lines : FewLines it.manifest it.lines.items
+
+-- the record was taken, and all was written by then but the last rows and lines
+abbrev pub TakesSoon : {O M : Type 0} → (O → Option (List ℕ)) → (O → Seen) → (M → Option (List ℕ)) → (M → Seen) → CsvRecipient O M → Record → CsvRecipient O M → Type 0
+TakesSoon contents seen list_contents list_seen old next new = Takes contents seen list_contents list_seen old next new × IsFew new
+
 -- nothing changed
 pub record Stays {O M : Type 0} (old new : CsvRecipient O M) : Type 0 where
   pub registry : new.registry.now ≡ old.registry.now

@@ -5,6 +5,7 @@ use Rattle.droid_core_spec.specs.Records.{records}
 use Rattle.droid_core_spec.specs.Setting.{Setting}
 use Rattle.droid_core_spec.specs.World.{Node}
 use Rattle.droid_frame.specs.Seen.{IsSound}
+use Rattle.droid_frame.specs.stream_types.fault.WriteFault.{WriteFault}
 use Rattle.droid_frame.specs.stream_types.seen.Seen.{Seen}
 use Rattle.droid_frame.specs.types.record.Record.{Record}
 use Rattle.droid_pronom.specs.Registry.{Contents}
@@ -53,8 +54,16 @@ AddsPart old next (recipient_faults.Write fault) new = new ≡ old ++ next ∷ [
 abbrev pub Explains : ProfileFault → CsvFault → Type 0
 Explains why faults.Memory = (why ≡ walk_faults.Memory) ⊎ (why ≡ walk_faults.Recipient recipient_faults.Memory)
 Explains why faults.Numbers = why ≡ walk_faults.Numbers
-Explains why faults.Turns = why ≡ walk_faults.Turns
 Explains why _ = Unit {0}
+
+-- if a writer stopped in the walk, its fault is returned as it was
+abbrev pub IsOfStop : ProfileFault → WriteFault → Type 0
+IsOfStop why fault = (stopped : WriteFault) → why ≡ walk_faults.Recipient (recipient_faults.Write stopped) → fault ≡ stopped
+
+abbrev pub KeepsStop : ProfileFault → CsvFault → Type 0
+KeepsStop why (faults.Csv fault) = IsOfStop why fault
+KeepsStop why (faults.Manifest fault) = IsOfStop why fault
+KeepsStop why _ = Unit {0}
 
 -- a writer stopped
 abbrev pub IsOfWriter : CsvFault → Type 0
@@ -85,12 +94,20 @@ pub data EndsWriting {T W M : Type 0} (observes : T → Observation → T → Ty
     (tree tree_after : T) (watcher watcher_after : W) (csv csv_after : Option (List ℕ)) (manifest manifest_after : Option M) : Type 0 where
   Before : fault ≡ faults.Memory → tree_after ≡ tree → watcher_after ≡ watcher → csv_after ≡ csv → manifest_after ≡ manifest
       → EndsWriting observes hears list_contents registry options fault tree tree_after watcher watcher_after csv csv_after manifest manifest_after
-  During : (shown : List Record) (why : ProfileFault) → EndsEarly observes hears Adds AddsPart registry options why tree tree_after watcher watcher_after [] shown → Explains why fault
+  During : (shown : List Record) (why : ProfileFault) → EndsEarly observes hears Adds AddsPart registry options why tree tree_after watcher watcher_after [] shown → Explains why fault × KeepsStop why fault
       → CsvIsFront fault csv csv_after (csv_text registry options shown) → ListIsFront list_contents fault manifest manifest_after (list_text shown)
       → EndsWriting observes hears list_contents registry options fault tree tree_after watcher watcher_after csv csv_after manifest manifest_after
   After : (shown : List Record) (whole : Bool) → ProfilesTree observes hears Adds registry options whole tree tree_after watcher watcher_after [] shown → IsOfWriter fault
       → CsvAtEnd fault csv csv_after (csv_text registry options shown) → ListIsFront list_contents fault manifest manifest_after (list_text shown)
       → EndsWriting observes hears list_contents registry options fault tree tree_after watcher watcher_after csv csv_after manifest manifest_after
+
+-- what the watcher learned of a profile that ended early
+abbrev pub heard_in : {T W M : Type 0} {observes : T → Observation → T → Type 0} {hears : W → Heard → W → Type 0} {list_contents : M → Option (List ℕ)} {registry : Contents} {options : Options} {fault : CsvFault}
+    {tree tree_after : T} {watcher watcher_after : W} {csv csv_after : Option (List ℕ)} {manifest manifest_after : Option M}
+    → EndsWriting observes hears list_contents registry options fault tree tree_after watcher watcher_after csv csv_after manifest manifest_after → List Heard
+heard_in (Before is same_tree same_watcher same_csv same_list) = []
+heard_in (During shown why ends explains text list) = ends.heard
+heard_in (After shown whole profiled is text list) = profiled.heard
 
 -- ---- which writer stopped
 

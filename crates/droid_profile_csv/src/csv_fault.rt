@@ -8,7 +8,7 @@ use thiserror::Error;
 
 /// Why the profile of a tree was not written, or only in part.
 ///
-/// After a fault of the first three kinds, all rows and lines of the records that were taken are written.
+/// After a fault of the first two kinds, all rows and lines of the records that were taken are written.
 #[derive(Clone, Copy, Debug, PartialEq, Eq, Error)]
 pub enum CsvFault {
     /// Out of memory.
@@ -17,9 +17,6 @@ pub enum CsvFault {
     /// There are more than 4,294,967,295 folders and files.
     #[error("there are too many folders and files")]
     Numbers,
-    /// A file had no end.
-    #[error("a file had no end")]
-    Turns,
     /// The CSV could not be written. The fault counts the bytes of the last write.
     #[error("the CSV could not be written")]
     Csv(WriteFault),

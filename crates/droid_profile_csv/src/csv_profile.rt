@@ -65,7 +65,6 @@ fn end_early<O: SteadyWrite, M: SteadyWrite>(
     let fault = match fault {
         ProfileFault::Memory => CsvFault::Memory,
         ProfileFault::Numbers => CsvFault::Numbers,
-        ProfileFault::Turns => CsvFault::Turns,
         ProfileFault::Recipient(RecipientFault::Memory) => CsvFault::Memory,
         ProfileFault::Recipient(RecipientFault::Write(stopped)) => {
             return fault_of(recipient.wrote_list, stopped);

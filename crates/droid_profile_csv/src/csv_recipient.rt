@@ -1,10 +1,10 @@
 //! A recipient that writes records as CSV, and the checksums of files as a list.
 
-ghost use Rattle.std.specs.Prelude.{◌≡◌, ◌++◌, ℕ, List, [], true, false, IfErr, IsTrue, OnErr, OnOk};
+ghost use Rattle.std.specs.Prelude.{◌≡◌, ◌<◌, ◌++◌, ℕ, List, [], true, false, IfErr, IsTrue, OnErr, OnOk, length};
 ghost use Rattle.droid_core_spec.specs.Conditions.{is_moment};
 ghost use Rattle.droid_export.specs.Rows.{header};
 ghost use Rattle.droid_export.specs.Text.{row_text};
-ghost use Rattle.droid_profile_csv.specs.Taking.{BreaksCsv, BreaksList, BreaksOne, EndsRest, Fails, GoesOn, LinesGrow, ListBreaks, ListGoes, Stays, Takes, WritesRest};
+ghost use Rattle.droid_profile_csv.specs.Taking.{BreaksCsv, BreaksList, BreaksOne, EndsRest, Fails, FewLines, GoesOn, IsFew, LinesGrow, ListBreaks, ListGoes, Stays, Takes, TakesSoon, WritesRest};
 ghost use Rattle.droid_profile_csv.specs.Texts.{line_of};
 ghost use Rattle.droid_profile_csv.specs.WrittenTrees.{IsOfWriter};
 
@@ -109,6 +109,7 @@ impl<O: SteadyWrite, M: SteadyWrite> CsvRecipient<'_, O, M> {
     /// Writes the rows and the lines if enough of them are pending.
     fn write_full(&mut self) -> Result<(), WriteFault>
         ensures ok { OnOk result (GoesOn O.contents O.seen M.contents M.seen self.old [] [] self.new) }
+        ensures few { OnOk result (IsFew self.new) }
         ensures err { OnErr result (BreaksOne O.contents O.seen O.room M.contents M.seen M.room self.old [] [] self.new) }
     {
         self.write_full_rows()?;
@@ -117,6 +118,7 @@ impl<O: SteadyWrite, M: SteadyWrite> CsvRecipient<'_, O, M> {
 
     fn write_full_rows(&mut self) -> Result<(), WriteFault>
         ensures ok { OnOk result (GoesOn O.contents O.seen M.contents M.seen self.old [] [] self.new) }
+        ensures few { OnOk result (length self.new.rows < 65536) }
         ensures err { OnErr result (BreaksCsv O.contents O.seen O.room M.contents M.seen self.old [] [] self.new) }
         ensures flag { OnErr result (self.new.wrote_list ≡ false) }
     {
@@ -126,8 +128,11 @@ impl<O: SteadyWrite, M: SteadyWrite> CsvRecipient<'_, O, M> {
         self.write_rows()
     }
 
+    #[tactic(auto, using(crate::proofs::FewPending::few_lines))]
     fn write_full_lines(&mut self) -> Result<(), WriteFault>
+        ensures rows { self.new.rows ≡ self.old.rows }
         ensures ok { OnOk result (GoesOn O.contents O.seen M.contents M.seen self.old [] [] self.new) }
+        ensures few { OnOk result (FewLines self.new.manifest self.new.lines.items) }
         ensures err { OnErr result (BreaksList O.contents O.seen M.contents M.seen M.room self.old [] [] self.new) }
         ensures flag { OnErr result (self.new.wrote_list ≡ true) }
     {
@@ -141,6 +146,7 @@ impl<O: SteadyWrite, M: SteadyWrite> CsvRecipient<'_, O, M> {
     fn write_rows(&mut self) -> Result<(), WriteFault>
         ensures ok { OnOk result (GoesOn O.contents O.seen M.contents M.seen self.old [] [] self.new) }
         ensures emptied { OnOk result (self.new.rows ≡ []) }
+        ensures few { OnOk result (length self.new.rows < 65536) }
         ensures err { OnErr result (BreaksCsv O.contents O.seen O.room M.contents M.seen self.old [] [] self.new) }
         ensures flag { OnErr result (self.new.wrote_list ≡ false) }
     {
@@ -153,6 +159,7 @@ impl<O: SteadyWrite, M: SteadyWrite> CsvRecipient<'_, O, M> {
         ensures rows { (self.new.csv ≡ self.old.csv) × (self.new.rows ≡ self.old.rows) × (self.new.registry.now ≡ self.old.registry.now) }
         ensures ok { OnOk result (ListGoes M.contents M.seen self.old.manifest self.new.manifest self.old.lines.items self.new.lines.items []) }
         ensures emptied { OnOk result (ListGoes M.contents M.seen self.old.manifest self.new.manifest self.old.lines.items [] []) }
+        ensures few { OnOk result (FewLines self.new.manifest self.new.lines.items) }
         ensures err { OnErr result (ListBreaks M.contents M.seen M.room self.old.manifest self.new.manifest self.old.lines.items []) }
         ensures flag { OnErr result (self.new.wrote_list ≡ true) }
     {
@@ -180,7 +187,7 @@ impl<O: SteadyWrite, M: SteadyWrite> CsvRecipient<'_, O, M> {
 }
 
 impl<O: SteadyWrite, M: SteadyWrite> Recipient for CsvRecipient<'_, O, M> {
-    ghost takes = { λ old next new. Takes O.contents O.seen M.contents M.seen old next new };
+    ghost takes = { λ old next new. TakesSoon O.contents O.seen M.contents M.seen old next new };
 
     ghost fails = { λ old next fault new. Fails O.contents O.seen O.room M.contents M.seen M.room old next fault new };
 

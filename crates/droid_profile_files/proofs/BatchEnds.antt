@@ -1,5 +1,5 @@
 -- What a batch says when all its files were read, and when the reading ends early.
-use Rattle.std.proofs.Common.{◌≡◌, inl, inr, ℕ, zero, suc, ◌<◌, true, false, List, [], ◌∷◌, ◌++◌, length, map, slice_get, Some, Contains, Result, Ok, Err, IfErr, OnErr, refl, sym, ap, subst, ◌∙◌, arith}
+use Rattle.std.proofs.Common.{◌≡◌, inr, ℕ, zero, suc, ◌<◌, true, false, List, [], ◌∷◌, ◌++◌, length, map, slice_get, Some, Contains, Result, Ok, Err, IfErr, OnErr, refl, sym, ap, subst, ◌∙◌, arith}
 use Rattle.std.proofs.lemmas.List.{map-append}
 use Rattle.std.proofs.lemmas.List.Concat.{flat_map-append}
 use Rattle.droid_pronom.specs.Registry.{Contents}
@@ -97,7 +97,7 @@ module _ {T W : Type 0} (observes : T → Observation → T → Type 0) (hears :
     are = record { others = on.fits.others; no_folders = on.fits.no_folders };
     reached = tree;
     stands = inr is;
-    explained = inl is;
+    explained = is;
     observed = on.observed;
     heard = on.heard;
     begun = λ place was there.
@@ -116,17 +116,11 @@ module _ {T W : Type 0} (observes : T → Observation → T → Type 0) (hears :
     are = record { others = λ number absent. refl; no_folders = refl };
     reached = start;
     stands = inr refl;
-    explained = inl refl;
+    explained = refl;
     observed = refl;
     heard = refl;
     begun = λ place was there. record { reading = unread; is_reading = record { within = omega arith; ending = tt }; reads = refl };
   }
-
-  pub front_by_turns : (batch : Batch) (start tree : T) (begun watcher : W) → ReadsOn observes hears registry options first batch start tree begun watcher → ReadsFront observes hears first faults.Turns start tree begun watcher
-  unfolding front
-  front_by_turns batch start tree begun watcher on =
-      let it = front batch faults.Memory start tree tree begun watcher refl on in
-      record { calls = it.calls; are = it.are; reached = tree; stands = inl refl; explained = inr refl; observed = on.observed; heard = on.heard; begun = it.begun }
 
   -- ---- the end
 

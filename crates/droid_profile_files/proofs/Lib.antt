@@ -10,4 +10,6 @@ pub mod PassSteps
 pub mod Places
 pub mod ReadingSteps
 pub mod ReadsSplit
+pub mod StrayLane
+pub mod TurnSteps
 pub mod WaitingSteps

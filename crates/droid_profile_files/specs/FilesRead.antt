@@ -1,5 +1,5 @@
 -- What stands after the files of a batch were read.
-use Rattle.std.specs.Prelude.{◌≡◌, ◌⊎◌, ℕ, true, List, [], ◌++◌, length, map, Some, slice_get, Contains}
+use Rattle.std.specs.Prelude.{◌≡◌, ℕ, true, List, [], ◌++◌, length, map, Some, slice_get, Contains}
 use Rattle.droid_pronom.specs.Registry.{Contents}
 use Rattle.droid_tree.specs.Heard.{Heard}
 use Rattle.droid_tree.specs.Observation.{Observation, GoesOver}
@@ -58,7 +58,7 @@ pub record ReadsFront {T W : Type 0} (observes : T → Observation → T → Typ
   pub are : AreReads first calls
   pub reached : T
   pub stands : TreeStands fault reached tree_after
-  pub explained : (fault ≡ faults.Memory) ⊎ (fault ≡ faults.Turns)
+  pub explained : fault ≡ faults.Memory
   pub observed : GoesOver observes tree (map observation_of calls) reached
   pub heard : GoesOver hears watcher (heard_of_calls calls) watcher_after
   pub begun : (place : ℕ) (was : FileRow) → slice_get first place ≡ Some was → ReadsSome calls was

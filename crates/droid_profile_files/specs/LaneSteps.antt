@@ -67,6 +67,7 @@ pub record Advances (lanes lanes_after : List FileLane) (hashes hashes_after : H
   pub count : ℕ
   pub kind : lanes_kind hashes_after ≡ lanes_kind hashes
   pub taken : (j : ℕ) → j < 8 → (bytes : List ℕ) → Scanned hashes j bytes → Scanned hashes_after j (bytes ++ take count (rest_of lanes j))
+  pub some : (j : ℕ) → j < 8 → 0 < length (rest_of lanes j) → 0 < count
   pub passed : AllPass lanes lanes_after count
 
 -- no file is read in any lane

@@ -4,3 +4,4 @@ pub mod BatchFits
 pub mod LaneEnds
 pub mod LaneReads
 pub mod FilesRead
+pub mod TurnsLeft

@@ -5,6 +5,7 @@ ghost use Rattle.droid_pronom.specs.Registry.{Contents};
 ghost use Rattle.droid_profile_spec.specs.Calls.{Call};
 ghost use Rattle.droid_profile_spec.specs.declared.options.Options.{Options};
 ghost use Rattle.droid_profile_files.specs.BatchFits.{BatchFits};
+ghost use Rattle.droid_profile_files.specs.TurnsLeft.{At, IsServed, Lessens};
 ghost use Rattle.droid_profile_files.specs.declared.file_row.FileRow.{FileRow};
 
 use crate::batch::Batch;
@@ -14,7 +15,8 @@ use crate::file_row::{FileState, waits_at};
 pub(crate) fn begin_file(batch: &mut Batch, lane: usize)
     requires there { lane < length batch.old.lanes.items }
     requires small { lane < 8 }
-    ensures { (registry : Contents) (options : Options) (first : List FileRow) (calls : List Call) → BatchFits registry options first batch.old calls → BatchFits registry options first batch.new calls }
+    ensures fits { (registry : Contents) (options : Options) (first : List FileRow) (calls : List Call) → BatchFits registry options first batch.old calls → BatchFits registry options first batch.new calls }
+    ensures lessens { Lessens batch.old batch.new (At batch.old.lanes.items lane (IsServed batch.old.waiting.items)) }
 {
     if batch.lanes[lane].busy {
         return;

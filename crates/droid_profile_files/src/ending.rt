@@ -1,12 +1,13 @@
 //! Ends the file of a lane: its hash, and what it is identified as.
 
-ghost use Rattle.std.specs.Prelude.{◌≡◌, ◌<◌, ℕ, List, Some, IfOk, IsTrue, OnOk, length, slice_get};
+ghost use Rattle.std.specs.Prelude.{◌≡◌, ◌<◌, ℕ, List, Some, IfOk, IsTrue, OnOk, false, length, slice_get};
 ghost use Rattle.droid_scan.specs.Ends.{Came};
 ghost use Rattle.droid_profile_spec.specs.Calls.{Call};
 ghost use Rattle.droid_profile_spec.specs.Kids.{found_of};
 ghost use Rattle.droid_profile_files.specs.BatchFits.{BatchFits};
 ghost use Rattle.droid_profile_files.specs.FilesRead.{Fits};
 ghost use Rattle.droid_profile_files.specs.LaneEnds.{Completes, HasEnded, HasRead};
+ghost use Rattle.droid_profile_files.specs.TurnsLeft.{At, IsUnfinished, Lessens};
 ghost use Rattle.droid_profile_files.specs.declared.file_lane.FileLane.{FileLane};
 ghost use Rattle.droid_profile_files.specs.declared.file_row.FileRow.{FileRow};
 
@@ -28,13 +29,15 @@ pub(crate) fn end_file(
 ) -> Result<(), AllocError>
     requires within { lane < length batch.old.lanes.items }
     requires fits { Fits registry.now options batch.old }
-    ensures { OnOk result ((first : List FileRow) (calls : List Call) → BatchFits registry.now options first batch.old calls → BatchFits registry.now options first batch.new calls) }
+    ensures fits { OnOk result ((first : List FileRow) (calls : List Call) → BatchFits registry.now options first batch.old calls → BatchFits registry.now options first batch.new calls) }
+    ensures lessens { OnOk result (Lessens batch.old batch.new (At batch.old.lanes.items lane IsUnfinished)) }
 {
     if !has_ended(&batch.lanes[lane]) {
         return Ok(());
     }
     let place = batch.lanes[lane].place;
     if !is_read_in(batch.files.as_slice(), place, lane) {
+        batch.lanes[lane].busy = false;
         return Ok(());
     }
     let found = identify_at(alloc, registry, options, batch, lane, place)?;
@@ -46,7 +49,8 @@ pub(crate) fn end_file(
 
 /// Returns whether all bytes of the lane's file are hashed.
 fn has_ended(lane: &FileLane) -> bool
-    ensures { IsTrue result → HasEnded lane.now }
+    ensures ended { IsTrue result → HasEnded lane.now }
+    ensures unfinished { result ≡ false → IsUnfinished lane.now }
 {
     if !lane.busy {
         return false;

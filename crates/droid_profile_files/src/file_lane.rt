@@ -2,6 +2,7 @@
 
 ghost use Rattle.std.specs.Prelude.{◌≡◌, ◌-◌, ◌<◌, [], drop, length, false, IfOk, IsTrue};
 ghost use Rattle.droid_profile_files.specs.LaneSteps.{Begins, Passes};
+ghost use Rattle.droid_profile_files.specs.TurnsLeft.{HasRest};
 
 use droid_scan::EndBytes;
 use std::alloc::{AllocError, Global};
@@ -70,7 +71,8 @@ impl FileLane {
 
     /// Returns whether the lane has read on as far as it can, and all of that is hashed.
     pub(crate) fn is_hashed(&self) -> bool
-        ensures { IsTrue result → drop self.now.hashed self.now.buffer.items ≡ [] }
+        ensures all { IsTrue result → drop self.now.hashed self.now.buffer.items ≡ [] }
+        ensures rest { result ≡ false → HasRest self.now }
     {
         self.hashed >= self.buffer.len()
     }

@@ -1,8 +1,9 @@
 //! Hashes the bytes of all lanes.
 
-ghost use Rattle.std.specs.Prelude.{◌≡◌, ◌<◌, ℕ, List, ◌++◌, length, take, IsTrue};
+ghost use Rattle.std.specs.Prelude.{◌≡◌, ◌<◌, ℕ, List, ◌++◌, length, take, false, IsTrue};
 ghost use Rattle.droid_scan.specs.Scanning.{Scanned, lanes_kind};
 ghost use Rattle.droid_profile_files.specs.LaneSteps.{Advances, AllPass, AreIdle, rest_of};
+ghost use Rattle.droid_profile_files.specs.TurnsLeft.{HasBusy};
 
 use crate::file_lane::FileLane;
 use droid_scan::HashLanes;
@@ -30,6 +31,7 @@ fn take_rests(lanes: &[FileLane], hashes: &mut HashLanes) -> usize
     requires { length lanes.now ≡ 8 }
     ensures kind { lanes_kind hashes.new ≡ lanes_kind hashes.old }
     ensures taken { (j : ℕ) → j < 8 → (bytes : List ℕ) → Scanned hashes.old j bytes → Scanned hashes.new j (bytes ++ take result (rest_of lanes.now j)) }
+    ensures some { (j : ℕ) → j < 8 → 0 < length (rest_of lanes.now j) → 0 < result }
 {
     hashes.advance([
         lanes[0].rest(),
@@ -45,7 +47,8 @@ fn take_rests(lanes: &[FileLane], hashes: &mut HashLanes) -> usize
 
 /// Returns whether all lanes are idle.
 pub(crate) fn are_idle(lanes: &[FileLane]) -> bool
-    ensures { IsTrue result → AreIdle lanes.now }
+    ensures idle { IsTrue result → AreIdle lanes.now }
+    ensures busy { result ≡ false → HasBusy lanes.now }
 {
     for lane in lanes {
         if lane.busy {

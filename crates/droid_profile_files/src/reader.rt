@@ -1,10 +1,11 @@
 //! Reads files, eight at a time.
 
-ghost use Rattle.std.specs.Prelude.{◌≡◌, ◌<◌, [], ℕ, IfErr, IfOk, IsTrue, OnErr, OnOk, Contains, length};
+ghost use Rattle.std.specs.Prelude.{◌≡◌, ◌<◌, [], ℕ, IfErr, IfOk, IsTrue, OnErr, OnOk, Contains, false, length};
 ghost use Rattle.droid_profile_spec.specs.declared.fault.ProfileFault.TheVariants.{Memory};
 ghost use Rattle.droid_profile_files.specs.FileStates.{AreFresh};
 ghost use Rattle.droid_profile_files.specs.FilesRead.{Fits, ReadsAll, ReadsFront, ReadsOn};
 ghost use Rattle.droid_profile_files.specs.LaneSteps.{AreIdle, IsFor};
+ghost use Rattle.droid_profile_files.specs.TurnsLeft.{IsLeft, batch_left};
 ghost use Rattle.droid_profile_files.specs.declared.file_row.FileRow.{FileRow};
 ghost use Rattle.std.specs.Prelude.{List};
 
@@ -38,19 +39,17 @@ pub fn read_files<T: Tree, W: Watcher>(
     ensures ended { IfErr result (λ fault. ReadsFront T.observes W.hears batch.old.files.items fault tree.old tree.new watcher.old watcher.new) }
 {
     batch.waiting = places_of(alloc, batch.files.as_slice())?;
-    for _ in 0..u64::MAX {
-        if are_read(batch) {
-            return Ok(());
-        }
+    'turns: while !are_read(batch) {
         read_turn(alloc, tree, watcher, registry, options, batch)?;
     }
-    Err(ProfileFault::Turns)
+    Ok(())
 }
 
 /// Returns whether no file waits and all lanes are idle.
 fn are_read(batch: &Batch) -> bool
     ensures none { IsTrue result → batch.now.waiting.items ≡ [] }
     ensures idle { IsTrue result → AreIdle batch.now.lanes.items }
+    ensures left { result ≡ false → IsLeft batch.now }
 {
     if !batch.waiting.is_empty() {
         return false;
@@ -70,6 +69,8 @@ fn read_turn<T: Tree, W: Watcher>(
     requires { Fits registry.now options batch.old }
     ensures read { OnOk result ((first : List FileRow) (start : T) (heard : W) → ReadsOn T.observes W.hears registry.now options first batch.old start tree.old heard watcher.old
         → ReadsOn T.observes W.hears registry.now options first batch.new start tree.new heard watcher.new) }
+    // So the turns come to an end.
+    ensures lessens { OnOk result (IsLeft batch.old → batch_left batch.new < batch_left batch.old) }
     ensures memory { IfErr result (λ fault. fault ≡ Memory) }
     ensures ended { OnErr result ((first : List FileRow) (start : T) (heard : W) → ReadsOn T.observes W.hears registry.now options first batch.old start tree.old heard watcher.old
         → ReadsFront T.observes W.hears first Memory start tree.new heard watcher.new) }

@@ -1,6 +1,6 @@
 //! Reads on in the file of a lane.
 
-ghost use Rattle.std.specs.Prelude.{◌≡◌, ◌<◌, ◌≤◌, ◌-◌, ◌+◌, [], List, IfErr, IfOk, IsTrue, OnErr, OnOk, length};
+ghost use Rattle.std.specs.Prelude.{◌≡◌, ◌<◌, ◌≤◌, ◌-◌, ◌+◌, [], List, IfErr, IfOk, IsTrue, OnErr, OnOk, false, length};
 ghost use Rattle.droid_pronom.specs.Registry.{Contents};
 ghost use Rattle.droid_profile_spec.specs.Calls.{Call};
 ghost use Rattle.droid_profile_spec.specs.declared.fault.ProfileFault.TheVariants.{Memory};
@@ -8,6 +8,7 @@ ghost use Rattle.droid_profile_spec.specs.declared.options.Options.{Options};
 ghost use Rattle.droid_profile_files.specs.BatchFits.{BatchFits};
 ghost use Rattle.droid_profile_files.specs.FilesRead.{ReadsMore};
 ghost use Rattle.droid_profile_files.specs.LaneReads.{IsDue, ReadsOnce, TakesPiece};
+ghost use Rattle.droid_profile_files.specs.TurnsLeft.{At, IsNotDue, LanesLessen, MovesOn};
 ghost use Rattle.droid_profile_files.specs.declared.batch.Batch.{Batch};
 ghost use Rattle.droid_profile_files.specs.declared.file_row.FileRow.{FileRow};
 
@@ -39,6 +40,7 @@ pub(crate) fn read_on<T: Tree, W: Watcher>(
     requires { lane < length lanes.old.items }
     ensures read { OnOk result ((registry : Contents) (options : Options) (first : List FileRow) (calls : List Call) (batch : Batch) → BatchFits registry options first (record batch { lanes = lanes.old; files = files.old }) calls
         → ReadsMore T.observes W.hears registry options first (record batch { lanes = lanes.new; files = files.new }) calls tree.old tree.new watcher.old watcher.new) }
+    ensures lessens { OnOk result (LanesLessen lanes.old.items lanes.new.items (At lanes.old.items lane IsNotDue)) }
     ensures memory { IfErr result (λ fault. fault ≡ Memory) }
     ensures unheard { OnErr result (watcher.new ≡ watcher.old) }
 {
@@ -47,6 +49,7 @@ pub(crate) fn read_on<T: Tree, W: Watcher>(
     }
     let place = lanes[lane].place;
     if !is_read_in(files.as_slice(), place, lane) {
+        lanes[lane].busy = false;
         return Ok(());
     }
     match read_piece(tree, watcher, &mut lanes[lane], &files.as_slice()[place])? {
@@ -62,7 +65,8 @@ pub(crate) fn read_on<T: Tree, W: Watcher>(
 
 /// Returns whether the lane has to read on.
 fn is_due(lane: &FileLane) -> bool
-    ensures { IsTrue result → IsDue lane.now }
+    ensures due { IsTrue result → IsDue lane.now }
+    ensures not_due { result ≡ false → IsNotDue lane.now }
 {
     if !lane.busy {
         return false;
@@ -81,6 +85,7 @@ fn read_piece<T: Tree, W: Watcher>(
     row: &FileRow,
 ) -> Result<Came, ProfileFault>
     ensures read { IfOk result (λ came. lane.old.from ≤ row.now.entry.len → ReadsOnce T.observes W.hears row.now.record.path row.now.entry came lane.old lane.new tree.old tree.new watcher.old watcher.new) }
+    ensures moves { IfOk result (λ came. MovesOn came lane.old lane.new) }
     ensures limit { lane.new.ends.limit ≡ lane.old.ends.limit }
     ensures memory { IfErr result (λ fault. fault ≡ Memory) }
     ensures unheard { OnErr result (watcher.new ≡ watcher.old) }
@@ -103,7 +108,8 @@ fn read_piece<T: Tree, W: Watcher>(
 
 /// Returns how many bytes the next read asks for: one more than the file has left, if that fits the buffer.
 fn next_wanted(size: u64, from: u64) -> u32
-    ensures { result ≤ 65536 }
+    ensures most { result ≤ 65536 }
+    ensures some { 0 < result }
 {
     let left = size.saturating_sub(from).saturating_add(1);
     match u32::try_from(left) {
@@ -114,8 +120,10 @@ fn next_wanted(size: u64, from: u64) -> u32
 
 /// Judges the bytes that came, and keeps them if they are the file's.
 fn take_piece(lane: &mut FileLane, size: u64, wanted: u32) -> Came
-    requires { lane.old.hashed ≡ 0 }
-    ensures { TakesPiece lane.old lane.new size wanted result }
+    requires hashed { lane.old.hashed ≡ 0 }
+    requires wanted { 0 < wanted }
+    ensures takes { TakesPiece lane.old lane.new size wanted result }
+    ensures moves { MovesOn result lane.old lane.new }
 {
     let count = lane.buffer.len() as u64;
     let left = size.saturating_sub(lane.from);

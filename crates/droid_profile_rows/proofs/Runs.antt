@@ -1,5 +1,5 @@
 -- One step of the taking after another, and how it ends early.
-use Rattle.std.proofs.Common.{◌≡◌, ◌⊎◌, inl, inr, ℕ, ◌≤◌, List, [], ◌∷◌, ◌++◌, map, reverse, append-nil, append_assoc, Result, Ok, Err, IfErr, refl, sym, ap, subst, ◌∙◌}
+use Rattle.std.proofs.Common.{◌≡◌, ◌⊎◌, inl, inr, ℕ, ◌≤◌, List, [], ◌∷◌, ◌++◌, map, reverse, append-nil, append_assoc, Result, Ok, Err, IfErr, refl, sym, ap, subst, ◌∙◌, arith}
 use Rattle.std.specs.List.{AllByRecursion}
 use Rattle.std.specs.Result.{IsErrAnd}
 use Rattle.std.proofs.lemmas.List.{map-append}
@@ -17,9 +17,10 @@ use Rattle.droid_profile_spec.specs.declared.fault.ProfileFault.{ProfileFault}
 use Rattle.droid_profile_spec.specs.declared.options.Options.{Options}
 use Rattle.droid_profile_files.specs.declared.file_row.FileRow.{FileRow}
 use Rattle.droid_profile_files.proofs.BatchEnds.{over_more}
-use Rattle.droid_profile_rows.specs.ScanFits.{EndsTaking, IsExplained, IsOpen, NoneOpen, ScanFits, Takes, TakesMore}
+use Rattle.droid_profile_rows.specs.ScanFits.{AddsFew, EndsTaking, IsExplained, IsOpen, NoneOpen, ScanFits, Takes, TakesMore}
 use Rattle.droid_profile_rows.specs.declared.row.Row.{Row}
 use Rattle.droid_profile_rows.specs.declared.scan.Scan.{Scan}
+use Rattle.droid_profile_rows.proofs.StepsMade.{few_none, few_then}
 
 -- a fault that is handed on
 pub handed_on : {A : Type 0} (P : ProfileFault → Type 0) (result : Result A ProfileFault) (fault : ProfileFault) → IsErrAnd result (λ its. its ≡ fault) → P fault → IfErr result P
@@ -97,8 +98,8 @@ module _ {T : Type 0} (observes : T → Observation → T → Type 0) where
         let begun = first registry options calls heard given fits in
         more_before registry options calls heard given begun.more after rows_after files_after tree middle last begun.observed (then registry options (calls ++ map OfFolder begun.more) heard given begun.fits)
 
-    pub ends_then : (fault : ProfileFault) → EndsTaking observes fault now rows_now files_now middle last → EndsTaking observes fault scan rows files tree last
-    ends_then fault then = λ registry options calls heard given fits.
+    pub ends_then : (fault : ProfileFault) (some most : ℕ) → some ≤ most → AddsFew some scan now rows rows_now → EndsTaking observes fault 0 now rows_now files_now middle last → EndsTaking observes fault most scan rows files tree last
+    ends_then fault some most within few then = λ registry options calls heard given fits.
         let begun = first registry options calls heard given fits in
         let front = then registry options (calls ++ map OfFolder begun.more) heard given begun.fits in
         record {
@@ -109,10 +110,11 @@ module _ {T : Type 0} (observes : T → Observation → T → Type 0) where
           takes = more_before registry options calls heard given begun.more front.scan front.rows front.files tree middle front.reached begun.observed front.takes;
           stands = front.stands;
           explained = front.explained;
+          few = few_then some 0 most scan now front.scan rows rows_now front.rows (omega (arith, within)) few front.few;
         }
 
   -- nothing more was taken
-  pub ends_now : (fault : ProfileFault) (scan : Scan) (rows : List Row) (files : List FileRow) (tree tree_after : T) → IsExplained fault scan.number → TreeStands fault tree tree_after → EndsTaking observes fault scan rows files tree tree_after
+  pub ends_now : (fault : ProfileFault) (scan : Scan) (rows : List Row) (files : List FileRow) (tree tree_after : T) → IsExplained fault scan.number → TreeStands fault tree tree_after → EndsTaking observes fault 0 scan rows files tree tree_after
   ends_now fault scan rows files tree tree_after explained stands = λ registry options calls heard given fits.
       record {
         scan = scan;
@@ -122,4 +124,5 @@ module _ {T : Type 0} (observes : T → Observation → T → Type 0) where
         takes = takes_none scan rows files tree registry options calls heard given fits;
         stands = stands;
         explained = explained;
+        few = few_none scan rows;
       }

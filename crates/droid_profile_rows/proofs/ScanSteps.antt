@@ -63,9 +63,9 @@ has_moment path entry none = moment_of (is_bad_name entry.name) _ (is_moment ent
 
 -- what stands if an entry could not be taken: all before it
 pub not_taken : {T A : Type 0} (observes : T → Observation → T → Type 0) (entry : FolderEntry) (popped : Scan) (before : List Row) (files : List FileRow) (tree tree_after : T) (result : Result A ProfileFault) (fault : ProfileFault)
-    → IsErrAnd result (λ its. its ≡ fault) → IsExplained fault popped.number → TreeStands fault tree tree_after → IfErr result (λ its. (scan : Scan) → IsNext scan popped entry → EndsTaking observes its scan before files tree tree_after)
+    → IsErrAnd result (λ its. its ≡ fault) → IsExplained fault popped.number → TreeStands fault tree tree_after → IfErr result (λ its. (scan : Scan) → IsNext scan popped entry → EndsTaking observes its 0 scan before files tree tree_after)
 not_taken observes entry popped before files tree tree_after result fault same explained stands =
-    handed_on (λ its. (scan : Scan) → IsNext scan popped entry → EndsTaking observes its scan before files tree tree_after) result fault same
+    handed_on (λ its. (scan : Scan) → IsNext scan popped entry → EndsTaking observes its 0 scan before files tree tree_after) result fault same
     (λ scan next. ends_now observes fault scan before files tree tree_after (subst (λ (s : Scan). IsExplained fault s.number) next.same explained) stands)
 
 -- a folder or a file that is no file is a folder

@@ -1,5 +1,5 @@
 -- What comes of rows, if their files are read like this.
-use Rattle.std.specs.Prelude.{◌≡◌, ℕ, ◌<◌, ◌==◌, if◌then◌else◌, IsTrue, Bool, true, false, List, [], ◌∷◌, Option, Some, None, slice_get}
+use Rattle.std.specs.Prelude.{◌≡◌, ℕ, ◌<◌, ◌==◌, if◌then◌else◌, IsTrue, Bool, true, false, not, List, [], ◌∷◌, Option, Some, None, slice_get}
 use Rattle.std.specs.List.{flat_map, AllByRecursion}
 use Rattle.droid_core_spec.specs.Conditions.{is_moment}
 use Rattle.droid_frame.specs.types.record.Record.{Record}
@@ -8,6 +8,7 @@ use Rattle.droid_tree.specs.Heard.{Heard, Left, Held, TookBytes, TookFolder, Too
 use Rattle.droid_tree.specs.Observation.{Observation}
 use Rattle.droid_tree.specs.declared.skipped.Skipped.{Skipped}
 use Rattle.droid_tree.specs.declared.skipped.Skipped.TheVariants as reasons
+use Rattle.droid_profile_spec.specs.EarlyEnds.{is_same_name}
 use Rattle.droid_profile_spec.specs.Kids.{found_of, heard_of_file}
 use Rattle.droid_profile_spec.specs.Readings.{Reading, Ending, AtEnd, IsReading, bytes_of, has_ended, reads_in}
 use Rattle.droid_profile_spec.specs.declared.options.Options.{Options}
@@ -78,6 +79,14 @@ abbrev pub IsReady : ℕ → Row → Type 0
 IsReady count (rows.Left path why) = Unit {0}
 IsReady count (rows.Folder shown) = IsTrue (is_moment shown.modified)
 IsReady count (rows.File place) = place < count
+
+-- ---- how many wait
+
+-- it is a row of anything but an entry that has the name of another one
+abbrev pub is_counted_row : Row → Bool
+is_counted_row (rows.Left path why) = not (is_same_name why)
+is_counted_row (rows.Folder shown) = true
+is_counted_row (rows.File place) = true
 
 -- ---- whether something was skipped
 

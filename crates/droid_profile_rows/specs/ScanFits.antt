@@ -1,6 +1,6 @@
 -- How what was taken of a tree so far fits the folders that were visited.
-use Rattle.std.specs.Prelude.{◌≡◌, ◌⊎◌, ℕ, ◌≤◌, true, List, [], ◌∷◌, ◌++◌, length, map, reverse}
-use Rattle.std.specs.List.{flat_map, list_all, AllByRecursion}
+use Rattle.std.specs.Prelude.{◌≡◌, ◌⊎◌, ℕ, ◌+◌, ◌≤◌, true, List, [], ◌∷◌, ◌++◌, length, map, reverse}
+use Rattle.std.specs.List.{count_by, flat_map, list_all, AllByRecursion}
 use Rattle.droid_frame.specs.types.record.Record.{Record}
 use Rattle.droid_pronom.specs.Registry.{Contents}
 use Rattle.droid_tree.specs.Heard.{Heard}
@@ -16,7 +16,7 @@ use Rattle.droid_profile_spec.specs.declared.fault.ProfileFault.TheVariants as f
 use Rattle.droid_profile_spec.specs.declared.options.Options.{Options}
 use Rattle.droid_profile_files.specs.FileStates.{AreFresh}
 use Rattle.droid_profile_files.specs.declared.file_row.FileRow.{FileRow}
-use Rattle.droid_profile_rows.specs.RowsTaken.{HasMoment, HaveEnded, IsReady, MayBeRead, Readings, heard_of_row, reads_of_files, records_of_row}
+use Rattle.droid_profile_rows.specs.RowsTaken.{HasMoment, HaveEnded, IsReady, MayBeRead, Readings, heard_of_row, is_counted_row, reads_of_files, records_of_row}
 use Rattle.droid_profile_rows.specs.declared.row.Row.{Row}
 use Rattle.droid_profile_rows.specs.declared.scan.Scan.{Scan}
 
@@ -71,8 +71,14 @@ pub record TakesMore {T : Type 0} (observes : T → Observation → T → Type 0
 abbrev pub IsExplained : ProfileFault → ℕ → Type 0
 IsExplained fault number = (fault ≡ faults.Memory) ⊎ ((fault ≡ faults.Numbers) × (number ≡ 4294967295))
 
--- the taking ended early, with this fault: up to some entry all was taken as it should
-pub record TakesFront {T : Type 0} (observes : T → Observation → T → Type 0) (registry : Contents) (options : Options) (calls : List Call) (heard : List Heard) (given : List Record) (fault : ProfileFault) (tree tree_after : T) : Type 0 where
+-- At most this many entries were taken: no more got a number, and there are no more rows, without those of repeated
+-- names.
+pub record AddsFew (most : ℕ) (scan scan_after : Scan) (before after : List Row) : Type 0 where
+  pub numbers : scan_after.number ≤ scan.number + most
+  pub rows : count_by is_counted_row after ≤ count_by is_counted_row before + most
+
+-- the taking ended early, with this fault: up to some entry all was taken as it should, and at most this many
+pub record TakesFront {T : Type 0} (observes : T → Observation → T → Type 0) (registry : Contents) (options : Options) (calls : List Call) (heard : List Heard) (given : List Record) (fault : ProfileFault) (most : ℕ) (before : Scan) (rows_before : List Row) (tree tree_after : T) : Type 0 where
   pub scan : Scan
   pub rows : List Row
   pub files : List FileRow
@@ -80,13 +86,15 @@ pub record TakesFront {T : Type 0} (observes : T → Observation → T → Type 
   pub takes : TakesMore observes registry options calls heard given scan rows files tree reached
   pub stands : TreeStands fault reached tree_after
   pub explained : IsExplained fault scan.number
+  pub few : AddsFew most before scan rows_before rows
 
 -- if what was taken before fits, so does what was taken after, with the calls that were made in between
 abbrev pub Takes : {T : Type 0} → (T → Observation → T → Type 0) → Scan → Scan → List Row → List Row → List FileRow → List FileRow → T → T → Type 0
 Takes observes scan scan_after rows rows_after files files_after tree tree_after = (registry : Contents) (options : Options) (calls : List Call) (heard : List Heard) (given : List Record)
     → ScanFits registry options calls heard given scan rows files → TakesMore observes registry options calls heard given scan_after rows_after files_after tree tree_after
 
--- if what was taken before fits, some more was taken as it should, and then it ended with this fault
-abbrev pub EndsTaking : {T : Type 0} → (T → Observation → T → Type 0) → ProfileFault → Scan → List Row → List FileRow → T → T → Type 0
-EndsTaking observes fault scan rows files tree tree_after = (registry : Contents) (options : Options) (calls : List Call) (heard : List Heard) (given : List Record)
-    → ScanFits registry options calls heard given scan rows files → TakesFront observes registry options calls heard given fault tree tree_after
+-- if what was taken before fits, some more was taken as it should, at most this many entries, and then it ended with this
+-- fault
+abbrev pub EndsTaking : {T : Type 0} → (T → Observation → T → Type 0) → ProfileFault → ℕ → Scan → List Row → List FileRow → T → T → Type 0
+EndsTaking observes fault most scan rows files tree tree_after = (registry : Contents) (options : Options) (calls : List Call) (heard : List Heard) (given : List Record)
+    → ScanFits registry options calls heard given scan rows files → TakesFront observes registry options calls heard given fault most scan rows tree tree_after

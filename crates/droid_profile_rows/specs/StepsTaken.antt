@@ -1,5 +1,5 @@
 -- What one step takes: a file, a folder, or the entries of a folder.
-use Rattle.std.specs.Prelude.{◌≡◌, ◌⊎◌, ℕ, ◌+◌, ◌*◌, ◌≤◌, false, List, [], ◌∷◌, ◌++◌, length, map, Option, Some, None}
+use Rattle.std.specs.Prelude.{◌≡◌, ◌⊎◌, ℕ, ◌+◌, ◌-◌, ◌*◌, ◌^◌, ◌≤◌, false, List, [], ◌∷◌, ◌++◌, length, map, Option, Some, None}
 use Rattle.droid_frame.specs.types.hash_value.HashValue.TheVariants as hashes
 use Rattle.droid_frame.specs.types.method.Method.TheVariants.{Unidentified}
 use Rattle.droid_frame.specs.types.node_kind.NodeKind.TheVariants as kinds
@@ -29,10 +29,17 @@ pub record IsNext (before scan : Scan) (entry : FolderEntry) : Type 0 where
   pub same : scan ≡ record before { entries = scan.entries }
   pub entries : before.entries.items ≡ scan.entries.items ++ entry ∷ []
 
--- At least this many steps were made. Each makes a row of an entry, or lists a folder that waits; an entry that is a
--- folder waits from then on.
-abbrev pub MakesSteps : ℕ → Scan → Scan → List Row → List Row → Type 0
-MakesSteps count scan scan_after before after = count + (2 * length before + length scan_after.waiting.items) ≤ 2 * length after + length scan.waiting.items
+-- no folder has as many entries
+unfoldable pub many : ℕ
+many = 2 ^ 64
+
+-- How much is left to be taken. A folder that waits, or one that may still get a number, counts more than all entries of
+-- the folder that was listed last.
+abbrev pub left_of : ℕ → ℕ → ℕ → ℕ
+left_of waiting number entries = (waiting + (4294967295 - number)) * many + entries
+
+abbrev pub scan_left : Scan → ℕ
+scan_left scan = left_of (length scan.waiting.items) scan.number (length scan.entries.items)
 
 -- the entry is neither a folder nor a file, or one that no profile can have
 abbrev pub IsSkipped : List ℕ → FolderEntry → Skipped → Type 0
@@ -71,6 +78,7 @@ pub record TakesFile (entry : FolderEntry) (scan scan_after : Scan) (before afte
 
 -- the folder can be listed: it gets the next number, and waits
 pub record OpensFolder {T : Type 0} (observes : T → Observation → T → Type 0) (entry : FolderEntry) (scan scan_after : Scan) (before after : List Row) (tree tree_after : T) : Type 0 where
+  pub few : scan.number + 1 ≤ 4294967295
   pub observed : observes tree (Opened (below scan.folder.path entry.name)) tree_after
   pub rows_are : after ≡ before ++ rows.Folder (folder_record scan.folder entry (scan.number + 1)) ∷ []
   pub waits : scan_after.waiting.items ≡ scan.waiting.items ++ record { path = below scan.folder.path entry.name; number = scan.number + 1 } ∷ []

@@ -1,12 +1,12 @@
 //! Takes one entry of a folder: a folder, a file, or something that is skipped.
 
-ghost use Rattle.std.specs.Prelude.{◌≡◌, ◌+◌, ◌++◌, [], ◌∷◌, IfErr, IfOk, OnOk, length};
+ghost use Rattle.std.specs.Prelude.{◌≡◌, ◌+◌, ◌≤◌, ◌++◌, [], ◌∷◌, IfErr, IfOk, OnOk, length};
 ghost use Rattle.droid_tree.specs.Paths.{below};
 ghost use Rattle.droid_profile_spec.specs.EarlyEnds.{TreeStands};
 ghost use Rattle.droid_profile_spec.specs.declared.fault.ProfileFault.TheVariants.{Numbers};
 ghost use Rattle.droid_profile_rows.specs.RowsPushed.{left_row};
-ghost use Rattle.droid_profile_rows.specs.ScanFits.{EndsTaking, IsExplained, Takes};
-ghost use Rattle.droid_profile_rows.specs.StepsTaken.{IsNext, MakesSteps, TakesFile, TakesFolder};
+ghost use Rattle.droid_profile_rows.specs.ScanFits.{AddsFew, EndsTaking, IsExplained, Takes};
+ghost use Rattle.droid_profile_rows.specs.StepsTaken.{IsNext, TakesFile, TakesFolder, scan_left};
 ghost use Rattle.droid_profile_rows.specs.declared.row.Row.TheVariants as row_forms;
 ghost use Rattle.droid_profile_rows.specs.declared.scan.Scan.{Scan};
 
@@ -32,8 +32,9 @@ pub(crate) fn take_entry<T: Tree>(
     entry: FolderEntry,
 ) -> Result<(), ProfileFault>
     ensures taken { OnOk result ((before : Scan) → IsNext before scan.old entry → Takes T.observes before scan.new rows.old.items rows.new.items files.old.items files.new.items tree.old tree.new) }
-    ensures step { OnOk result (MakesSteps 1 scan.old scan.new rows.old.items rows.new.items) }
-    ensures ended { IfErr result (λ fault. (before : Scan) → IsNext before scan.old entry → EndsTaking T.observes fault before rows.old.items files.old.items tree.old tree.new) }
+    ensures less { OnOk result (scan_left scan.new ≤ scan_left scan.old) }
+    ensures few { OnOk result (AddsFew 1 scan.old scan.new rows.old.items rows.new.items) }
+    ensures ended { IfErr result (λ fault. (before : Scan) → IsNext before scan.old entry → EndsTaking T.observes fault 0 before rows.old.items files.old.items tree.old tree.new) }
 {
     let kind = entry.kind;
     let Some(name) = name_of(&entry) else {
@@ -169,6 +170,7 @@ fn push_folder(rows: &mut Vec<Row>, shown: Record) -> Result<(), AllocError>
 /// Returns the number after this one.
 fn next_number(number: u32) -> Result<u32, ProfileFault>
     ensures next { IfOk result (λ next. next ≡ number + 1) }
+    ensures few { OnOk result (number + 1 ≤ 4294967295) }
     ensures last { IfErr result (λ fault. (fault ≡ Numbers) × (number ≡ 4294967295)) }
 {
     match number.checked_add(1) {

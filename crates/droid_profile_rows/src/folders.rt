@@ -1,11 +1,11 @@
 //! Lists the next folder.
 
-ghost use Rattle.std.specs.Prelude.{◌≡◌, ◌++◌, [], false, true, map, List, IfErr, IfOk, OnOk};
+ghost use Rattle.std.specs.Prelude.{◌≡◌, ◌<◌, ◌++◌, [], false, true, map, List, IfErr, IfOk, OnOk};
 ghost use Rattle.droid_profile_spec.specs.declared.fault.ProfileFault.TheVariants.{Memory};
 ghost use Rattle.droid_profile_files.specs.declared.file_row.FileRow.{FileRow};
 ghost use Rattle.droid_profile_rows.specs.RowsPushed.{repeated_row};
-ghost use Rattle.droid_profile_rows.specs.ScanFits.{EndsTaking, Takes};
-ghost use Rattle.droid_profile_rows.specs.StepsTaken.{ListsFolder, MakesSteps};
+ghost use Rattle.droid_profile_rows.specs.ScanFits.{AddsFew, EndsTaking, Takes};
+ghost use Rattle.droid_profile_rows.specs.StepsTaken.{ListsFolder, scan_left};
 
 use crate::entries::{push_left, push_left_below};
 use crate::row::Row;
@@ -24,8 +24,9 @@ pub(crate) fn list_next<T: Tree>(
     requires { scan.old.entries.items ≡ [] }
     ensures taken { OnOk result ((files : List FileRow) → Takes T.observes scan.old scan.new rows.old.items rows.new.items files files tree.old tree.new) }
     ensures all { IfOk result (λ more. more ≡ false → (scan.new.entries.items ≡ []) × (scan.new.waiting.items ≡ [])) }
-    ensures step { IfOk result (λ more. more ≡ true → MakesSteps 1 scan.old scan.new rows.old.items rows.new.items) }
-    ensures ended { IfErr result (λ fault. (files : List FileRow) → EndsTaking T.observes fault scan.old rows.old.items files tree.old tree.new) }
+    ensures less { IfOk result (λ more. more ≡ true → scan_left scan.new < scan_left scan.old) }
+    ensures few { OnOk result (AddsFew 1 scan.old scan.new rows.old.items rows.new.items) }
+    ensures ended { IfErr result (λ fault. (files : List FileRow) → EndsTaking T.observes fault 0 scan.old rows.old.items files tree.old tree.new) }
 {
     let Some(folder) = scan.waiting.pop_front() else {
         return Ok(false);

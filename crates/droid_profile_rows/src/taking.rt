@@ -1,8 +1,8 @@
 //! Takes entries of a tree in order, folder by folder.
 
-ghost use Rattle.std.specs.Prelude.{◌≡◌, ◌⊎◌, ◌<◌, [], false, true, IfErr, IfOk, OnOk, length};
-ghost use Rattle.droid_profile_rows.specs.ScanFits.{EndsTaking, Takes};
-ghost use Rattle.droid_profile_rows.specs.StepsTaken.{MakesSteps};
+ghost use Rattle.std.specs.Prelude.{◌≡◌, ◌<◌, [], false, true, IfErr, IfOk, OnOk};
+ghost use Rattle.droid_profile_rows.specs.ScanFits.{AddsFew, EndsTaking, Takes};
+ghost use Rattle.droid_profile_rows.specs.StepsTaken.{scan_left};
 
 use crate::entries::take_entry;
 use crate::folders::list_next;
@@ -26,9 +26,10 @@ pub fn take_rows<T: Tree>(
 ) -> Result<bool, ProfileFault>
     ensures taken { OnOk result (Takes T.observes scan.old scan.new rows.old.items rows.new.items files.old.items files.new.items tree.old tree.new) }
     ensures all { IfOk result (λ more. more ≡ false → (scan.new.entries.items ≡ []) × (scan.new.waiting.items ≡ [])) }
-    // If something is left, something was taken.
-    ensures progress { IfOk result (λ more. more ≡ true → (length rows.old.items < length rows.new.items) ⊎ (length scan.new.waiting.items < length scan.old.waiting.items)) }
-    ensures ended { IfErr result (λ fault. EndsTaking T.observes fault scan.old rows.old.items files.old.items tree.old tree.new) }
+    // If something is left, it is less than before.
+    ensures less { IfOk result (λ more. more ≡ true → scan_left scan.new < scan_left scan.old) }
+    ensures few { OnOk result (AddsFew 8192 scan.old scan.new rows.old.items rows.new.items) }
+    ensures ended { IfErr result (λ fault. EndsTaking T.observes fault 8192 scan.old rows.old.items files.old.items tree.old tree.new) }
 {
     for _ in 0..TAKEN {
         let more = take_next(alloc, tree, scan, rows, files)?;
@@ -49,8 +50,9 @@ fn take_next<T: Tree>(
 ) -> Result<bool, ProfileFault>
     ensures taken { OnOk result (Takes T.observes scan.old scan.new rows.old.items rows.new.items files.old.items files.new.items tree.old tree.new) }
     ensures all { IfOk result (λ more. more ≡ false → (scan.new.entries.items ≡ []) × (scan.new.waiting.items ≡ [])) }
-    ensures step { IfOk result (λ more. more ≡ true → MakesSteps 1 scan.old scan.new rows.old.items rows.new.items) }
-    ensures ended { IfErr result (λ fault. EndsTaking T.observes fault scan.old rows.old.items files.old.items tree.old tree.new) }
+    ensures less { IfOk result (λ more. more ≡ true → scan_left scan.new < scan_left scan.old) }
+    ensures few { OnOk result (AddsFew 1 scan.old scan.new rows.old.items rows.new.items) }
+    ensures ended { IfErr result (λ fault. EndsTaking T.observes fault 0 scan.old rows.old.items files.old.items tree.old tree.new) }
 {
     match scan.entries.pop() {
         Some(entry) => {

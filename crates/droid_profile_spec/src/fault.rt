@@ -13,9 +13,6 @@ pub enum ProfileFault {
     /// There are more than 4,294,967,295 folders and files.
     #[error("there are too many folders and files")]
     Numbers,
-    /// The lanes turned more than 2^64 times over a few files.
-    #[error("a file had no end")]
-    Turns,
     /// The recipient did not take a record.
     #[error("a record was not taken")]
     Recipient(RecipientFault),

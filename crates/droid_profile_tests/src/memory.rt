@@ -55,6 +55,6 @@ fn is_front(got: &WrittenProfile<Memory, Memory>) -> bool {
         Err(CsvFault::Manifest(fault)) => {
             fault.written == list.len() && text.len() == TEXT.len()
         }
-        Err(CsvFault::Numbers | CsvFault::Turns) => false,
+        Err(CsvFault::Numbers) => false,
     }
 }

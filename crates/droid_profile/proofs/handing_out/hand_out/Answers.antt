@@ -3,6 +3,7 @@ use Rattle.std.proofs.lemmas.Result.{err_from_is_err_and}
 use Rattle.droid_profile_rows.specs.RowsTaken.{heard_of_row, records_of_row}
 use Rattle.droid_profile_rows.specs.declared.row.Row.{Row}
 use Rattle.droid_profile.proofs.Handing.{front_row, hands_row}
+use Rattle.droid_profile.proofs.Waiting.{row_counted}
 use Rattle.droid_profile.proofs.handing_out.hand_out.Goals as goal
 
 pub returns-in_err-kept-clause-ended : goal.returns-in_err-kept-clause-ended
@@ -15,7 +16,7 @@ returns-in_err-kept-clause-ended g c =
     rw (fault.1, fault.2) (λ registry options readings first settled.
     front_row hears takes (heard_of_row registry options readings first) (records_of_row registry options readings first) rows c.loop-row.row-index c.row-item.result c.loop-row-test.true c.row-item.is c.loop-row.whole
     c.args.watcher.now c.loop-row.watcher c.hand_row.new.watcher c.args.recipient.now c.loop-row.recipient c.hand_row.new.recipient (c.loop-row.invariant registry options readings first settled)
-    fails c.in_err-kept.field-0.0 (c.in_err-kept.ensures.ended registry options readings first settled))
+    fails c.in_err-kept.field-0.0 (row_counted registry options readings first) (c.in_err-kept.ensures.ended registry options readings first settled))
 
 pub loop-row-preserved : goal.loop-row-preserved
 loop-row-preserved g c = λ registry options readings first settled.

@@ -16,13 +16,13 @@ returns-in-Ok-clause-read g c = λ within.
     let observed : g.T.Tree.observes c.args.tree.now (Read path entry start wanted got) c.read.new.self =
     subst (λ (l : List ℕ). g.T.Tree.observes c.args.tree.now (Read path entry start wanted l) c.read.new.self) (sym same)
     (subst (λ (p : List ℕ). g.T.Tree.observes c.args.tree.now (Read p entry start wanted came.bytes) c.read.new.self) c.as_str-path.ensures.value came.observed) in
-    let counted : c.len.result ≡ length got = omega (arith, c.len.ensures, ap length same, came.within, c.next_wanted-wanted.ensures) in
+    let counted : c.len.result ≡ length got = omega (arith, c.len.ensures, ap length same, came.within, c.next_wanted-wanted.ensures.most) in
     let heard : g.W.Watcher.hears c.args.watcher.now (TookBytes path (length got)) c.took_bytes.new.self =
     subst (λ (n : ℕ). g.W.Watcher.hears c.args.watcher.now (TookBytes path n) c.took_bytes.new.self) counted
     (subst (λ (p : List ℕ). g.W.Watcher.hears c.args.watcher.now (TookBytes p (c.len.result)) c.took_bytes.new.self) c.as_str-path.ensures.value c.took_bytes.ensures) in
     reads_once g.T.Tree.observes g.W.Watcher.hears path entry c.args.lane.now (record c.args.lane.now { buffer = c.read.new.bytes; hashed = 0 }) c.take_piece.new.lane refl refl refl refl
     c.take_piece.result got wanted c.args.tree.now c.read.new.self c.args.watcher.now c.took_bytes.new.self
-    (c.take_piece.ensures.judged (omega (arith, ap length same, came.within)) within) (c.take_piece.ensures.keeps within) observed heard
+    (c.take_piece.ensures.takes.judged (omega (arith, ap length same, came.within)) within) (c.take_piece.ensures.takes.keeps within) observed heard
 
 pub returns-in-Ok-unread-clause-read : goal.returns-in-Ok-unread-clause-read
 returns-in-Ok-unread-clause-read g c = λ within.

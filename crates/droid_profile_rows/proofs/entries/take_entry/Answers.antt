@@ -1,10 +1,10 @@
-use Rattle.std.proofs.Common.{◌≡◌, inl, List, ℕ, None, refl, subst}
+use Rattle.std.proofs.Common.{◌≡◌, inl, List, ℕ, None, refl, subst, arith}
 use Rattle.std.proofs.lemmas.Result.{IfOk-from_err}
 use Rattle.droid_profile_spec.specs.Kids.{entry_refusal}
 use Rattle.droid_profile_spec.specs.declared.fault.ProfileFault.TheVariants.{Memory}
 use Rattle.droid_profile_rows.specs.StepsTaken.{IsSkipped}
 use Rattle.droid_profile_rows.proofs.ScanSteps.{is_folder, not_taken, takes_file, takes_folder, takes_no_text, takes_skipped}
-use Rattle.droid_profile_rows.proofs.StepsMade.{folder_step}
+use Rattle.droid_profile_rows.proofs.StepsMade.{few_row, file_few, file_less, folder_few, folder_less}
 use Rattle.droid_profile_rows.proofs.entries.take_entry.Goals as goal
 
 -- ---- something that is skipped
@@ -33,9 +33,22 @@ returns-in_ok-take_folder-in_default-kind g c = record {
       takes_folder g.T.Tree.observes c.args.entry before c.take_folder.new.scan c.args.rows.now.items c.args.scan.now next c.in-Some.ensures.1
       (subst (λ (path : List ℕ). entry_refusal path c.args.entry ≡ None) c.as_str.ensures.value c.in-None.ensures.1)
       c.take_folder.new.rows.items c.args.files.now.items c.args.tree.now c.take_folder.new.tree (is_folder c.args.entry c.in-None.ensures.0 c.in_default-kind.not-File) c.in_ok-take_folder-in_default-kind.ensures.taken;
-  step = folder_step g.T.Tree.observes c.args.entry c.args.scan.now c.take_folder.new.scan c.args.rows.now.items c.take_folder.new.rows.items c.args.tree.now c.take_folder.new.tree c.in_ok-take_folder-in_default-kind.ensures.taken;
+  less = folder_less g.T.Tree.observes c.args.entry c.args.scan.now c.take_folder.new.scan c.args.rows.now.items c.take_folder.new.rows.items c.args.tree.now c.take_folder.new.tree c.in_ok-take_folder-in_default-kind.ensures.taken;
+  few = folder_few g.T.Tree.observes c.args.entry c.args.scan.now c.take_folder.new.scan c.args.rows.now.items c.take_folder.new.rows.items c.args.tree.now c.take_folder.new.tree c.in_ok-take_folder-in_default-kind.ensures.taken;
   ended = tt;
 }
+
+pub returns-in_ok-take_file-in-File-clause-less : goal.returns-in_ok-take_file-in-File-clause-less
+returns-in_ok-take_file-in-File-clause-less g c = file_less c.args.entry c.args.scan.now c.take_file.new.scan c.args.rows.now.items c.take_file.new.rows.items c.in_ok-take_file-in-File.ensures.taken
+
+pub returns-in_ok-take_file-in-File-clause-few : goal.returns-in_ok-take_file-in-File-clause-few
+returns-in_ok-take_file-in-File-clause-few g c = file_few c.args.entry c.args.scan.now c.take_file.new.scan c.args.rows.now.items c.take_file.new.rows.items c.in_ok-take_file-in-File.ensures.taken
+
+pub returns-in_default-clause-few : goal.returns-in_default-clause-few
+returns-in_default-clause-few g c = few_row c.args.scan.now c.args.scan.now c.args.rows.now.items c.push_left_below.new.rows.items _ c.in_ok-push_left_below.ensures (omega arith)
+
+pub returns-in-Some-skip_reason-clause-few : goal.returns-in-Some-skip_reason-clause-few
+returns-in-Some-skip_reason-clause-few g c = few_row c.args.scan.now c.args.scan.now c.args.rows.now.items c.push_left_below-in-Some-skip_reason.new.rows.items _ c.in_ok-push_left_below-in-Some-skip_reason.ensures (omega arith)
 
 -- ---- early ends
 
@@ -66,7 +79,8 @@ returns-in_err-take_file-in-File-clause-ended g c =
 pub returns-in_err-take_folder-in_default-kind : goal.returns-in_err-take_folder-in_default-kind
 returns-in_err-take_folder-in_default-kind g c = record {
   taken = IfOk-from_err c.from_residual-in_err-take_folder-in_default-kind.result _ c.from_residual-in_err-take_folder-in_default-kind.ensures.0;
-  step = IfOk-from_err c.from_residual-in_err-take_folder-in_default-kind.result _ c.from_residual-in_err-take_folder-in_default-kind.ensures.0;
+  less = IfOk-from_err c.from_residual-in_err-take_folder-in_default-kind.result _ c.from_residual-in_err-take_folder-in_default-kind.ensures.0;
+  few = IfOk-from_err c.from_residual-in_err-take_folder-in_default-kind.result _ c.from_residual-in_err-take_folder-in_default-kind.ensures.0;
   ended = not_taken g.T.Tree.observes c.args.entry c.args.scan.now c.args.rows.now.items c.args.files.now.items c.args.tree.now c.take_folder.new.tree
       c.from_residual-in_err-take_folder-in_default-kind.result _ c.from_residual-in_err-take_folder-in_default-kind.ensures.1 c.in_err-take_folder-in_default-kind.ensures.ended c.in_err-take_folder-in_default-kind.ensures.stands;
 }

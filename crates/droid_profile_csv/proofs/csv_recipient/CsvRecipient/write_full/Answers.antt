@@ -1,4 +1,4 @@
-use Rattle.std.proofs.Common.{[]}
+use Rattle.std.proofs.Common.{ℕ, List, [], length, ap, arith}
 use Rattle.std.proofs.lemmas.Result.{on_ok_weaker}
 use Rattle.droid_profile_csv.proofs.Takings.{on-list_stopped, on-more}
 use Rattle.droid_profile_csv.proofs.csv_recipient.CsvRecipient.write_full.Goals as goal
@@ -13,3 +13,9 @@ pub returns-clause-err : goal.returns-clause-err
 returns-clause-err g c =
     on-list_stopped g.O.Write.contents g.O.SteadyWrite.seen g.M.Write.contents g.M.SteadyWrite.seen g.O.SteadyWrite.room g.M.SteadyWrite.room c.args.self.now c.write_full_rows.new.self c.write_full_lines.new.self c.write_full_lines.result
     c.in_ok-write_full_rows.ensures.ok c.write_full_lines.ensures.err c.write_full_lines.ensures.flag
+
+pub returns-clause-few : goal.returns-clause-few
+returns-clause-few g c =
+    on_ok_weaker c.write_full_lines.result
+    (λ few. record { rows = omega (arith, ap (λ (l : List ℕ). length l) c.write_full_lines.ensures.rows, c.in_ok-write_full_rows.ensures.few); lines = few })
+    c.write_full_lines.ensures.few
