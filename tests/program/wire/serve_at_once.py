@@ -168,7 +168,7 @@ class ServeAtOnce(unittest.TestCase):
             with connect(service.port) as good, connect(service.port) as bad:
                 bad.sendall(NOTHING + frame(STATUS, 1, 1, version=3))
                 self.assertEqual(read_frame(bad)[0], REFUSED)
-                self.assertEqual(read_until_reset(bad), b"")
+                self.assertEqual(read_until_reset(bad, 1), b"")
                 good.sendall(NOTHING)
                 self.assertEqual(read_frame(good)[0], REFUSED)
 
