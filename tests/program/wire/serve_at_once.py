@@ -40,7 +40,7 @@ def is_closed(stream, seconds=SECONDS):
 def slow_reader(port):
     """Connects with little room for what comes."""
     stream = socket.socket()
-    stream.setsockopt(socket.SOL_SOCKET, socket.SO_RCVBUF, 4_096)
+    stream.setsockopt(socket.SOL_SOCKET, socket.SO_RCVBUF, 65_536)
     stream.settimeout(SECONDS)
     stream.connect((HOST, port))
     return stream
