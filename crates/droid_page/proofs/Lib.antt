@@ -1,0 +1,5 @@
+mod Escaping
+mod Letters
+pub mod Pages
+mod Reading
+mod TableTexts

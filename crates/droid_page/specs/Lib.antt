@@ -1,0 +1,6 @@
+pub mod Escapes
+pub mod Letters
+pub mod Pages
+pub mod Readers
+pub mod Tables
+pub mod Trees
