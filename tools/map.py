@@ -31,10 +31,13 @@ BELOW_HEADS = {
     "droid_profile_csv": ["droid_core_spec", "droid_fixity_manifest"],
     "droid_signature_parser": ["droid_pronom_pattern"],
     "droid_signature_spec": ["droid_pronom_pattern", "droid_pronom_formats"],
+    "droid_signature_patterns": ["droid_pronom_pattern", "droid_pronom_formats"],
+    "droid_signature": ["droid_pronom_formats"],
     "droid_desk_folders": [
         "droid_fixity_lists", "droid_fixity_profile", "droid_tree_connection", "droid_tree_disk", "droid_tree_remote", "droid_tree_submission", "droid_tree_upload",
     ],
     "droid_desk_profile": ["droid_profile_csv", "droid_tree_disk"],
+    "droid_desk_registry": ["droid_tree_disk"],
     "droid_desk_service": ["droid_lines_script", "droid_lines_send", "droid_pronom_common"],
 }
 # what tests share

@@ -11,6 +11,7 @@
 #   wire/run.sh   frames on standard streams and on connections, in Python
 #   folders/run.sh   profiles of folders of this machine, in Python
 #   submissions/run.sh   folders submitted to a port, through connections that are cut, in Python
+#   signatures/run.py   registries of signature files, beside a model and expat
 #   identification.py   a file of each shape by random registries, beside the model
 #   install.py    the manual page, the completions and what `make install` writes
 #   readme.sh     the commands of README.md, pasted into a shell
@@ -60,6 +61,7 @@ part sh "$tests/random.sh" "$program"
 part sh "$tests/sizes.sh" "$program"
 part sh "$tests/folders/run.sh" "$program"
 part python3 "$tests/identification.py" "$program"
+part python3 "$tests/signatures/run.py" "$program"
 part python3 "$tests/install.py" "$program"
 # (0 unless it was ended)
 wait "$!" || echo failed >>"$work/ended"

@@ -6,6 +6,7 @@ ghost use Rattle.clap.specs.declared.builder.command.Command.TheViews.{out-Comma
 ghost use Rattle.droid_desk_arguments.specs.Asking.{IsAsked, IsAskedBy, WordsAsk};
 ghost use Rattle.droid_desk_arguments.specs.Commands.{client_option, connections_option, first_option, number_named, port_option, profile_command, program, registry_option, run_command, script_command, send_command, serve_command, serve_numbers, top_command};
 
+use crate::conversion::{CONVERSION, ConversionOptions, conversion, conversion_asked};
 use crate::help::{ABOUT, EVERYDAY_HELP, HELP, REGISTRY_HELP, SCRIPT_ABOUT, SCRIPT_HELP};
 use crate::no_command::{NoCommand, unused_words};
 use crate::profile::{HASH, PROFILE, ProfileOptions, flag, hash_of, profile, profile_asked};
@@ -66,6 +67,8 @@ pub enum Asked<'a> {
     Profile(ProfileOptions<'a>),
     /// Submit a folder of this machine to a service.
     Submit(SubmitOptions<'a>),
+    /// Make a registry of a signature file.
+    Registry(ConversionOptions<'a>),
     /// Run a script.
     Script {
         registry: RegistrySource<'a>,
@@ -145,6 +148,9 @@ fn asked_by<'a>(matches: &ArgMatches<'a>) -> Option<Asked<'a>>
     if let Some(submit) = matches.subcommand_matches(SUBMIT) {
         return submit_asked(submit);
     }
+    if let Some(conversion) = matches.subcommand_matches(CONVERSION) {
+        return conversion_asked(conversion);
+    }
     if let Some(script) = matches.subcommand_matches(SCRIPT) {
         return script_asked(script);
     }
@@ -203,6 +209,7 @@ fn command<'a>(alloc: Global) -> Result<Command<'a>, AllocError>
     top(alloc)
         .subcommand(profile(alloc)?)?
         .subcommand(submit(alloc)?)?
+        .subcommand(conversion(alloc)?)?
         .subcommand(script(alloc)?)?
         .subcommand(run(alloc)?)?
         .subcommand(serve(alloc)?)?

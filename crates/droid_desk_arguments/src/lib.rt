@@ -2,6 +2,8 @@
 #![tactic(auto)]
 
 mod arguments;
+mod conversion;
+mod conversion_help;
 mod help;
 mod no_command;
 mod profile;
@@ -12,6 +14,7 @@ mod submit;
 mod submit_help;
 
 pub use arguments::{Asked, what_is_asked};
+pub use conversion::ConversionOptions;
 pub use no_command::{NoCommand, unread_words};
 pub use profile::ProfileOptions;
 pub use source::RegistrySource;

@@ -26,7 +26,7 @@ pub(crate) const MATCH_ALL: &str = "match-all";
 
 pub(crate) const HASH: &str = "hash";
 
-const OUTPUT: &str = "output";
+pub(crate) const OUTPUT: &str = "output";
 
 const MANIFEST: &str = "manifest";
 

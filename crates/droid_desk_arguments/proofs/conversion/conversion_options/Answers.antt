@@ -1,0 +1,15 @@
+use Rattle.std.proofs.Common.{◌∙◌, codes}
+use Rattle.clap.specs.Words.{found_of}
+use Rattle.clap.proofs.WalkLemmas.{first_value-rows}
+use Rattle.droid_desk_arguments.proofs.conversion.conversion_options.Goals as goal
+
+pub returns : goal.returns
+returns c =
+    let found = found_of c.args.conversion.now in
+    let file = c.in_ok-file.ensures ∙ first_value-rows found (codes "file") in
+    let output = c.get_str-output.ensures ∙ first_value-rows found (codes "output") in
+    record {
+      file = file;
+      output = output;
+      quiet = c.flag_of-quiet.ensures;
+    }

@@ -1,0 +1,56 @@
+//! What has an ID.
+
+ghost use Rattle.std.specs.Prelude.{◌≡◌, ℕ, List, ◌++◌, ◌∷◌, [], length, OnOk};
+ghost use Rattle.droid_signature.specs.Holders.{holder, one_more};
+
+use std::alloc::{AllocError, Global};
+use std::collections::BTreeMap;
+
+/// What has an ID, by its place.
+#[derive(Clone, Copy, Debug, PartialEq, Eq)]
+pub(crate) enum Holder {
+    Nobody,
+    Only(u32),
+    Several,
+}
+
+/// For each ID what has it.
+#[derive(Drop)]
+pub(crate) struct Ids {
+    holders: BTreeMap<u32, Holder>,
+}
+
+impl Ids {
+    ghost use Rattle.droid_signature.specs.IdMaps.{AreOf};
+
+    /// Nothing has an ID yet. Allocates nothing.
+    pub(crate) fn new(alloc: Global) -> Ids
+        ensures { AreOf result [] }
+    {
+        Ids {
+            holders: BTreeMap::new(alloc),
+        }
+    }
+
+    /// Notes that what stands at a place has this ID.
+    pub(crate) fn note(&mut self, id: u32, place: u32) -> Result<(), AllocError>
+        ensures { OnOk result ((ids : List ℕ) → AreOf self.old ids → place ≡ length ids → AreOf self.new (ids ++ id ∷ [])) }
+    {
+        let holder = match self.holder(id) {
+            Holder::Nobody => Holder::Only(place),
+            Holder::Only(_) | Holder::Several => Holder::Several,
+        };
+        self.holders.insert(id, holder)?;
+        Ok(())
+    }
+
+    /// Returns what has this ID.
+    pub(crate) fn holder(&self, id: u32) -> Holder
+        ensures { (ids : List ℕ) → AreOf self.now ids → result ≡ holder id ids }
+    {
+        match self.holders.get(&id) {
+            Some(holder) => *holder,
+            None => Holder::Nobody,
+        }
+    }
+}
