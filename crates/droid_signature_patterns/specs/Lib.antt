@@ -1,11 +1,7 @@
--- Texts of patterns.
-pub mod Texts
--- How a pattern is written.
-pub mod Written
--- What an operation on texts gives.
-pub mod Outcomes
--- Subsequences whose texts are read.
-pub mod ReadValues
+-- Subsequences whose texts are read, and the patterns that they are written as.
+pub mod Parts
+-- How a pattern's text ends.
+pub mod Ends
 -- Why a registry cannot hold a byte sequence.
 pub mod Reasons
 -- What a signature becomes.

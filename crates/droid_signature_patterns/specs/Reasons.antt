@@ -1,128 +1,123 @@
 -- Why a registry cannot hold a byte sequence: what each reason says of it.
-use Rattle.std.specs.Prelude.{◌≡◌, ◌≢◌, ◌⊎◌, ℕ, suc, ◌<◌, ◌≤◌, ◌==◌, ◌||◌, ◌&&◌, Bool, true, false, List, [], ◌∷◌, length, drop, map, Option, Some, None, IfSome, ⊤}
-use Rattle.std.specs.List.{AllByRecursion}
+use Rattle.std.specs.Prelude.{◌≡◌, ◌⊎◌, ℕ, suc, ◌<◌, ◌≤◌, ◌==◌, ◌&&◌, Bool, true, false, List, [], ◌∷◌, length, map, take, Option, Some, None}
+use Rattle.std.specs.List.{Any, list_any}
 use Rattle.droid_pronom_pattern.specs.Patterns.{Element}
-use Rattle.droid_pronom_formats.specs.Registry.{AnyOf}
+use Rattle.droid_pronom_formats.specs.declared.rows.Offsets.{Offsets}
 use Rattle.droid_signature_spec.specs.Records.{ByteSequenceRecord, SubSequenceRecord}
 use Rattle.droid_signature_spec.specs.declared.subsequence.Fragment.{Fragment}
 use Rattle.droid_signature_spec.specs.declared.subsequence.OffsetRange.{OffsetRange}
 use Rattle.droid_signature_spec.specs.declared.sequence.Reference.TheVariants.{End, Other}
-use Rattle.droid_signature_spec.specs.Expansions.{patterns_of}
-use Rattle.droid_signature_spec.specs.Terms.{Atom, Plain, Outside, Between, Quoted, Term, One, OneOf}
-use Rattle.droid_signature_spec.specs.TermText.{AreBounds, SpellsTerms}
-use Rattle.droid_signature_spec.specs.Meaning.{TextMatches, lowest, outermost}
-use Rattle.droid_signature_spec.specs.Pieces.{ArePieces, Piece}
-use Rattle.droid_signature_spec.specs.Sequences.{ArePatternsOf}
-use Rattle.droid_signature_parser.specs.TermValues.{term_of}
-use Rattle.droid_signature_parser.specs.declared.term.TextTerm.{TextTerm}
-use Rattle.std.specs.declared.vec.Vec.{Vec}
-use Rattle.std.specs.declared.alloc.Global.{Global}
-use Rattle.droid_signature_patterns.specs.declared.reason.Reason.{Reason}
-use Rattle.droid_signature_patterns.specs.declared.reason.Reason.TheVariants as reasons
+use Rattle.droid_signature_spec.specs.Terms.{Term}
+use Rattle.droid_signature_spec.specs.TermText.{SpellsTerms}
+use Rattle.droid_signature_spec.specs.Meaning.{lowest, outermost}
+use Rattle.droid_signature_spec.specs.Sequences.{IsAnchorOf}
+use Rattle.droid_signature_texts.specs.Outcomes.{AreTooMuch, HasMany, IsReasonOfTerms}
+use Rattle.droid_signature_texts.specs.Written.{written_all, written_each}
+use Rattle.droid_signature_texts.specs.declared.reason.Reason.{Reason}
+use Rattle.droid_signature_texts.specs.declared.reason.Reason.TheVariants as reasons
+use Rattle.droid_signature_patterns.specs.Parts.{AreReadParts, IsReadPart, ReadFragment, ReadPart, level, row_levels, row_patterns, side_levels}
+use Rattle.droid_signature_patterns.specs.Ends.{ends_in_byte}
+use Rattle.droid_signature_patterns.specs.declared.part_texts.Way.{Way}
+use Rattle.droid_signature_patterns.specs.declared.part_texts.Way.TheVariants as way
 
 -- the lower offset is too large
 abbrev pub IsReasonOfLower : OffsetRange → Reason → Type 0
 IsReasonOfLower offsets reason = (reason ≡ reasons.LargeOffset) × (65535 < lowest offsets)
 
--- the offsets are not from a lower to an upper one of at most 65,535
+-- the upper offset is missing, too large, or less than the lower one
+abbrev pub IsReasonOfUpper : OffsetRange → Option ℕ → Reason → Type 0
+IsReasonOfUpper offsets None reason = reason ≡ reasons.NoUpperOffset
+IsReasonOfUpper offsets (Some most) reason = ((reason ≡ reasons.LargeOffset) × (65535 < most)) ⊎ ((reason ≡ reasons.OffsetOrder) × (most < lowest offsets))
+
 abbrev pub IsReasonOfBounds : OffsetRange → Reason → Type 0
-IsReasonOfBounds offsets reasons.LargeOffset = (65535 < lowest offsets) ⊎ ((n : ℕ) × (offsets.max ≡ Some n) × (65535 < n))
-IsReasonOfBounds offsets reasons.NoUpperOffset = offsets.max ≡ None
-IsReasonOfBounds offsets reasons.OffsetOrder = (n : ℕ) × (offsets.max ≡ Some n) × (n < lowest offsets)
-IsReasonOfBounds offsets reason = ⊥
+IsReasonOfBounds offsets reason = IsReasonOfLower offsets reason ⊎ IsReasonOfUpper offsets offsets.max reason
 
 -- whether a fragment has this position
 abbrev pub has_position : ℕ → List Fragment → Bool
-has_position position [] = false
-has_position position (fragment ∷ fragments) = (fragment.position == position) || has_position position fragments
+has_position position fragments = list_any (λ it. it.position == position) fragments
 
--- each position from 1 to the largest has a fragment, and no fragment has the position 0
-pub record ArePlaced (fragments : List Fragment) : Type 0 where
-  pub none_at_zero : has_position 0 fragments ≡ false
-  pub all : (position : ℕ) → 0 < position → position ≤ outermost fragments → has_position position fragments ≡ true
+-- a fragment's position is 0 or over 64, or no fragment has a position below the outermost
+abbrev pub IsReasonOfPosition : Reason → Fragment → Type 0
+IsReasonOfPosition reason fragment = ((reason ≡ reasons.FragmentPositions) × (fragment.position ≡ 0)) ⊎ ((reason ≡ reasons.LargePosition) × (64 < fragment.position))
 
-abbrev pub IsReasonOfFragments : List Fragment → Reason → Type 0
-IsReasonOfFragments fragments reasons.ManyFragments = 256 < length fragments
-IsReasonOfFragments fragments reasons.FragmentPositions = ArePlaced fragments → ⊥
-IsReasonOfFragments fragments reason = ⊥
+abbrev pub IsReasonOfPositions : List Fragment → Reason → Type 0
+IsReasonOfPositions fragments reason =
+    Any (IsReasonOfPosition reason) fragments
+    ⊎ ((position : ℕ) × (reason ≡ reasons.FragmentPositions) × (0 < position) × (position ≤ outermost fragments) × (has_position position fragments ≡ false))
+
+-- the text is outside the grammar
+abbrev pub IsReasonOfText : List ℕ → Reason → Type 0
+IsReasonOfText text reason = (reason ≡ reasons.Text) × ((terms : List Term) → SpellsTerms text terms → ⊥)
+
+abbrev pub IsReasonOfFragment : Reason → Fragment → Type 0
+IsReasonOfFragment reason fragment = IsReasonOfBounds fragment.offsets reason ⊎ IsReasonOfText fragment.text reason
+
+abbrev pub IsReasonOfSide : List Fragment → Reason → Type 0
+IsReasonOfSide fragments reason = IsReasonOfPositions fragments reason ⊎ Any (IsReasonOfFragment reason) fragments
+
+abbrev pub IsReasonOfPart : Reason → SubSequenceRecord → Type 0
+IsReasonOfPart reason part =
+    IsReasonOfLower part.offsets reason ⊎ IsReasonOfSide part.left reason ⊎ IsReasonOfText part.text reason ⊎ IsReasonOfSide part.right reason
+
+-- a subsequence behind the first has an upper offset other than 0, or cannot be read
+abbrev pub HasUpper : SubSequenceRecord → Type 0
+HasUpper part = (n : ℕ) × (part.offsets.max ≡ Some (suc n))
+
+abbrev pub IsReasonOfFurther : Reason → SubSequenceRecord → Type 0
+IsReasonOfFurther reason part = ((reason ≡ reasons.FurtherUpperOffset) × HasUpper part) ⊎ IsReasonOfPart reason part
 
 -- whether the positions are n, the number behind n, and so on
 abbrev pub are_numbered : ℕ → List SubSequenceRecord → Bool
 are_numbered n [] = true
 are_numbered n (part ∷ parts) = (part.position == n) && are_numbered (suc n) parts
 
--- the bounds of ranges of several bytes are bounds, as in what a text spells
-abbrev pub IsBounded : Atom → Type 0
-IsBounded (Plain element) = ⊤
-IsBounded (Outside low high) = ⊤
-IsBounded (Between low high) = AreBounds low high
-IsBounded (Quoted bytes) = ⊤
-
-abbrev pub IsBoundedTerm : Term → Type 0
-IsBoundedTerm (One atom) = IsBounded atom
-IsBoundedTerm (OneOf alternatives) = AllByRecursion (AllByRecursion IsBounded) alternatives
-
-abbrev pub AreBounded : List Term → Type 0
-AreBounded terms = AllByRecursion IsBoundedTerm terms
-
--- a range of at most 16 bytes
-abbrev pub IsExpandable : Atom → Type 0
-IsExpandable (Plain element) = ⊤
-IsExpandable (Outside low high) = ⊤
-IsExpandable (Between low high) = AreBounds low high × (length low ≤ 16)
-IsExpandable (Quoted bytes) = ⊤
-
-abbrev pub AreExpandableTerms : Term → Type 0
-AreExpandableTerms (One atom) = IsExpandable atom
-AreExpandableTerms (OneOf alternatives) = AllByRecursion (AllByRecursion IsExpandable) alternatives
-
-abbrev pub AreExpandable : List Term → Type 0
-AreExpandable terms = AllByRecursion AreExpandableTerms terms
-
--- a text is read as these terms
-pub record IsReadText (text : List ℕ) (terms : Vec TextTerm Global) : Type 0 where
-  pub spelled : SpellsTerms text (map term_of terms.items)
-  pub expandable : AreExpandable (map term_of terms.items)
-  pub some : patterns_of (map term_of terms.items) ≢ []
-  pub patterns : ArePatternsOf (TextMatches text) (patterns_of (map term_of terms.items))
-
-abbrev pub IsReasonOfText : List ℕ → Reason → Type 0
-IsReasonOfText text reasons.Text = (terms : List Term) → SpellsTerms text terms → ⊥
-IsReasonOfText text reasons.LongRange = (terms : List Term) × SpellsTerms text terms × (AreExpandable terms → ⊥)
-IsReasonOfText text reason = ⊥
-
-abbrev pub IsReasonOfFragment : Fragment → Reason → Type 0
-IsReasonOfFragment fragment reason = IsReasonOfBounds fragment.offsets reason ⊎ IsReasonOfText fragment.text reason
-
-abbrev pub IsReasonOfSide : List Fragment → Reason → Type 0
-IsReasonOfSide fragments reason = IsReasonOfFragments fragments reason ⊎ AnyOf (λ fragment. IsReasonOfFragment fragment reason) fragments
-
-abbrev pub IsReasonOfPart : SubSequenceRecord → Reason → Type 0
-IsReasonOfPart part reason =
-    IsReasonOfLower part.offsets reason ⊎ IsReasonOfSide part.left reason ⊎ IsReasonOfText part.text reason ⊎ IsReasonOfSide part.right reason
-
--- a subsequence behind the first has an upper offset
-abbrev pub HasUpper : SubSequenceRecord → Type 0
-HasUpper part = (n : ℕ) × (part.offsets.max ≡ Some (suc n))
-
-abbrev pub IsReasonOfFurther : List SubSequenceRecord → Reason → Type 0
-IsReasonOfFurther parts reason = ((reason ≡ reasons.FurtherUpperOffset) × AnyOf HasUpper parts) ⊎ AnyOf (λ part. IsReasonOfPart part reason) parts
-
--- subsequences behind the first are read as these
-pub record AreReadFurther (parts : List SubSequenceRecord) (pieces : List Piece) : Type 0 where
-  pub read : ArePieces parts pieces
-  pub sound : AllByRecursion (λ part. HasUpper part → ⊥) parts
-
-abbrev pub IsReasonOfParts : ByteSequenceRecord → Reason → Type 0
-IsReasonOfParts sequence reasons.Reference = sequence.reference ≡ Other
-IsReasonOfParts sequence reasons.NoSubsequence = sequence.parts ≡ []
-IsReasonOfParts sequence reasons.SeveralFromEnd = (sequence.reference ≡ End) × (1 < length sequence.parts)
-IsReasonOfParts sequence reasons.SubsequencePositions = are_numbered 1 sequence.parts ≡ false
-IsReasonOfParts sequence reason = ⊥
-
 -- why a byte sequence is not read
+abbrev pub IsReasonOfParts : Reason → List SubSequenceRecord → Type 0
+IsReasonOfParts reason [] = reason ≡ reasons.NoSubsequence
+IsReasonOfParts reason (part ∷ further) = IsReasonOfBounds part.offsets reason ⊎ IsReasonOfPart reason part ⊎ Any (IsReasonOfFurther reason) further
+
 abbrev pub IsReasonOfSequence : ByteSequenceRecord → Reason → Type 0
 IsReasonOfSequence sequence reason =
-    IsReasonOfParts sequence reason
-    ⊎ ((part : SubSequenceRecord) × (further : List SubSequenceRecord) × (sequence.parts ≡ part ∷ further)
-    × (IsReasonOfBounds part.offsets reason ⊎ IsReasonOfPart part reason ⊎ IsReasonOfFurther further reason))
+    ((reason ≡ reasons.Reference) × (sequence.reference ≡ Other))
+    ⊎ ((reason ≡ reasons.SeveralFromEnd) × (sequence.reference ≡ End) × (1 < length sequence.parts))
+    ⊎ ((reason ≡ reasons.SubsequencePositions) × (are_numbered 1 sequence.parts ≡ false))
+    ⊎ IsReasonOfParts reason sequence.parts
+
+-- why what was read cannot be written: a fragment with its gap, the fragments of a position, a subsequence, all of them
+abbrev pub IsReasonOfReadFragment : Way → Reason → ReadFragment → Type 0
+IsReasonOfReadFragment from reason it = IsReasonOfTerms it.terms reason ⊎ AreTooMuch (map written_each (side_levels from it)) reason
+
+abbrev pub IsReasonOfLevel : Way → ℕ → List ReadFragment → Reason → Type 0
+IsReasonOfLevel from position fragments reason =
+    Any (IsReasonOfReadFragment from reason) fragments ⊎ ((count : ℕ) × HasMany (written_each (level from position (take count fragments))) reason)
+
+abbrev pub IsReasonOfReadPart : Reason → ReadPart → Type 0
+IsReasonOfReadPart reason part =
+    ((position : ℕ) × IsReasonOfLevel way.Left position part.left reason) ⊎ IsReasonOfTerms part.terms reason ⊎ ((position : ℕ) × IsReasonOfLevel way.Right position part.right reason)
+
+abbrev pub IsReasonOfRow : ReadPart → List ReadPart → Reason → Type 0
+IsReasonOfRow part further reason =
+    IsReasonOfReadPart reason part ⊎ Any (IsReasonOfReadPart reason) further ⊎ AreTooMuch (map written_each (row_levels part further)) reason
+
+-- a pattern has no byte, or ends in a gap
+abbrev pub HasGapAtEnd : List (List Element) → Reason → Type 0
+HasGapAtEnd patterns reason = (reason ≡ reasons.GapAtEnd) × Any (λ es. ends_in_byte (written_all es) ≡ false) patterns
+
+-- A byte sequence is read as these subsequences, with these offsets.
+pub record IsRead (sequence : ByteSequenceRecord) (offsets : Offsets) (first : ReadPart) (rest : List ReadPart) : Type 0 where
+  pub part : SubSequenceRecord
+  pub further : List SubSequenceRecord
+  pub parts : sequence.parts ≡ part ∷ further
+  pub anchor : IsAnchorOf sequence.reference offsets.anchor
+  pub alone : sequence.reference ≡ End → further ≡ []
+  pub from_min : offsets.min ≡ lowest part.offsets
+  pub to_max : part.offsets.max ≡ Some offsets.max
+  pub is_first : IsReadPart part first
+  pub are_rest : AreReadParts further rest
+
+-- why a registry cannot hold a byte sequence: it is not read, or what was read is not written
+abbrev pub IsReasonOfOne : Reason → ByteSequenceRecord → Type 0
+IsReasonOfOne reason sequence =
+    IsReasonOfSequence sequence reason
+    ⊎ ((offsets : Offsets) × (first : ReadPart) × (rest : List ReadPart) × IsRead sequence offsets first rest
+    × (IsReasonOfRow first rest reason ⊎ HasGapAtEnd (row_patterns first rest) reason))

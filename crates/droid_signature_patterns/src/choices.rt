@@ -1,17 +1,23 @@
 //! What a signature becomes: for each of its byte sequences, offsets and patterns any of which has to hit.
 
-ghost use Rattle.std.specs.Prelude.{◌≡◌, IfOk, map};
-ghost use Rattle.droid_signature_patterns.specs.Outcomes.{IfLeftOut};
+ghost use Rattle.std.specs.Prelude.{◌≡◌, ◌≤◌, IfOk, length};
+ghost use Rattle.std.specs.List.{list_all};
+ghost use Rattle.droid_signature_texts.specs.Outcomes.{IfLeftOut};
 ghost use Rattle.droid_signature_patterns.specs.Choices.{AreTaken, IsTaken};
 ghost use Rattle.droid_signature_patterns.specs.Choices as spec;
+ghost use Rattle.droid_signature_patterns.specs.Ends.{ends_in_byte};
+ghost use Rattle.droid_signature_patterns.specs.Ends as ends;
+ghost use Rattle.droid_signature_patterns.specs.Reasons.{IsReasonOfOne};
 
 use crate::part_texts::sequence_texts;
-use crate::pattern_texts::{MOST_PATTERNS, PatternTexts};
 use crate::reading::read_sequence;
-use crate::reason::{Reason, Stop};
 use droid_pronom_formats::Offsets;
 use droid_signature_spec::{InternalSignature, SequenceRecord};
+use droid_signature_texts::{PatternText, PatternTexts, Reason, Stop};
 use std::alloc::Global;
+
+/// The most ways to choose one pattern for each byte sequence of a signature. This limit is the project's own.
+const MOST_WAYS: usize = 64;
 
 /// Offsets, and the patterns any of which has to hit there.
 #[derive(Debug, Drop)]
@@ -21,40 +27,65 @@ pub struct Choices {
 }
 
 /// Returns what a signature becomes: for each byte sequence the choices that stand for it, or why a registry cannot hold it.
-/// The choices can be combined in at most 64 ways.
+/// There are at most 64 ways to take one choice of each.
 pub fn choices_of(alloc: Global, signature: &InternalSignature) -> Result<Vec<Choices>, Stop>
-    // The signatures of a registry that stand for the signature are written as these choices.
+    // The choices hit where the signature's byte sequences do, and a registry reads them.
     ensures taken { IfOk result (λ all. AreTaken signature.now all.items) }
     // The reason is true.
     ensures left_out { IfLeftOut result (spec.IsReasonOf signature.now) }
 {
-    if signature.sequences().is_empty() {
+    let sequences = signature.sequences();
+    if sequences.is_empty() {
         return Err(Stop::LeftOut(Reason::NoSequence));
     }
     let mut all = Vec::new(alloc);
     let mut count = 1;
-    for sequence in signature.sequences() {
+    for sequence in sequences {
         let choices = choices_of_sequence(alloc, sequence)?;
         count *= choices.texts.len();
-        if count > MOST_PATTERNS {
+        all.push(choices)?;
+        if count > MOST_WAYS {
             return Err(Stop::LeftOut(Reason::ManyAlternatives));
         }
-        all.push(choices)?;
     }
     Ok(all)
 }
 
+/// Returns what a byte sequence becomes.
 fn choices_of_sequence(alloc: Global, sequence: &SequenceRecord) -> Result<Choices, Stop>
     ensures taken { IfOk result (IsTaken sequence.now) }
-    ensures left_out { IfLeftOut result (spec.IsReasonOfOne sequence.now) }
+    ensures few { IfOk result (λ choices. length choices.texts ≤ 64) }
+    ensures left_out { IfLeftOut result (λ reason. IsReasonOfOne reason sequence.now) }
 {
     let read = read_sequence(alloc, sequence)?;
     let texts = sequence_texts(alloc, &read)?;
-    if !texts.end_in_bytes() {
+    if !end_in_bytes(texts.as_slice()) {
         return Err(Stop::LeftOut(Reason::GapAtEnd));
     }
     Ok(Choices {
         offsets: read.offsets,
         texts,
     })
+}
+
+/// Returns whether no text is empty or ends in a gap.
+fn end_in_bytes(texts: &[PatternText]) -> bool
+    ensures { result ≡ list_all ends_in_byte texts.now }
+{
+    for text in texts {
+        if !ends_in_byte(text.as_slice()) {
+            return false;
+        }
+    }
+    true
+}
+
+/// Returns whether a text is not empty and does not end in a gap.
+fn ends_in_byte(text: &[u8]) -> bool
+    ensures { result ≡ ends.ends_in_byte text.now }
+{
+    match text.last() {
+        None => false,
+        Some(last) => *last != b'}' && *last != b'*',
+    }
 }

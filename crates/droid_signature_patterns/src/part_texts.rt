@@ -1,113 +1,206 @@
 //! The texts of the patterns that stand for subsequences.
 
-ghost use Rattle.std.specs.Prelude.{◌≡◌, map};
-ghost use Rattle.droid_signature_spec.specs.Pieces.{gap_patterns, outermost_side, piece_patterns, row_patterns};
-ghost use Rattle.droid_signature_patterns.specs.Outcomes.{Becomes, BecomesFrom};
-ghost use Rattle.droid_signature_patterns.specs.ReadValues.{AreSound, CanBeWritten, IsSound, IsSoundSequence, piece_of, side_of};
-ghost use Rattle.droid_signature_patterns.specs.Texts.{joined};
-ghost use Rattle.droid_signature_patterns.specs.Written.{level_patterns, side_patterns, written_each};
+ghost use Rattle.std.specs.Prelude.{◌≡◌, ◌==◌, ◌++◌, ◌∷◌, [], ℕ, IfOk, OnOk, map, if◌then◌else◌};
+ghost use Rattle.std.specs.List.{Any};
+ghost use Rattle.droid_pronom_pattern.specs.Patterns.{OpenGap};
+ghost use Rattle.droid_signature_spec.specs.Pieces.{gap_patterns};
+ghost use Rattle.droid_signature_texts.specs.Outcomes.{IfLeftOut};
+ghost use Rattle.droid_signature_texts.specs.Texts.{AreSmall};
+ghost use Rattle.droid_signature_texts.specs.Written.{written_each};
+ghost use Rattle.droid_signature_patterns.specs.Parts as spec;
+ghost use Rattle.droid_signature_patterns.specs.Reasons.{IsReasonOfLevel, IsReasonOfReadFragment, IsReasonOfReadPart, IsReasonOfRow};
+ghost use Rattle.droid_signature_patterns.specs.declared.part_texts.Way.TheVariants as way;
 
-use crate::element_texts::push_gap;
-use crate::pattern_texts::PatternTexts;
-use crate::read_parts::{ReadPart, ReadSequence, ReadSide};
-use crate::reason::Stop;
-use crate::term_texts::append_terms;
-use std::alloc::Global;
+use crate::read_parts::{ReadFragment, ReadPart, ReadSequence};
+use droid_signature_texts::{PatternTexts, Stop, expanded, push_gap, texts_of};
+use std::alloc::{AllocError, Global};
 
 /// The side of a sequence on which fragments lie.
 #[derive(Clone, Copy, Debug, PartialEq, Eq)]
-pub(crate) enum Side {
+pub(crate) enum Way {
     Left,
     Right,
 }
 
-/// Returns the texts of the patterns that stand for a byte sequence.
+/// Returns the texts of the patterns that stand for a byte sequence: at most 64, each of at most 4,096 bytes.
 pub(crate) fn sequence_texts(alloc: Global, read: &ReadSequence) -> Result<PatternTexts, Stop>
-    requires { IsSoundSequence read.now }
-    ensures { BecomesFrom result (written_each (row_patterns (piece_of read.now.first) (map piece_of read.now.further.items))) }
+    ensures ok { IfOk result (λ texts. texts ≡ written_each (spec.row_patterns read.now.first read.now.further.items)) }
+    ensures small { IfOk result AreSmall }
+    ensures err { IfLeftOut result (IsReasonOfRow read.now.first read.now.further.items) }
 {
-    let mut texts = PatternTexts::with_empty(alloc)?;
-    append_part(alloc, &mut texts, &read.first)?;
-    for part in read.further.as_slice() {
-        let mut gap = Vec::new(alloc);
-        push_gap(&mut gap, part.least, None)?;
-        texts.append(gap.as_slice())?;
-        append_part(alloc, &mut texts, part)?;
-    }
+    let mut levels = Vec::new(alloc);
+    push_part(alloc, &mut levels, &read.first)?;
+    push_further(alloc, &mut levels, read.further.as_slice())?;
+    let texts = expanded(alloc, levels.as_slice())?;
     Ok(texts)
 }
 
-/// Appends a subsequence: left fragments from the outermost in, its sequence, right fragments from the innermost out.
-fn append_part(alloc: Global, texts: &mut PatternTexts, part: &ReadPart) -> Result<(), Stop>
-    requires { IsSound part.now }
-    ensures { Becomes result texts.new (joined texts.old (written_each (piece_patterns (piece_of part.now)))) }
+/// Appends the levels of further subsequences, each behind an open gap.
+fn push_further(
+    alloc: Global,
+    levels: &mut Vec<PatternTexts>,
+    parts: &[ReadPart],
+) -> Result<(), Stop>
+    ensures ok { OnOk result (levels.new.items ≡ levels.old.items ++ map written_each (spec.further_levels parts.now)) }
+    ensures err { IfLeftOut result (λ reason. Any (IsReasonOfReadPart reason) parts.now) }
 {
-    let outer = outermost(part.left.as_slice());
-    for inner in 0..outer {
-        append_level(alloc, texts, part.left.as_slice(), outer - inner, Side::Left)?;
+    for part in parts {
+        push_open_gap(alloc, levels, part.least())?;
+        push_part(alloc, levels, part)?;
     }
-    append_terms(alloc, texts, part.terms.as_slice())?;
-    for inner in 0..outermost(part.right.as_slice()) {
-        append_level(alloc, texts, part.right.as_slice(), inner + 1, Side::Right)?;
+    Ok(())
+}
+
+/// Appends a level of one open gap.
+fn push_open_gap(
+    alloc: Global,
+    levels: &mut Vec<PatternTexts>,
+    least: u16,
+) -> Result<(), AllocError>
+    ensures { OnOk result (levels.new.items ≡ levels.old.items ++ written_each ((OpenGap least ∷ []) ∷ []) ∷ []) }
+{
+    let mut gap = Vec::new(alloc);
+    push_gap(&mut gap, least, None)?;
+    let texts = PatternTexts::one(alloc, gap)?;
+    levels.push(texts)?;
+    Ok(())
+}
+
+/// Appends the levels of a subsequence: left fragments from the outermost in, its sequence, right fragments from the innermost
+/// out.
+fn push_part(alloc: Global, levels: &mut Vec<PatternTexts>, part: &ReadPart) -> Result<(), Stop>
+    ensures ok { OnOk result (levels.new.items ≡ levels.old.items ++ map written_each (spec.part_levels part.now)) }
+    ensures err { IfLeftOut result (λ reason. IsReasonOfReadPart reason part.now) }
+{
+    push_left(alloc, levels, part.left())?;
+    let texts = texts_of(alloc, part.terms())?;
+    levels.push(texts)?;
+    push_right(alloc, levels, part.right())?;
+    Ok(())
+}
+
+/// Appends the levels of left fragments, from the outermost in.
+fn push_left(
+    alloc: Global,
+    levels: &mut Vec<PatternTexts>,
+    fragments: &[ReadFragment],
+) -> Result<(), Stop>
+    ensures ok { OnOk result (levels.new.items ≡ levels.old.items ++ map written_each (spec.left_levels fragments.now (spec.outermost_of fragments.now))) }
+    ensures err { IfLeftOut result (λ reason. (position : ℕ) × IsReasonOfLevel way.Left position fragments.now reason) }
+{
+    let outer = outermost(fragments);
+    for place in 0..outer {
+        let level = level_texts(alloc, fragments, outer - place, Way::Left)?;
+        levels.push(level)?;
+    }
+    Ok(())
+}
+
+/// Appends the levels of right fragments, from the innermost out.
+fn push_right(
+    alloc: Global,
+    levels: &mut Vec<PatternTexts>,
+    fragments: &[ReadFragment],
+) -> Result<(), Stop>
+    ensures ok { OnOk result (levels.new.items ≡ levels.old.items ++ map written_each (spec.right_levels fragments.now (spec.outermost_of fragments.now))) }
+    ensures err { IfLeftOut result (λ reason. (position : ℕ) × IsReasonOfLevel way.Right position fragments.now reason) }
+{
+    for place in 0..outermost(fragments) {
+        let level = level_texts(alloc, fragments, place + 1, Way::Right)?;
+        levels.push(level)?;
     }
     Ok(())
 }
 
 /// Returns the position of the outermost fragment, 0 if there are none.
-fn outermost(sides: &[ReadSide]) -> u32
-    ensures { result ≡ outermost_side (map side_of sides.now) }
+fn outermost(fragments: &[ReadFragment]) -> u32
+    ensures { result ≡ spec.outermost_of fragments.now }
 {
     let mut last = 0;
-    for side in sides {
-        last = last.max(side.position);
+    for fragment in fragments {
+        last = fragment.position().max(last);
     }
     last
 }
 
-/// Appends the fragments of a position, any of them, each with its gap.
-fn append_level(
+/// Returns the texts of the fragments of a position, any of them, each with its gap.
+fn level_texts(
     alloc: Global,
-    texts: &mut PatternTexts,
-    sides: &[ReadSide],
+    fragments: &[ReadFragment],
     position: u32,
-    side: Side,
-) -> Result<(), Stop>
-    requires { AreSound sides.now }
-    ensures { Becomes result texts.new (joined texts.old (written_each (level_patterns side position (map side_of sides.now)))) }
+    from: Way,
+) -> Result<PatternTexts, Stop>
+    ensures ok { IfOk result (λ texts. texts ≡ written_each (spec.level from position fragments.now)) }
+    ensures err { IfLeftOut result (IsReasonOfLevel from position fragments.now) }
 {
-    let mut level = PatternTexts::new(alloc);
-    for it in sides {
-        if it.position == position {
-            level.add_all(side_texts(alloc, it, side)?)?;
-        }
-    }
-    texts.append_each(alloc, &level)
-}
-
-/// Returns the texts of a fragment with its gap, which lies behind a left one and before a right one.
-fn side_texts(alloc: Global, it: &ReadSide, side: Side) -> Result<PatternTexts, Stop>
-    requires { CanBeWritten it.now.terms }
-    ensures { BecomesFrom result (written_each (side_patterns side (side_of it.now))) }
-{
-    let mut texts = PatternTexts::with_empty(alloc)?;
-    if side == Side::Right {
-        append_gap(alloc, &mut texts, it)?;
-    }
-    append_terms(alloc, &mut texts, it.terms.as_slice())?;
-    if side == Side::Left {
-        append_gap(alloc, &mut texts, it)?;
+    let mut texts = PatternTexts::new(alloc);
+    for fragment in fragments {
+        let more = texts_at(alloc, fragment, position, from)?;
+        texts.add_all(more)?;
     }
     Ok(texts)
 }
 
-/// Appends the gap of a fragment, if it may have a byte.
-fn append_gap(alloc: Global, texts: &mut PatternTexts, it: &ReadSide) -> Result<(), Stop>
-    ensures { Becomes result texts.new (joined texts.old (written_each (gap_patterns it.now.least it.now.most))) }
+/// Returns the texts of a fragment with its gap, if it has this position.
+fn texts_at(
+    alloc: Global,
+    fragment: &ReadFragment,
+    position: u32,
+    from: Way,
+) -> Result<PatternTexts, Stop>
+    ensures ok { IfOk result (λ texts. texts ≡ written_each (if fragment.now.position == position then spec.side_patterns from fragment.now else [])) }
+    ensures err { IfLeftOut result (λ reason. IsReasonOfReadFragment from reason fragment.now) }
 {
-    if it.most == 0 {
-        return Ok(());
+    if fragment.position() != position {
+        return Ok(PatternTexts::new(alloc));
     }
-    let mut gap = Vec::new(alloc);
-    push_gap(&mut gap, it.least, Some(it.most))?;
-    texts.append(gap.as_slice())
+    let texts = fragment_texts(alloc, fragment, from)?;
+    Ok(texts)
+}
+
+/// Returns the texts of a fragment with its gap, which lies behind a left one and before a right one.
+fn fragment_texts(alloc: Global, fragment: &ReadFragment, from: Way) -> Result<PatternTexts, Stop>
+    ensures ok { IfOk result (λ texts. texts ≡ written_each (spec.side_patterns from fragment.now)) }
+    ensures err { IfLeftOut result (λ reason. IsReasonOfReadFragment from reason fragment.now) }
+{
+    let own = texts_of(alloc, fragment.terms())?;
+    let gap = gap_texts(alloc, fragment.least(), fragment.most())?;
+    let levels = two(alloc, own, gap, from)?;
+    let texts = expanded(alloc, levels.as_slice())?;
+    Ok(texts)
+}
+
+/// Returns two levels: the first one first on the left, and last on the right.
+fn two(
+    alloc: Global,
+    own: PatternTexts,
+    gap: PatternTexts,
+    from: Way,
+) -> Result<Vec<PatternTexts>, AllocError>
+    ensures { IfOk result (λ levels. levels.items ≡ spec.in_order from own gap) }
+{
+    let mut levels = Vec::with_capacity(alloc, 2)?;
+    match from {
+        Way::Left => {
+            levels.push(own)?;
+            levels.push(gap)?;
+        }
+        Way::Right => {
+            levels.push(gap)?;
+            levels.push(own)?;
+        }
+    }
+    Ok(levels)
+}
+
+/// Returns the text of a gap: an empty one if it has no byte.
+fn gap_texts(alloc: Global, least: u16, most: u16) -> Result<PatternTexts, AllocError>
+    ensures { IfOk result (λ texts. texts ≡ written_each (gap_patterns least most)) }
+{
+    let mut text = Vec::new(alloc);
+    if most != 0 {
+        push_gap(&mut text, least, Some(most))?;
+    }
+    let texts = PatternTexts::one(alloc, text)?;
+    Ok(texts)
 }

@@ -1,34 +1,38 @@
 //! The positions of fragments and subsequences.
 
-ghost use Rattle.std.specs.Prelude.{◌≡◌, ◌<◌, ◌≤◌, IfErr, IfOk, length};
+ghost use Rattle.std.specs.Prelude.{◌≡◌, IfErr};
 ghost use Rattle.droid_signature_spec.specs.Meaning.{outermost};
 ghost use Rattle.droid_signature_patterns.specs.Reasons as spec;
 
-use crate::reason::Reason;
 use droid_signature_spec::{Fragment, SubSequence};
+use droid_signature_texts::Reason;
 
-/// The most fragments on one side. This limit is the project's own.
-const MOST_FRAGMENTS: usize = 256;
+/// The largest position of a fragment. This limit is the project's own.
+const LARGEST_POSITION: u32 = 64;
 
-/// Checks that there are not too many fragments, and that their positions are 1 to the largest, each at least once.
-pub(crate) fn see_fragments(fragments: &[Fragment]) -> Result<(), Reason>
-    ensures ok { IfOk result (λ _. spec.ArePlaced fragments.now) }
-    ensures err { IfErr result (spec.IsReasonOfFragments fragments.now) }
+/// Checks that the fragments' positions are 1 to the largest, each at least once, and at most 64.
+pub(crate) fn see_positions(fragments: &[Fragment]) -> Result<(), Reason>
+    ensures { IfErr result (spec.IsReasonOfPositions fragments.now) }
 {
-    if fragments.len() > MOST_FRAGMENTS {
-        return Err(Reason::ManyFragments);
-    }
     for fragment in fragments {
         if fragment.position == 0 {
             return Err(Reason::FragmentPositions);
         }
+        if fragment.position > LARGEST_POSITION {
+            return Err(Reason::LargePosition);
+        }
     }
+    see_each(fragments)?;
+    Ok(())
+}
+
+/// Checks that each position from 1 to the largest has a fragment.
+fn see_each(fragments: &[Fragment]) -> Result<(), Reason>
+    ensures { IfErr result (spec.IsReasonOfPositions fragments.now) }
+{
     let last = outermost(fragments);
-    if last as usize > fragments.len() {
-        return Err(Reason::FragmentPositions);
-    }
-    for position in 1..=last {
-        if !has_position(fragments, position) {
+    for inner in 0..last {
+        if !has_position(fragments, inner + 1) {
             return Err(Reason::FragmentPositions);
         }
     }
@@ -41,28 +45,24 @@ fn outermost(fragments: &[Fragment]) -> u32
 {
     let mut last = 0;
     for fragment in fragments {
-        last = last.max(fragment.position);
+        last = fragment.position.max(last);
     }
     last
 }
 
+/// Returns whether a fragment has this position.
 fn has_position(fragments: &[Fragment], position: u32) -> bool
     ensures { result ≡ spec.has_position position fragments.now }
 {
-    for fragment in fragments {
-        if fragment.position == position {
-            return true;
-        }
-    }
-    false
+    fragments.iter().any(|it| it.position == position)
 }
 
 /// Returns whether the subsequences' positions are 1, 2, 3 and so on.
 pub(crate) fn are_numbered(parts: &[SubSequence]) -> bool
     ensures { result ≡ spec.are_numbered 1 parts.now }
 {
-    for (place, part) in parts.iter().enumerate() {
-        if part.position() as usize != place + 1 {
+    for place in 0..parts.len() {
+        if parts[place].position() as usize != place + 1 {
             return false;
         }
     }

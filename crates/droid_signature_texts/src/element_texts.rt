@@ -4,8 +4,8 @@ ghost use Rattle.std.specs.Prelude.{◌≡◌, ◌++◌, ◌<◌, OnOk, decimal}
 ghost use Rattle.std.specs.List.{flat_map};
 ghost use Rattle.droid_pronom_pattern.specs.Patterns.{Byte, Except, Range};
 ghost use Rattle.droid_signature_parser.specs.TermValues.{gap_of};
-ghost use Rattle.droid_signature_patterns.specs.Written as spec;
-ghost use Rattle.droid_signature_patterns.specs.Written.{pair, written};
+ghost use Rattle.droid_signature_texts.specs.Written as spec;
+ghost use Rattle.droid_signature_texts.specs.Written.{pair, written};
 
 use itoa::Buffer;
 use std::alloc::AllocError;
@@ -60,7 +60,7 @@ pub(crate) fn push_except(text: &mut Vec<u8>, byte: u8) -> Result<(), AllocError
 }
 
 /// Appends a gap of at least `least` bytes, and at most `most` if there is such a limit.
-pub(crate) fn push_gap(
+pub fn push_gap(
     text: &mut Vec<u8>,
     least: u16,
     most: Option<u16>,

@@ -1,7 +1,7 @@
 //! Why a registry cannot hold a signature.
 
 ghost use Rattle.std.specs.Prelude.{◌≡◌};
-ghost use Rattle.droid_signature_patterns.specs.declared.reason.Stop.TheVariants as stops;
+ghost use Rattle.droid_signature_texts.specs.declared.reason.Stop.TheVariants as stops;
 
 use std::alloc::{AllocError, AllocFailed};
 
@@ -28,8 +28,8 @@ pub enum Reason {
     LargeOffset,
     /// On one side of a subsequence the fragments' positions are not 1 to the largest, each at least once.
     FragmentPositions,
-    /// There are more than 256 fragments on one side of a subsequence.
-    ManyFragments,
+    /// A fragment's position is over 64.
+    LargePosition,
     /// The text of a sequence or a fragment is outside the grammar, as one with a bit mask is.
     Text,
     /// A range is one of more than 16 bytes.

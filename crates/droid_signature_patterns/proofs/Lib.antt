@@ -1,0 +1,4 @@
+pub mod PartSets
+pub mod PartLevels
+pub mod ReadTexts
+pub mod Ways

@@ -1,0 +1,81 @@
+//! Texts that grow by one list of texts after another.
+
+ghost use Rattle.std.specs.Prelude.{◌≡◌, ◌⊎◌, ◌∷◌, [], IfOk, OnOk};
+ghost use Rattle.droid_signature_texts.specs.Outcomes.{AreTooMuch, IfLeftOut, IsTooMuch};
+ghost use Rattle.droid_signature_texts.specs.Texts.{AreSmall};
+ghost use Rattle.droid_signature_texts.specs.Texts as spec;
+
+use crate::pattern_texts::PatternTexts;
+use crate::reason::Stop;
+use std::alloc::{AllocError, Global};
+use std::marker::Model;
+
+/// Returns the texts of several lists, one behind the other, each with each: at most 64 texts of at most 4,096 bytes.
+pub fn expanded(alloc: Global, levels: &[PatternTexts]) -> Result<PatternTexts, Stop>
+    ensures ok { IfOk result (λ texts. texts ≡ spec.joined_all levels.now) }
+    ensures small { IfOk result AreSmall }
+    ensures err { IfLeftOut result (AreTooMuch levels.now) }
+{
+    let mut growing = Growing::new(alloc)?;
+    for level in levels {
+        growing.push(alloc, level)?;
+    }
+    let texts = growing.texts(alloc)?;
+    Ok(texts)
+}
+
+/// Texts, and a text that stands behind each of them. It grows in place where one text follows.
+#[derive(Drop)]
+struct Growing {
+    texts: PatternTexts,
+    last: Vec<u8>,
+}
+
+impl Model for Growing {
+    ghost use Rattle.std.specs.Prelude.{List, ℕ, ◌∷◌, []};
+    ghost use Rattle.droid_signature_texts.specs.Texts.{joined};
+
+    ghost Value = { List (List ℕ) };
+
+    ghost view = { λ it. joined it.texts (it.last.items ∷ []) };
+}
+
+impl Growing {
+    /// One empty text.
+    fn new(alloc: Global) -> Result<Growing, AllocError>
+        ensures { IfOk result (λ growing. growing ≡ [] ∷ []) }
+    {
+        let texts = PatternTexts::one(alloc, Vec::new(alloc))?;
+        Ok(Growing {
+            texts,
+            last: Vec::new(alloc),
+        })
+    }
+
+    /// Appends each of the texts to each text.
+    fn push(&mut self, alloc: Global, level: &PatternTexts) -> Result<(), Stop>
+        ensures ok { OnOk result (self.new ≡ spec.joined self.old level.now) }
+        ensures err { IfLeftOut result (λ reason. IsTooMuch self.old reason ⊎ IsTooMuch (spec.joined self.old level.now) reason) }
+    {
+        if level.len() == 1 {
+            self.last.extend_from_slice(level.get(0))?;
+            return Ok(());
+        }
+        let texts = self.texts(alloc)?;
+        self.texts = texts.joined(alloc, level)?;
+        self.last.clear();
+        Ok(())
+    }
+
+    /// Returns the texts.
+    fn texts(&self, alloc: Global) -> Result<PatternTexts, Stop>
+        ensures ok { IfOk result (λ texts. texts ≡ self.now) }
+        ensures small { IfOk result AreSmall }
+        ensures err { IfLeftOut result (IsTooMuch self.now) }
+    {
+        let last = Vec::from_slice(alloc, self.last.as_slice())?;
+        let last = PatternTexts::one(alloc, last)?;
+        let texts = self.texts.joined(alloc, &last)?;
+        Ok(texts)
+    }
+}

@@ -1,0 +1,20 @@
+//! Writes the patterns of a registry that stand for the terms of a DROID signature file's text.
+//!
+//! What a registry's pattern lacks is written out: a text may become several patterns, any of which has to match.
+#![tactic(auto)]
+
+mod element_texts;
+mod growing;
+pub mod laws;
+mod pattern_text;
+mod pattern_texts;
+mod range_texts;
+mod reason;
+mod term_texts;
+
+pub use element_texts::push_gap;
+pub use growing::expanded;
+pub use pattern_text::PatternText;
+pub use pattern_texts::PatternTexts;
+pub use reason::{Reason, Stop};
+pub use term_texts::texts_of;

@@ -1,0 +1,237 @@
+//! The texts of the patterns that stand for the terms of a sequence's or a fragment's text.
+
+ghost use Rattle.std.specs.Prelude.{◌≡◌, ◌+◌, ◌≤◌, ◌==◌, ◌++◌, ◌∷◌, [], IfOk, OnOk, map, if◌then◌else◌};
+ghost use Rattle.std.specs.List.{flat_map, list_all};
+ghost use Rattle.droid_pronom_pattern.specs.Patterns.{Choice};
+ghost use Rattle.droid_signature_parser.specs.TermValues.{atom_of, term_of};
+ghost use Rattle.droid_signature_spec.specs.Terms.{Between, OneOf};
+ghost use Rattle.droid_signature_spec.specs.Expansions.{patterns_of, patterns_of_atom, patterns_of_atoms, patterns_of_each, patterns_of_term, ranges, runs_outside, upward};
+ghost use Rattle.droid_signature_texts.specs.Outcomes.{IfLeftOut, IsReasonOfAtom, IsReasonOfAtoms, IsReasonOfEach, IsReasonOfTerm, IsReasonOfTerms};
+ghost use Rattle.droid_signature_texts.specs.Items.{items_of};
+ghost use Rattle.droid_signature_texts.specs.Texts.{AreSmall};
+ghost use Rattle.droid_signature_texts.specs.Written as spec;
+ghost use Rattle.droid_signature_texts.specs.Written.{is_run, marked, one_text, pair, written, written_each};
+
+use crate::element_texts::{push_byte, push_bytes, push_except, push_gap, push_range};
+use crate::growing::expanded;
+use crate::pattern_texts::PatternTexts;
+use crate::range_texts::range_texts;
+use crate::reason::{Reason, Stop};
+use droid_signature_parser::{TextItem, TextTerm};
+use std::alloc::{AllocError, Global};
+
+/// The most bytes of the bounds of a range. This limit is the project's own.
+const MOST_RANGE_BYTES: usize = 16;
+
+/// Returns the texts of the patterns that stand for terms: at most 64, each of at most 4,096 bytes.
+pub fn texts_of(alloc: Global, terms: &[TextTerm]) -> Result<PatternTexts, Stop>
+    ensures ok { IfOk result (λ texts. texts ≡ written_each (patterns_of (map term_of terms.now))) }
+    ensures small { IfOk result AreSmall }
+    ensures err { IfLeftOut result (IsReasonOfTerms (map term_of terms.now)) }
+{
+    let mut levels = Vec::new(alloc);
+    for term in terms {
+        let level = term_texts(alloc, term)?;
+        levels.push(level)?;
+    }
+    let texts = expanded(alloc, levels.as_slice())?;
+    Ok(texts)
+}
+
+/// Returns the texts of the patterns that stand for a term.
+fn term_texts(alloc: Global, term: &TextTerm) -> Result<PatternTexts, Stop>
+    ensures ok { IfOk result (λ texts. texts ≡ written_each (patterns_of_term (term_of term.now))) }
+    ensures err { IfLeftOut result (λ reason. IsReasonOfTerm reason (term_of term.now)) }
+{
+    match term {
+        TextTerm::One(item) => item_texts(alloc, item),
+        TextTerm::OneOf(alternatives) => choice_texts(alloc, alternatives.as_slice()),
+    }
+}
+
+/// Returns the texts of the patterns that stand for an item.
+fn item_texts(alloc: Global, item: &TextItem) -> Result<PatternTexts, Stop>
+    ensures ok { IfOk result (λ texts. texts ≡ written_each (patterns_of_atom (atom_of item.now))) }
+    ensures err { IfLeftOut result (λ reason. IsReasonOfAtom reason (atom_of item.now)) }
+{
+    match item {
+        TextItem::Between { low, high } => {
+            between_texts(alloc, low.as_slice(), high.as_slice())
+        }
+        TextItem::Byte(_)
+        | TextItem::AnyByte
+        | TextItem::Gap { .. }
+        | TextItem::Range { .. }
+        | TextItem::Except(_)
+        | TextItem::Outside { .. }
+        | TextItem::Quoted(_) => {
+            let texts = one_item_text(alloc, item)?;
+            Ok(texts)
+        }
+    }
+}
+
+/// Returns the texts of a range of at most 16 bytes.
+fn between_texts(alloc: Global, low: &[u8], high: &[u8]) -> Result<PatternTexts, Stop>
+    ensures ok { IfOk result (λ texts. texts ≡ written_each (ranges low.now high.now)) }
+    ensures err { IfLeftOut result (λ reason. IsReasonOfAtom reason (Between low.now high.now)) }
+{
+    if low.len() > MOST_RANGE_BYTES {
+        return Err(Stop::LeftOut(Reason::LongRange));
+    }
+    let texts = range_texts(alloc, low, high)?;
+    Ok(texts)
+}
+
+/// Returns the text of an item that one pattern stands for.
+fn one_item_text(alloc: Global, item: &TextItem) -> Result<PatternTexts, AllocError>
+    ensures { IfOk result (λ texts. texts ≡ one_text (atom_of item.now) ∷ []) }
+{
+    let mut text = Vec::new(alloc);
+    push_item(&mut text, item)?;
+    PatternTexts::one(alloc, text)
+}
+
+/// Appends the text of an item that one pattern stands for: any but a range of several bytes.
+fn push_item(text: &mut Vec<u8>, item: &TextItem) -> Result<(), AllocError>
+    ensures { OnOk result (text.new.items ≡ text.old.items ++ one_text (atom_of item.now)) }
+{
+    match item {
+        TextItem::Byte(byte) => push_byte(text, *byte),
+        TextItem::AnyByte => text.extend_from_slice(b"??"),
+        TextItem::Gap { least, most } => push_gap(text, *least, *most),
+        TextItem::Range { low, high } => push_range(text, *low, *high),
+        TextItem::Except(byte) => push_except(text, *byte),
+        TextItem::Outside { low, high } => push_outside(text, *low, *high),
+        TextItem::Quoted(bytes) => push_bytes(text, bytes.as_slice()),
+        TextItem::Between { .. } => Ok(()),
+    }
+}
+
+/// Appends the bytes outside a range, each as an alternative.
+fn push_outside(text: &mut Vec<u8>, low: u8, high: u8) -> Result<(), AllocError>
+    ensures { OnOk result (text.new.items ≡ text.old.items ++ written (Choice (runs_outside low high))) }
+{
+    let mark = push_each(text, b'(', 0, u16::from(low))?;
+    push_each(text, mark, u16::from(high) + 1, u16::from(255 - high))?;
+    text.push(b')')?;
+    Ok(())
+}
+
+/// Appends `count` bytes from one on, each behind a mark: the given one before the first, a bar before each other. Returns the
+/// mark for what follows.
+fn push_each(text: &mut Vec<u8>, mark: u8, from: u16, count: u16) -> Result<u8, AllocError>
+    requires { from + count ≤ 256 }
+    ensures text { OnOk result (text.new.items ≡ text.old.items ++ marked pair mark (upward from count)) }
+    ensures mark { IfOk result (λ next. next ≡ (if count == 0 then mark else 124)) }
+{
+    let mut next = mark;
+    for place in 0..count {
+        text.push(next)?;
+        push_byte(text, (from + place) as u8)?;
+        next = b'|';
+    }
+    Ok(next)
+}
+
+/// Returns the texts of the patterns that stand for one of several lists of items.
+fn choice_texts(alloc: Global, alternatives: &[Vec<TextItem>]) -> Result<PatternTexts, Stop>
+    ensures ok { IfOk result (λ texts. texts ≡ written_each (patterns_of_term (OneOf (map items_of alternatives.now)))) }
+    ensures err { IfLeftOut result (λ reason. IsReasonOfTerm reason (OneOf (map items_of alternatives.now))) }
+{
+    if are_all_runs(alternatives) {
+        let texts = runs_text(alloc, alternatives)?;
+        return Ok(texts);
+    }
+    let texts = each_texts(alloc, alternatives)?;
+    Ok(texts)
+}
+
+/// Returns whether each alternative is a run of bytes.
+fn are_all_runs(alternatives: &[Vec<TextItem>]) -> bool
+    ensures { result ≡ list_all (list_all is_run) (map items_of alternatives.now) }
+{
+    for items in alternatives {
+        if !are_runs(items.as_slice()) {
+            return false;
+        }
+    }
+    true
+}
+
+fn are_runs(items: &[TextItem]) -> bool
+    ensures { result ≡ list_all is_run (map atom_of items.now) }
+{
+    for item in items {
+        if !is_run(item) {
+            return false;
+        }
+    }
+    true
+}
+
+fn is_run(item: &TextItem) -> bool
+    ensures { result ≡ spec.is_run (atom_of item.now) }
+{
+    match item {
+        TextItem::Byte(_) | TextItem::Quoted(_) => true,
+        TextItem::AnyByte
+        | TextItem::Gap { .. }
+        | TextItem::Range { .. }
+        | TextItem::Except(_)
+        | TextItem::Outside { .. }
+        | TextItem::Between { .. } => false,
+    }
+}
+
+/// Returns the text of alternatives that are runs of bytes.
+fn runs_text(alloc: Global, alternatives: &[Vec<TextItem>]) -> Result<PatternTexts, AllocError>
+    ensures { IfOk result (λ texts. texts ≡ (marked (flat_map one_text) 40 (map items_of alternatives.now) ++ 41 ∷ []) ∷ []) }
+{
+    let mut text = Vec::new(alloc);
+    let mut mark = b'(';
+    for items in alternatives {
+        text.push(mark)?;
+        push_items(&mut text, items.as_slice())?;
+        mark = b'|';
+    }
+    text.push(b')')?;
+    PatternTexts::one(alloc, text)
+}
+
+/// Appends the texts of items, one after another.
+fn push_items(text: &mut Vec<u8>, items: &[TextItem]) -> Result<(), AllocError>
+    ensures { OnOk result (text.new.items ≡ text.old.items ++ flat_map one_text (map atom_of items.now)) }
+{
+    for item in items {
+        push_item(text, item)?;
+    }
+    Ok(())
+}
+
+/// Returns the texts of the patterns that stand for each alternative.
+fn each_texts(alloc: Global, alternatives: &[Vec<TextItem>]) -> Result<PatternTexts, Stop>
+    ensures ok { IfOk result (λ texts. texts ≡ written_each (patterns_of_each (map items_of alternatives.now))) }
+    ensures err { IfLeftOut result (λ reason. IsReasonOfEach reason (map items_of alternatives.now)) }
+{
+    let mut texts = PatternTexts::new(alloc);
+    for items in alternatives {
+        let alternative = items_texts(alloc, items.as_slice())?;
+        texts.add_all(alternative)?;
+    }
+    Ok(texts)
+}
+
+/// Returns the texts of the patterns that stand for items.
+fn items_texts(alloc: Global, items: &[TextItem]) -> Result<PatternTexts, Stop>
+    ensures ok { IfOk result (λ texts. texts ≡ written_each (patterns_of_atoms (map atom_of items.now))) }
+    ensures err { IfLeftOut result (λ reason. IsReasonOfAtoms reason (map atom_of items.now)) }
+{
+    let mut levels = Vec::new(alloc);
+    for item in items {
+        let level = item_texts(alloc, item)?;
+        levels.push(level)?;
+    }
+    let texts = expanded(alloc, levels.as_slice())?;
+    Ok(texts)
+}
