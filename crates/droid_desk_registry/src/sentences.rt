@@ -74,7 +74,7 @@ fn reason_text(reason: Reason) -> &'static str {
         Reason::OffsetOrder => "an upper offset is less than the lower one",
         Reason::LargeOffset => "an offset is over 65,535",
         Reason::FragmentPositions => "the positions of its fragments leave one out",
-        Reason::ManyFragments => "more than 256 fragments on one side",
+        Reason::LargePosition => "a fragment has a position over 64",
         Reason::Text => "a text that a registry has no pattern for, as a bit mask",
         Reason::LongRange => "a range of more than 16 bytes",
         Reason::ManyAlternatives => "more than 64 alternatives",

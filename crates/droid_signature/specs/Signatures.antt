@@ -18,8 +18,8 @@ use Rattle.droid_signature.specs.declared.outcomes.Outcome.TheVariants as outcom
 
 -- what a signature becomes is true of it
 abbrev pub IsOutcome : SignatureRecord → Outcome → Type 0
-IsOutcome signature (outcomes.Taken all) = AreTaken signature all.items
-IsOutcome signature (outcomes.LeftOut reason) = IsReasonOf signature reason
+IsOutcome signature (outcomes.Taken all) = AreTaken signature.sequences all.items
+IsOutcome signature (outcomes.LeftOut reason) = IsReasonOf signature.sequences reason
 
 abbrev pub AreOutcomes : List SignatureRecord → List Outcome → Type 0
 AreOutcomes [] [] = ⊤

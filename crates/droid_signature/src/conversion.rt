@@ -17,7 +17,7 @@ use std::alloc::{AllocError, AllocFailed, Global};
 const BYTES_LIMIT: usize = 16_777_216;
 
 /// Why no registry could be made.
-#[derive(Clone, Copy, Debug, PartialEq, Eq)]
+#[derive(Clone, Copy, PartialEq, Eq)]
 pub enum ConversionFault {
     /// Out of memory.
     Memory,
@@ -42,7 +42,7 @@ impl<T: Drop> From<AllocFailed<T>> for ConversionFault {
 }
 
 /// How much of the signature file the registry has.
-#[derive(Clone, Copy, Debug, PartialEq, Eq)]
+#[derive(Clone, Copy, PartialEq, Eq)]
 pub struct Taken {
     pub formats: u64,
     pub extensions: u64,
@@ -52,7 +52,7 @@ pub struct Taken {
 }
 
 /// The registry of a signature file.
-#[derive(Debug, Drop)]
+#[derive(Drop)]
 pub struct Converted {
     /// The registry file.
     pub csv: Vec<u8>,

@@ -3,7 +3,7 @@
 use droid_signature_patterns::Reason;
 
 /// Something that the registry does not have.
-#[derive(Clone, Copy, Debug, PartialEq, Eq)]
+#[derive(Clone, Copy, PartialEq, Eq)]
 pub struct LeftOut {
     /// The format that it belongs to, by its place in the signature file, if it belongs to one.
     pub format: Option<u32>,
@@ -12,7 +12,7 @@ pub struct LeftOut {
 }
 
 /// What the registry does not have.
-#[derive(Clone, Copy, Debug, PartialEq, Eq)]
+#[derive(Clone, Copy, PartialEq, Eq)]
 pub enum Item {
     /// A whole format, with its signatures, extensions and priorities.
     Format,
@@ -25,7 +25,7 @@ pub enum Item {
 }
 
 /// Why the registry does not have it.
-#[derive(Clone, Copy, Debug, PartialEq, Eq)]
+#[derive(Clone, Copy, PartialEq, Eq)]
 pub enum Why {
     /// The format has no PUID.
     NoPuid,

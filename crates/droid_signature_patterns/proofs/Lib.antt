@@ -2,3 +2,6 @@ pub mod PartSets
 pub mod PartLevels
 pub mod ReadTexts
 pub mod Ways
+pub mod Taken
+pub mod Reading
+pub mod Ends

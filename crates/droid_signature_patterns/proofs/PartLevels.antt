@@ -2,10 +2,12 @@
 use Rattle.std.proofs.Common.{◌≡◌, ℕ, zero, suc, ◌+◌, ◌-◌, ◌<◌, ◌≤◌, List, [], ◌∷◌, ◌++◌, length, map, take, drop, get_or, refl, sym, ap, ◌∙◌, arith, append_assoc}
 use Rattle.std.specs.Prelude.{◌==◌, max, if◌then◌else◌}
 use Rattle.std.proofs.lemmas.List.{append-nil, at_drop_more, map-append, take_more, take-map}
-use Rattle.droid_pronom_pattern.specs.Patterns.{Element, OpenGap}
+use Rattle.std.proofs.lemmas.Bool.{eq-eqb, ne_eqb}
+use Rattle.droid_signature_spec.specs.Pieces.{gap_patterns}
+use Rattle.droid_pronom_pattern.specs.Patterns.{Element, Gap, OpenGap}
 use Rattle.droid_signature_spec.specs.Expansions as spec
 use Rattle.droid_signature_texts.specs.Texts as texts
-use Rattle.droid_signature_texts.specs.Written.{written_all, written_each}
+use Rattle.droid_signature_texts.specs.Written.{written, written_all, written_each}
 use Rattle.droid_signature_texts.proofs.Joined.{written_joined}
 use Rattle.droid_signature_patterns.specs.Parts.{ReadFragment, ReadPart, further_levels, in_order, joined_all, left_levels, level, outermost_of, part_levels, right_levels, side_levels, side_patterns}
 use Rattle.droid_signature_patterns.specs.declared.part_texts.Way.{Way}
@@ -101,3 +103,18 @@ further_more parts i part old before gapped after below is so_far one two =
 pub row_steps : (first : ReadPart) (rest : List ReadPart) (one two : List (List (List ℕ))) → one ≡ [] ++ map written_each (part_levels first) → two ≡ one ++ map written_each (further_levels rest)
     → two ≡ map written_each (part_levels first ++ further_levels rest)
 row_steps first rest one two a b = b ∙ ap (λ l. l ++ map written_each (further_levels rest)) a ∙ sym (map-append written_each (part_levels first) (further_levels rest))
+
+-- a gap as texts
+pub gap_none : (least most : ℕ) → most ≡ 0 → written_each (gap_patterns least most) ≡ [] ∷ []
+gap_none least most none = ap (λ b. written_each (if b then [] ∷ [] else (Gap least most ∷ []) ∷ [])) (eq-eqb most 0 none)
+
+pub gap_some : (least most : ℕ) → (most ≡ 0 → ⊥) → written_each (gap_patterns least most) ≡ written (Gap least most) ∷ []
+gap_some least most some =
+    ap (λ b. written_each (if b then [] ∷ [] else (Gap least most ∷ []) ∷ [])) (ne_eqb most 0 some) ∙ ap (λ l. l ∷ []) (append-nil (written (Gap least most)))
+
+-- the texts of what has a position, and of what has another one
+pub not_at : (p q : ℕ) (xs : List (List Element)) → (p ≡ q → ⊥) → written_each (if p == q then xs else []) ≡ []
+not_at p q xs other = ap (λ b. written_each (if b then xs else [])) (ne_eqb p q other)
+
+pub at_it : (p q : ℕ) (xs : List (List Element)) → p ≡ q → written_each (if p == q then xs else []) ≡ written_each xs
+at_it p q xs same = ap (λ b. written_each (if b then xs else [])) (eq-eqb p q same)

@@ -44,16 +44,16 @@ same_any : (P : List ℕ → Type 0) (bytes : List ℕ) → P bytes ↔ P bytes
 same_any P bytes = (λ h. h, λ h. h)
 
 -- levels one behind the other
-all_append : (as bs : List (List (List Element))) (bytes : List ℕ) → MatchesAny (joined_all (as ++ bs)) bytes ↔ InTurn (MatchesAny (joined_all as)) (MatchesAny (joined_all bs)) bytes
+all_append : (firsts bs : List (List (List Element))) (bytes : List ℕ) → MatchesAny (joined_all (firsts ++ bs)) bytes ↔ InTurn (MatchesAny (joined_all firsts)) (MatchesAny (joined_all bs)) bytes
 all_append [] bs bytes =
     back (both_ways (same_turns (MatchesAny ([] ∷ [])) (λ x. x ≡ []) (MatchesAny (joined_all bs)) (MatchesAny (joined_all bs)) bytes (λ x. any_one [] x) (λ x. same_any (MatchesAny (joined_all bs)) x))
     (nothing_before (MatchesAny (joined_all bs)) bytes))
-all_append (a ∷ as) bs bytes =
-    both_ways (any_joined a (joined_all (as ++ bs)) bytes)
-    (both_ways (same_turns (MatchesAny a) (MatchesAny a) (MatchesAny (joined_all (as ++ bs))) (InTurn (MatchesAny (joined_all as)) (MatchesAny (joined_all bs))) bytes (λ x. same_any (MatchesAny a) x) (λ x. all_append as bs x))
-    (both_ways (back (turns_assoc (MatchesAny a) (MatchesAny (joined_all as)) (MatchesAny (joined_all bs)) bytes))
-    (same_turns (InTurn (MatchesAny a) (MatchesAny (joined_all as))) (MatchesAny (joined_all (a ∷ as))) (MatchesAny (joined_all bs)) (MatchesAny (joined_all bs)) bytes
-    (λ x. back (any_joined a (joined_all as) x)) (λ x. same_any (MatchesAny (joined_all bs)) x))))
+all_append (a ∷ firsts) bs bytes =
+    both_ways (any_joined a (joined_all (firsts ++ bs)) bytes)
+    (both_ways (same_turns (MatchesAny a) (MatchesAny a) (MatchesAny (joined_all (firsts ++ bs))) (InTurn (MatchesAny (joined_all firsts)) (MatchesAny (joined_all bs))) bytes (λ x. same_any (MatchesAny a) x) (λ x. all_append firsts bs x))
+    (both_ways (back (turns_assoc (MatchesAny a) (MatchesAny (joined_all firsts)) (MatchesAny (joined_all bs)) bytes))
+    (same_turns (InTurn (MatchesAny a) (MatchesAny (joined_all firsts))) (MatchesAny (joined_all (a ∷ firsts))) (MatchesAny (joined_all bs)) (MatchesAny (joined_all bs)) bytes
+    (λ x. back (any_joined a (joined_all firsts) x)) (λ x. same_any (MatchesAny (joined_all bs)) x))))
 
 one_level : (a : List (List Element)) (bytes : List ℕ) → MatchesAny (joined_all (a ∷ [])) bytes ↔ MatchesAny a bytes
 one_level a bytes =

@@ -6,8 +6,10 @@ use Rattle.droid_signature_patterns.specs.Choices.{AreAllTaken, IsTaken, ways}
 use Rattle.droid_signature_patterns.specs.declared.choices.Choices.{Choices}
 
 pub ways_push : (all : List Choices) (taken : Choices) → ways (all ++ taken ∷ []) ≡ ways all * length taken.texts
-ways_push [] taken = grind arith
-ways_push (x ∷ all) taken = let more = ways_push all taken in grind arith
+ways_push [] taken = omega arith
+ways_push (x ∷ all) taken =
+    let regrouped : length x.texts * (ways all * length taken.texts) ≡ (length x.texts * ways all) * length taken.texts = omega arith in
+    ap (λ n. length x.texts * n) (ways_push all taken) ∙ regrouped
 
 taken_push : (sequences : List ByteSequenceRecord) (all : List Choices) (sequence : ByteSequenceRecord) (taken : Choices) → AreAllTaken sequences all → IsTaken sequence taken
     → AreAllTaken (sequences ++ sequence ∷ []) (all ++ taken ∷ [])

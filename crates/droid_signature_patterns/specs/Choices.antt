@@ -3,7 +3,7 @@ use Rattle.std.specs.Prelude.{◌≡◌, ◌⊎◌, ℕ, ◌*◌, ◌<◌, ◌�
 use Rattle.std.specs.List.{Any}
 use Rattle.droid_pronom_pattern.specs.Patterns.{Element}
 use Rattle.droid_pronom_pattern.specs.PatternText.{Spells}
-use Rattle.droid_signature_spec.specs.Records.{ByteSequenceRecord, SignatureRecord}
+use Rattle.droid_signature_spec.specs.Records.{ByteSequenceRecord}
 use Rattle.droid_signature_spec.specs.Sequences.{StandFor}
 use Rattle.droid_signature_texts.specs.declared.reason.Reason.{Reason}
 use Rattle.droid_signature_texts.specs.declared.reason.Reason.TheVariants as reasons
@@ -40,22 +40,22 @@ abbrev pub ways : List Choices → ℕ
 ways [] = 1
 ways (taken ∷ more) = length taken.texts * ways more
 
--- a signature becomes these choices: at least one, and at most 64 ways to choose
-pub record AreTaken (signature : SignatureRecord) (all : List Choices) : Type 0 where
+-- byte sequences that all have to hit become these choices: at least one, and at most 64 ways to choose
+pub record AreTaken (sequences : List ByteSequenceRecord) (all : List Choices) : Type 0 where
   pub some : 0 < length all
-  pub each : AreAllTaken signature.sequences all
+  pub each : AreAllTaken sequences all
   pub few : ways all ≤ 64
 
--- the first byte sequences of a signature become choices, of which there are more than 64 ways to choose
-pub record HasManyWays (signature : SignatureRecord) : Type 0 where
+-- the first of the byte sequences become choices, of which there are more than 64 ways to choose
+pub record HaveManyWays (sequences : List ByteSequenceRecord) : Type 0 where
   pub count : ℕ
   pub all : List Choices
-  pub each : AreAllTaken (take count signature.sequences) all
+  pub each : AreAllTaken (take count sequences) all
   pub many : 64 < ways all
 
--- why a registry cannot hold a signature
-abbrev pub IsReasonOf : SignatureRecord → Reason → Type 0
-IsReasonOf signature reason =
-    ((reason ≡ reasons.NoSequence) × (signature.sequences ≡ []))
-    ⊎ ((reason ≡ reasons.ManyAlternatives) × HasManyWays signature)
-    ⊎ Any (IsReasonOfOne reason) signature.sequences
+-- why a registry cannot hold byte sequences that all have to hit: there are none, too many ways to choose, or one of them
+abbrev pub IsReasonOf : List ByteSequenceRecord → Reason → Type 0
+IsReasonOf sequences reason =
+    ((reason ≡ reasons.NoSequence) × (sequences ≡ []))
+    ⊎ ((reason ≡ reasons.ManyAlternatives) × HaveManyWays sequences)
+    ⊎ Any (IsReasonOfOne reason) sequences

@@ -1,7 +1,8 @@
 -- Why a registry cannot hold a byte sequence: what each reason says of it.
-use Rattle.std.specs.Prelude.{◌≡◌, ◌⊎◌, ℕ, suc, ◌<◌, ◌≤◌, ◌==◌, ◌&&◌, Bool, true, false, List, [], ◌∷◌, length, map, take, Option, Some, None}
+use Rattle.std.specs.Prelude.{◌≡◌, ◌⊎◌, ℕ, suc, ◌<◌, ◌≤◌, ◌==◌, ◌&&◌, Bool, true, false, List, [], ◌∷◌, length, map, take, unwrap_or, Option, Some, None}
 use Rattle.std.specs.List.{Any, list_any}
 use Rattle.droid_pronom_pattern.specs.Patterns.{Element}
+use Rattle.droid_pronom_formats.specs.declared.rows.Anchor.{Anchor}
 use Rattle.droid_pronom_formats.specs.declared.rows.Offsets.{Offsets}
 use Rattle.droid_signature_spec.specs.Records.{ByteSequenceRecord, SubSequenceRecord}
 use Rattle.droid_signature_spec.specs.declared.subsequence.Fragment.{Fragment}
@@ -61,7 +62,7 @@ IsReasonOfPart reason part =
 
 -- a subsequence behind the first has an upper offset other than 0, or cannot be read
 abbrev pub HasUpper : SubSequenceRecord → Type 0
-HasUpper part = (n : ℕ) × (part.offsets.max ≡ Some (suc n))
+HasUpper part = 0 < unwrap_or part.offsets.max 0
 
 abbrev pub IsReasonOfFurther : Reason → SubSequenceRecord → Type 0
 IsReasonOfFurther reason part = ((reason ≡ reasons.FurtherUpperOffset) × HasUpper part) ⊎ IsReasonOfPart reason part
@@ -103,6 +104,14 @@ IsReasonOfRow part further reason =
 abbrev pub HasGapAtEnd : List (List Element) → Reason → Type 0
 HasGapAtEnd patterns reason = (reason ≡ reasons.GapAtEnd) × Any (λ es. ends_in_byte (written_all es) ≡ false) patterns
 
+-- The subsequences of a byte sequence are read as these, with these offsets.
+pub record AreRead (anchor : Anchor) (part : SubSequenceRecord) (further : List SubSequenceRecord) (offsets : Offsets) (first : ReadPart) (rest : List ReadPart) : Type 0 where
+  pub same : offsets.anchor ≡ anchor
+  pub from_min : offsets.min ≡ lowest part.offsets
+  pub to_max : part.offsets.max ≡ Some offsets.max
+  pub is_first : IsReadPart part first
+  pub are_rest : AreReadParts further rest
+
 -- A byte sequence is read as these subsequences, with these offsets.
 pub record IsRead (sequence : ByteSequenceRecord) (offsets : Offsets) (first : ReadPart) (rest : List ReadPart) : Type 0 where
   pub part : SubSequenceRecord
@@ -110,10 +119,7 @@ pub record IsRead (sequence : ByteSequenceRecord) (offsets : Offsets) (first : R
   pub parts : sequence.parts ≡ part ∷ further
   pub anchor : IsAnchorOf sequence.reference offsets.anchor
   pub alone : sequence.reference ≡ End → further ≡ []
-  pub from_min : offsets.min ≡ lowest part.offsets
-  pub to_max : part.offsets.max ≡ Some offsets.max
-  pub is_first : IsReadPart part first
-  pub are_rest : AreReadParts further rest
+  pub are_read : AreRead offsets.anchor part further offsets first rest
 
 -- why a registry cannot hold a byte sequence: it is not read, or what was read is not written
 abbrev pub IsReasonOfOne : Reason → ByteSequenceRecord → Type 0

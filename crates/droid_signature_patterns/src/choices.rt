@@ -3,9 +3,7 @@
 ghost use Rattle.std.specs.Prelude.{◌≡◌, ◌≤◌, IfOk, length};
 ghost use Rattle.std.specs.List.{list_all};
 ghost use Rattle.droid_signature_texts.specs.Outcomes.{IfLeftOut};
-ghost use Rattle.droid_signature_patterns.specs.Choices.{AreTaken, IsTaken};
-ghost use Rattle.droid_signature_patterns.specs.Choices as spec;
-ghost use Rattle.droid_signature_patterns.specs.Ends.{ends_in_byte};
+ghost use Rattle.droid_signature_patterns.specs.Choices.{AreTaken, IsReasonOf, IsTaken};
 ghost use Rattle.droid_signature_patterns.specs.Ends as ends;
 ghost use Rattle.droid_signature_patterns.specs.Reasons.{IsReasonOfOne};
 
@@ -20,7 +18,7 @@ use std::alloc::Global;
 const MOST_WAYS: usize = 64;
 
 /// Offsets, and the patterns any of which has to hit there.
-#[derive(Debug, Drop)]
+#[derive(Drop)]
 pub struct Choices {
     pub offsets: Offsets,
     pub texts: PatternTexts,
@@ -30,11 +28,19 @@ pub struct Choices {
 /// There are at most 64 ways to take one choice of each.
 pub fn choices_of(alloc: Global, signature: &InternalSignature) -> Result<Vec<Choices>, Stop>
     // The choices hit where the signature's byte sequences do, and a registry reads them.
-    ensures taken { IfOk result (λ all. AreTaken signature.now all.items) }
+    ensures taken { IfOk result (λ all. AreTaken signature.now.sequences all.items) }
     // The reason is true.
-    ensures left_out { IfLeftOut result (spec.IsReasonOf signature.now) }
+    ensures left_out { IfLeftOut result (IsReasonOf signature.now.sequences) }
 {
-    let sequences = signature.sequences();
+    let all = choices_of_sequences(alloc, signature.sequences())?;
+    Ok(all)
+}
+
+/// Returns what byte sequences become that all have to hit.
+fn choices_of_sequences(alloc: Global, sequences: &[SequenceRecord]) -> Result<Vec<Choices>, Stop>
+    ensures taken { IfOk result (λ all. AreTaken sequences.now all.items) }
+    ensures left_out { IfLeftOut result (IsReasonOf sequences.now) }
+{
     if sequences.is_empty() {
         return Err(Stop::LeftOut(Reason::NoSequence));
     }
@@ -70,22 +76,19 @@ fn choices_of_sequence(alloc: Global, sequence: &SequenceRecord) -> Result<Choic
 
 /// Returns whether no text is empty or ends in a gap.
 fn end_in_bytes(texts: &[PatternText]) -> bool
-    ensures { result ≡ list_all ends_in_byte texts.now }
+    ensures { result ≡ list_all ends.ends_in_byte texts.now }
 {
-    for text in texts {
-        if !ends_in_byte(text.as_slice()) {
-            return false;
-        }
-    }
-    true
+    texts.iter().all(|text| ends_in_byte(text.as_slice()))
 }
 
 /// Returns whether a text is not empty and does not end in a gap.
+#[tactic(auto, using(crate::proofs::Ends::ends_last, crate::proofs::Ends::ends_none))]
 fn ends_in_byte(text: &[u8]) -> bool
     ensures { result ≡ ends.ends_in_byte text.now }
 {
-    match text.last() {
-        None => false,
-        Some(last) => *last != b'}' && *last != b'*',
+    if text.is_empty() {
+        return false;
     }
+    let last = text[text.len() - 1];
+    last != b'}' && last != b'*'
 }

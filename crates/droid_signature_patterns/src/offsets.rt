@@ -9,7 +9,7 @@ use droid_signature_texts::Reason;
 
 /// Returns the lower and the upper offset.
 pub(crate) fn bounds_of(offsets: OffsetRange) -> Result<(u16, u16), Reason>
-    ensures ok { IfOk result (λ bounds. (bounds.0 ≡ lowest offsets) × (offsets.max ≡ Some bounds.1) × (bounds.0 ≤ bounds.1)) }
+    ensures ok { IfOk result (λ bounds. (bounds.0 ≡ lowest offsets) × (offsets.max ≡ Some bounds.1) × (bounds.0 ≤ bounds.1) × (bounds.1 ≤ 65535)) }
     ensures err { IfErr result (IsReasonOfBounds offsets) }
 {
     let least = lower_of(offsets)?;
@@ -19,7 +19,7 @@ pub(crate) fn bounds_of(offsets: OffsetRange) -> Result<(u16, u16), Reason>
 
 /// Returns the lower offset, 0 if it is missing.
 pub(crate) fn lower_of(offsets: OffsetRange) -> Result<u16, Reason>
-    ensures ok { IfOk result (λ least. least ≡ lowest offsets) }
+    ensures ok { IfOk result (λ least. (least ≡ lowest offsets) × (least ≤ 65535)) }
     ensures err { IfErr result (IsReasonOfLower offsets) }
 {
     let least = offsets.min.unwrap_or(0);
@@ -32,7 +32,7 @@ pub(crate) fn lower_of(offsets: OffsetRange) -> Result<u16, Reason>
 /// Returns the upper offset, which is no less than the lower one.
 fn upper_of(offsets: OffsetRange, least: u16) -> Result<u16, Reason>
     requires { least ≡ lowest offsets }
-    ensures ok { IfOk result (λ most. (offsets.max ≡ Some most) × (least ≤ most)) }
+    ensures ok { IfOk result (λ most. (offsets.max ≡ Some most) × (least ≤ most) × (most ≤ 65535)) }
     ensures err { IfErr result (IsReasonOfUpper offsets offsets.max) }
 {
     let Some(most) = offsets.max else {

@@ -16,7 +16,7 @@ use droid_signature_texts::{PatternTexts, Stop, expanded, push_gap, texts_of};
 use std::alloc::{AllocError, Global};
 
 /// The side of a sequence on which fragments lie.
-#[derive(Clone, Copy, Debug, PartialEq, Eq)]
+#[derive(Clone, Copy)]
 pub(crate) enum Way {
     Left,
     Right,
@@ -142,6 +142,7 @@ fn level_texts(
 }
 
 /// Returns the texts of a fragment with its gap, if it has this position.
+#[tactic(auto, using(crate::proofs::PartLevels::not_at, crate::proofs::PartLevels::at_it))]
 fn texts_at(
     alloc: Global,
     fragment: &ReadFragment,
@@ -170,37 +171,45 @@ fn fragment_texts(alloc: Global, fragment: &ReadFragment, from: Way) -> Result<P
     Ok(texts)
 }
 
-/// Returns two levels: the first one first on the left, and last on the right.
+/// Returns two levels: what lies further out first on the left, and last on the right.
 fn two(
     alloc: Global,
-    own: PatternTexts,
-    gap: PatternTexts,
+    outer: PatternTexts,
+    inner: PatternTexts,
     from: Way,
 ) -> Result<Vec<PatternTexts>, AllocError>
-    ensures { IfOk result (λ levels. levels.items ≡ spec.in_order from own gap) }
+    ensures { IfOk result (λ levels. levels.items ≡ spec.in_order from outer inner) }
+{
+    match from {
+        Way::Left => pair(alloc, outer, inner),
+        Way::Right => pair(alloc, inner, outer),
+    }
+}
+
+fn pair(
+    alloc: Global,
+    first: PatternTexts,
+    second: PatternTexts,
+) -> Result<Vec<PatternTexts>, AllocError>
+    ensures { IfOk result (λ levels. levels.items ≡ first ∷ second ∷ []) }
 {
     let mut levels = Vec::with_capacity(alloc, 2)?;
-    match from {
-        Way::Left => {
-            levels.push(own)?;
-            levels.push(gap)?;
-        }
-        Way::Right => {
-            levels.push(gap)?;
-            levels.push(own)?;
-        }
-    }
+    levels.push(first)?;
+    levels.push(second)?;
     Ok(levels)
 }
 
 /// Returns the text of a gap: an empty one if it has no byte.
+#[tactic(auto, using(crate::proofs::PartLevels::gap_none, crate::proofs::PartLevels::gap_some))]
 fn gap_texts(alloc: Global, least: u16, most: u16) -> Result<PatternTexts, AllocError>
     ensures { IfOk result (λ texts. texts ≡ written_each (gap_patterns least most)) }
 {
     let mut text = Vec::new(alloc);
-    if most != 0 {
-        push_gap(&mut text, least, Some(most))?;
+    if most == 0 {
+        let texts = PatternTexts::one(alloc, text)?;
+        return Ok(texts);
     }
+    push_gap(&mut text, least, Some(most))?;
     let texts = PatternTexts::one(alloc, text)?;
     Ok(texts)
 }

@@ -8,7 +8,7 @@ use droid_signature_parser::TextTerm;
 use std::marker::Model;
 
 /// A fragment: its position, how far away it lies, and its terms.
-#[derive(Debug, Drop)]
+#[derive(Drop)]
 pub(crate) struct ReadFragment {
     position: u32,
     least: u16,
@@ -69,7 +69,7 @@ impl ReadFragment {
 }
 
 /// A subsequence: its lower offset, its terms, and the fragments on both sides in the file's order.
-#[derive(Debug, Drop)]
+#[derive(Drop)]
 pub(crate) struct ReadPart {
     least: u16,
     left: Vec<ReadFragment>,
@@ -135,7 +135,7 @@ impl ReadPart {
 }
 
 /// A byte sequence: where its first subsequence may lie, and its subsequences.
-#[derive(Debug, Drop)]
+#[derive(Drop)]
 pub(crate) struct ReadSequence {
     pub offsets: Offsets,
     pub first: ReadPart,

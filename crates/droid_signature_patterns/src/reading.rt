@@ -1,13 +1,13 @@
 //! Reads the texts of byte sequences, and checks what a registry asks of their offsets and positions.
 
-ghost use Rattle.std.specs.Prelude.{◌≡◌, ◌∷◌, ◌≤◌, IfErr, IfOk, map};
+ghost use Rattle.std.specs.Prelude.{◌≡◌, ◌↔◌, ◌<◌, ◌∷◌, IsTrue, IfErr, IfOk, map};
 ghost use Rattle.droid_signature_spec.specs.Sequences.{IsAnchorOf};
-ghost use Rattle.droid_signature_spec.specs.declared.sequence.Reference.TheVariants.{Other};
+ghost use Rattle.droid_signature_spec.specs.declared.sequence.Reference.TheVariants.{End, Other};
 ghost use Rattle.droid_signature_parser.specs.TermValues.{term_of};
 ghost use Rattle.droid_signature_texts.specs.Outcomes.{IfLeftOut};
 ghost use Rattle.droid_signature_texts.specs.declared.reason.Reason.TheVariants as reasons;
 ghost use Rattle.droid_signature_patterns.specs.Parts.{AreReadFragments, AreReadParts, IsReadFragment, IsReadPart, IsReadText};
-ghost use Rattle.droid_signature_patterns.specs.Reasons.{HasUpper, IsRead, IsReasonOfFragment, IsReasonOfFurther, IsReasonOfPart, IsReasonOfSequence, IsReasonOfSide, IsReasonOfText};
+ghost use Rattle.droid_signature_patterns.specs.Reasons.{AreRead, IsRead, IsReasonOfFragment, IsReasonOfFurther, IsReasonOfPart, IsReasonOfParts, IsReasonOfSequence, IsReasonOfSide, IsReasonOfText};
 ghost use Rattle.std.specs.List.{Any};
 
 use crate::offsets::{bounds_of, lower_of};
@@ -24,9 +24,10 @@ pub(crate) fn read_sequence(alloc: Global, sequence: &SequenceRecord) -> Result<
     ensures ok { IfOk result (λ read. IsRead sequence.now read.offsets read.first read.further.items) }
     ensures err { IfLeftOut result (IsReasonOfSequence sequence.now) }
 {
-    let anchor = anchor_of(sequence.reference())?;
+    let reference = sequence.reference();
     let parts = sequence.parts();
-    if anchor == Anchor::Eof && parts.len() > 1 {
+    let anchor = anchor_of(reference)?;
+    if are_several_from_end(reference, parts.len()) {
         return Err(Stop::LeftOut(Reason::SeveralFromEnd));
     }
     if !are_numbered(parts) {
@@ -35,11 +36,39 @@ pub(crate) fn read_sequence(alloc: Global, sequence: &SequenceRecord) -> Result<
     let Some((first, further)) = parts.split_first() else {
         return Err(Stop::LeftOut(Reason::NoSubsequence));
     };
-    let (min, max) = bounds_of(first.offsets())?;
+    let read = read_parts(alloc, anchor, first, further)?;
+    Ok(read)
+}
+
+/// Returns whether there are several subsequences whose offsets count from the end.
+fn are_several_from_end(reference: Reference, count: usize) -> bool
+    ensures { IsTrue result ↔ ((reference ≡ End) × (1 < count)) }
+{
+    match reference {
+        Reference::End => count > 1,
+        Reference::Beginning | Reference::Other => false,
+    }
+}
+
+/// Reads the subsequences of a byte sequence.
+fn read_parts(
+    alloc: Global,
+    anchor: Anchor,
+    first: &SubSequence,
+    further: &[SubSequence],
+) -> Result<ReadSequence, Stop>
+    ensures ok { IfOk result (λ read. AreRead anchor first.now further.now read.offsets read.first read.further.items) }
+    ensures err { IfLeftOut result (λ reason. IsReasonOfParts reason (first.now ∷ further.now)) }
+{
+    let bounds = bounds_of(first.offsets())?;
     let first = read_part(alloc, first)?;
     let further = read_further(alloc, further)?;
     Ok(ReadSequence {
-        offsets: Offsets { anchor, min, max },
+        offsets: Offsets {
+            anchor,
+            min: bounds.0,
+            max: bounds.1,
+        },
         first,
         further,
     })
@@ -75,9 +104,9 @@ fn read_one_further(alloc: Global, part: &SubSequence) -> Result<ReadPart, Stop>
     ensures ok { IfOk result (IsReadPart part.now) }
     ensures err { IfLeftOut result (λ reason. IsReasonOfFurther reason part.now) }
 {
-    match part.offsets().max {
-        None | Some(0) => {}
-        Some(_) => return Err(Stop::LeftOut(Reason::FurtherUpperOffset)),
+    let upper = part.offsets().max.unwrap_or(0);
+    if upper != 0 {
+        return Err(Stop::LeftOut(Reason::FurtherUpperOffset));
     }
     let read = read_part(alloc, part)?;
     Ok(read)
@@ -114,9 +143,14 @@ fn read_fragment(alloc: Global, fragment: &Fragment) -> Result<ReadFragment, Sto
     ensures ok { IfOk result (IsReadFragment fragment.now) }
     ensures err { IfLeftOut result (λ reason. IsReasonOfFragment reason fragment.now) }
 {
-    let (least, most) = bounds_of(fragment.offsets)?;
+    let bounds = bounds_of(fragment.offsets)?;
     let terms = read_terms(alloc, fragment.text.as_str())?;
-    Ok(ReadFragment::new(fragment.position, least, most, terms))
+    Ok(ReadFragment::new(
+        fragment.position,
+        bounds.0,
+        bounds.1,
+        terms,
+    ))
 }
 
 /// Reads a text.

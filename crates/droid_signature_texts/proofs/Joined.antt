@@ -1,6 +1,8 @@
 -- Texts one behind the other.
-use Rattle.std.proofs.Common.{◌≡◌, ◌⊎◌, ℕ, zero, suc, ◌+◌, ◌*◌, ◌<◌, ◌≤◌, List, [], ◌∷◌, ◌++◌, length, map, take, get_or, refl, sym, ap, subst, ◌∙◌, arith, append_assoc}
+use Rattle.std.proofs.Common.{◌≡◌, ◌↔◌, ◌⊎◌, Bool, true, false, ⊎_elim, ℕ, zero, suc, ◌+◌, ◌*◌, ◌<◌, ◌≤◌, List, [], ◌∷◌, ◌++◌, length, map, take, get_or, refl, sym, ap, subst, ◌∙◌, arith, append_assoc}
+use Rattle.std.specs.Bool.{IsTrue}
 use Rattle.std.specs.List.{Any, flat_map}
+use Rattle.std.proofs.lemmas.Bool.{cases_lt, false≢true}
 use Rattle.std.proofs.lemmas.List.{append-nil, map-append, map-id, length-append, length-map, take_more}
 use Rattle.std.proofs.lemmas.List.Concat.{flat_map-append}
 use Rattle.droid_pronom_pattern.specs.Patterns.{Element}
@@ -57,10 +59,10 @@ last_grows texts last more = sym (joined_assoc texts (last ∷ []) (more ∷ [])
 
 -- how many there are
 pub length_joined : (xs ys : List (List ℕ)) → length (joined xs ys) ≡ length xs * length ys
-length_joined [] ys = refl
+length_joined [] ys = omega arith
 length_joined (x ∷ xs) ys =
     let here = length-append (each_behind x ys) (joined xs ys) in
-    let first = length-map ys (λ y. x ++ y) in
+    let first = length-map ys (λ (y : List ℕ). x ++ y) in
     let more = length_joined xs ys in
     grind arith
 
@@ -88,3 +90,21 @@ written_joined (es ∷ ps) qs =
     map-append written_all (map (λ fs. es ++ fs) qs) (spec.joined ps qs)
     ∙ ap (λ l. l ++ written_each (spec.joined ps qs)) (written_behind es qs)
     ∙ ap (λ l. each_behind (written_all es) (written_each qs) ++ l) (written_joined ps qs)
+
+-- a product of two lengths
+pub many_pairs : (a b x y n : ℕ) (t : Bool) → IsTrue t ↔ (64 < x * y) → t ≡ true → x ≡ a → y ≡ b → n ≡ a * b → 64 < n
+many_pairs a b x y n t says is e f g =
+    let big = says.0 is in
+    let same : x * y ≡ a * b = ap (λ k. k * y) e ∙ ap (λ k. a * k) f in
+    omega arith
+
+pub few_pairs : (a b x y n : ℕ) (t : Bool) → IsTrue t ↔ (64 < x * y) → t ≡ false → x ≡ a → y ≡ b → n ≡ a * b → n ≤ 64
+few_pairs a b x y n t says is e f g =
+    let same : x * y ≡ a * b = ap (λ k. k * y) e ∙ ap (λ k. a * k) f in
+    ⊎_elim (λ big. absurd (false≢true (sym is ∙ says.1 big))) (λ small. omega arith) (cases_lt 64 (x * y))
+
+-- a list of one item
+pub one_list : (xs : List (List ℕ)) (x : List ℕ) → length xs ≡ 1 → x ≡ get_or xs 0 x → xs ≡ x ∷ []
+one_list [] x one is = absurd (omega arith)
+one_list (y ∷ []) x one is = ap (λ z. z ∷ []) (sym is)
+one_list (y ∷ z ∷ xs) x one is = absurd (omega arith)

@@ -1,15 +1,10 @@
 -- Items, each behind a mark.
 use Rattle.std.proofs.Common.{◌≡◌, ℕ, zero, suc, ◌+◌, ◌-◌, ◌<◌, ◌≤◌, List, [], ◌∷◌, ◌++◌, length, map, take, get_or, refl, sym, ap, ◌∙◌, arith, append_assoc}
-use Rattle.std.specs.Prelude.{◌==◌, if◌then◌else◌}
 use Rattle.std.specs.List.{flat_map}
 use Rattle.std.proofs.lemmas.List.{append-nil, map-append, length-map, length-take-le, take_more}
 use Rattle.droid_signature_spec.specs.Expansions.{runs_outside, upward}
 use Rattle.droid_pronom_pattern.specs.Patterns.{Choice}
-use Rattle.droid_signature_texts.specs.Written.{marked, pair, written}
-
--- the mark before the next item
-abbrev pub next_mark : ℕ → ℕ → ℕ
-next_mark mark count = if count == 0 then mark else 124
+use Rattle.droid_signature_texts.specs.Written.{marked, next_mark, pair, written}
 
 bars_append : {X : Type 0} (text : X → List ℕ) (xs ys : List X) → marked text 124 (xs ++ ys) ≡ marked text 124 xs ++ marked text 124 ys
 bars_append text [] ys = refl
@@ -72,3 +67,7 @@ outside_text low high old first second all next one mark_is two three =
     three
     ∙ ap (λ l. l ++ 41 ∷ []) (two ∙ ap (λ l. l ++ marked pair next back) one ∙ append_assoc old (marked pair 40 front) (marked pair next back) ∙ ap (λ l. old ++ l) (sym whole))
     ∙ append_assoc old (marked (flat_map pair) 40 (runs_outside low high)) (41 ∷ [])
+
+-- behind an item the mark is a bar
+pub next_more : (mark i : ℕ) → 124 ≡ next_mark mark (i + 1)
+next_more mark i = ap (λ k. next_mark mark k) (let e : suc i ≡ i + 1 = omega arith in e)

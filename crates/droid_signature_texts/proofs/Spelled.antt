@@ -47,13 +47,16 @@ value_of_decimal (suc (suc (suc (suc (suc (suc (suc (suc zero)))))))) small = re
 value_of_decimal (suc (suc (suc (suc (suc (suc (suc (suc (suc zero))))))))) small = refl
 value_of_decimal (suc (suc (suc (suc (suc (suc (suc (suc (suc (suc n)))))))))) small = absurd (omega arith)
 
+pair_where : (h l b : ℕ) → h ≡ b / 16 → l ≡ b % 16 → b < 256 → (h < 16) × (l < 16) × (b ≡ 16 * h + l)
+pair_where h l b first second small = (omega arith, omega arith, omega arith)
+
 pub pair_is : (b : ℕ) → b < 256 → IsPair (digit (b / 16)) (digit (b % 16)) b
 pair_is b small =
     let high : b / 16 < 16 = omega arith in
     let low : b % 16 < 16 = omega arith in
     let first = value_of_digit (b / 16) high in
     let second = value_of_digit (b % 16) low in
-    (omega arith, omega arith, omega arith)
+    pair_where (digit_value (digit (b / 16))) (digit_value (digit (b % 16))) b first second small
 
 pub bytes_are : (bs : List ℕ) → AreBytes bs → SpellsBytes (flat_map pair bs) bs
 bytes_are [] each = refl
@@ -67,10 +70,19 @@ record AreDecimal (n : ℕ) (digits : List ℕ) : Type 0 where
   each : All (λ d. digit_value d < 10) digits
   value : n ≡ decimal_after 0 digits
 
+small_by : (v n : ℕ) → v ≡ n → n < 10 → v < 10
+small_by v n is small = omega arith
+
+value_by : (v n : ℕ) → v ≡ n → n ≡ 10 * 0 + v
+value_by v n is = omega arith
+
+value_more : (n whole front v : ℕ) → whole ≡ 10 * front + v → n / 10 ≡ front → v ≡ n % 10 → n ≡ whole
+value_more n whole front v is so_far last = omega arith
+
 one_digit : (n : ℕ) → n < 10 → AreDecimal n ((48 + n) ∷ [])
 one_digit n small =
     let is = value_of_decimal n small in
-    record { each = All-push (λ d. digit_value d < 10) [] (48 + n) (λ k d below. absurd (omega arith)) (omega arith); value = omega arith }
+    record { each = All-push (λ d. digit_value d < 10) [] (48 + n) (λ k d below. absurd (omega arith)) (small_by (digit_value (48 + n)) n is small); value = value_by (digit_value (48 + n)) n is }
 
 more_digits : (n : ℕ) (ds : List ℕ) → 10 ≤ n → AreDecimal (n / 10) ds → AreDecimal n (ds ++ (48 + n % 10) ∷ [])
 more_digits n ds large so_far =
@@ -78,7 +90,7 @@ more_digits n ds large so_far =
     let is = value_of_decimal (n % 10) small in
     let whole = decimal_push 0 ds (48 + n % 10) in
     let front = so_far.value in
-    record { each = All-push (λ d. digit_value d < 10) ds (48 + n % 10) so_far.each (omega arith); value = omega arith }
+    record { each = All-push (λ d. digit_value d < 10) ds (48 + n % 10) so_far.each (small_by (digit_value (48 + n % 10)) (n % 10) is small); value = value_more n (decimal_after 0 (ds ++ (48 + n % 10) ∷ [])) (decimal_after 0 ds) (digit_value (48 + n % 10)) whole front is }
 
 pub number_is : (n : ℕ) → n ≤ 65535 → IsNumber (decimal n) n
 number_is n small =

@@ -26,10 +26,10 @@ joined_can (es ∷ ps) qs (here, more) b = all_append AreWritable (map (λ fs. e
 plain_can : (e : Element) (text : List ℕ) → SpellsElement text e → IsPlain e → IsWritable e
 plain_can (Byte b) text spelled plain = (spelled_bytes (b ∷ []) text spelled).0
 plain_can AnyByte text spelled plain = tt
-plain_can (Gap n m) text (body, is, spelled) plain = ⊎_elim
-    (λ (number, same). let small = number.small in (omega arith, omega arith))
-    (λ (low, high, cut, first, second, ordered). let small = second.small in (ordered, small)) spelled
-plain_can (OpenGap n) text spelled plain = ⊎_elim (λ (is, none). omega arith) (λ (digits, is, number). number.small) spelled
+plain_can (Gap n m) text (body, is, inl (number, same)) plain = let small : n ≤ 65535 = number.small in (omega arith, omega arith)
+plain_can (Gap n m) text (body, is, inr (low, high, cut, first, second, ordered)) plain = (ordered, second.small)
+plain_can (OpenGap n) text (inl (is, none)) plain = omega arith
+plain_can (OpenGap n) text (inr (digits, is, number)) plain = number.small
 plain_can (Range low high) text (from, to, is, first, second, ordered) plain = (ordered, (spelled_bytes (high ∷ []) to second).0)
 plain_can (Except b) text (digits, is, spelled) plain = (spelled_bytes (b ∷ []) digits spelled).0
 plain_can (Choice alternatives) text spelled plain = absurd plain
@@ -111,45 +111,45 @@ atom_can (Outside low high) text (from, to, is, first, second, ordered, some) = 
 atom_can (Between low high) text (from, to, is, first, second, bounds) = ranges_can low high (spelled_bytes low from first) (spelled_bytes high to second)
 atom_can (Quoted bytes) text (is, some, each) = (bytes_can bytes (quoted_bytes bytes each), tt)
 
-pub atoms_can : (as : List Atom) (text : List ℕ) → SpellsAtoms text as → AreAllWritable (patterns_of_atoms as)
+pub atoms_can : (atoms : List Atom) (text : List ℕ) → SpellsAtoms text atoms → AreAllWritable (patterns_of_atoms atoms)
 atoms_can [] text spelled = (tt, tt)
-atoms_can (a ∷ as) text (front, back, is, first, second) = joined_can (patterns_of_atom a) (patterns_of_atoms as) (atom_can a front first) (atoms_can as back second)
+atoms_can (a ∷ atoms) text (front, back, is, first, second) = joined_can (patterns_of_atom a) (patterns_of_atoms atoms) (atom_can a front first) (atoms_can atoms back second)
 
 -- alternatives that are runs of bytes
-run_can : (as : List Atom) (text run : List ℕ) → SpellsAtoms text as → run_of as ≡ Some run → AreBytes run × (length as ≤ length run)
+run_can : (atoms : List Atom) (text run : List ℕ) → SpellsAtoms text atoms → run_of atoms ≡ Some run → AreBytes run × (length atoms ≤ length run)
 run_can [] text run spelled e = let none : [] ≡ run = cc in (let P : List ℕ → Type 0 = λ r. AreBytes r × (0 ≤ length r) in subst P none (tt, omega arith))
-run_can (Plain (Byte b) ∷ as) text run (front, back, is, (spelled, plain), second) e =
-    go (run_of as) refl e (λ rest there. run_can as back rest second there) (spelled_bytes (b ∷ []) front spelled).0
+run_can (Plain (Byte b) ∷ atoms) text run (front, back, is, (spelled, plain), second) e =
+    go (run_of atoms) refl e (λ rest there. run_can atoms back rest second there) (spelled_bytes (b ∷ []) front spelled).0
   where
-    go : (o : Option (List ℕ)) → run_of as ≡ o → option_map (λ bytes. b ∷ bytes) o ≡ Some run → ((rest : List ℕ) → run_of as ≡ Some rest → AreBytes rest × (length as ≤ length rest)) → b < 256
-        → AreBytes run × (suc (length as) ≤ length run)
+    go : (o : Option (List ℕ)) → run_of atoms ≡ o → option_map (λ bytes. b ∷ bytes) o ≡ Some run → ((rest : List ℕ) → run_of atoms ≡ Some rest → AreBytes rest × (length atoms ≤ length rest)) → b < 256
+        → AreBytes run × (suc (length atoms) ≤ length run)
     go None there bad again small = absurd cc
     go (Some rest) there whole again small =
         let both : b ∷ rest ≡ run = cc in
         let (each, long) = again rest there in
-        let P : List ℕ → Type 0 = λ r. AreBytes r × (suc (length as) ≤ length r) in subst P both ((small, each), omega arith)
-run_can (Quoted bytes ∷ as) text run (front, back, is, (there', some, each'), second) e = go (run_of as) refl e (λ rest there. run_can as back rest second there)
+        let P : List ℕ → Type 0 = λ r. AreBytes r × (suc (length atoms) ≤ length r) in subst P both ((small, each), omega arith)
+run_can (Quoted bytes ∷ atoms) text run (front, back, is, (there', some, each'), second) e = go (run_of atoms) refl e (λ rest there. run_can atoms back rest second there)
   where
-    go : (o : Option (List ℕ)) → run_of as ≡ o → option_map (λ more. bytes ++ more) o ≡ Some run → ((rest : List ℕ) → run_of as ≡ Some rest → AreBytes rest × (length as ≤ length rest))
-        → AreBytes run × (suc (length as) ≤ length run)
+    go : (o : Option (List ℕ)) → run_of atoms ≡ o → option_map (λ more. bytes ++ more) o ≡ Some run → ((rest : List ℕ) → run_of atoms ≡ Some rest → AreBytes rest × (length atoms ≤ length rest))
+        → AreBytes run × (suc (length atoms) ≤ length run)
     go None there bad again = absurd cc
     go (Some rest) there whole again =
         let both : bytes ++ rest ≡ run = cc in
         let (each, long) = again rest there in
         let sum = length-append bytes rest in
-        let P : List ℕ → Type 0 = λ r. AreBytes r × (suc (length as) ≤ length r) in subst P both (all_append (λ b. b < 256) bytes rest (quoted_bytes bytes each') each, omega arith)
-run_can (Plain AnyByte ∷ as) text run spelled e = absurd cc
-run_can (Plain (Gap least most) ∷ as) text run spelled e = absurd cc
-run_can (Plain (OpenGap least) ∷ as) text run spelled e = absurd cc
-run_can (Plain (Range low high) ∷ as) text run spelled e = absurd cc
-run_can (Plain (Except b) ∷ as) text run spelled e = absurd cc
-run_can (Plain (Choice alternatives) ∷ as) text run spelled e = absurd cc
-run_can (Outside low high ∷ as) text run spelled e = absurd cc
-run_can (Between low high ∷ as) text run spelled e = absurd cc
+        let P : List ℕ → Type 0 = λ r. AreBytes r × (suc (length atoms) ≤ length r) in subst P both (all_append (λ b. b < 256) bytes rest (quoted_bytes bytes each') each, omega arith)
+run_can (Plain AnyByte ∷ atoms) text run spelled e = absurd cc
+run_can (Plain (Gap least most) ∷ atoms) text run spelled e = absurd cc
+run_can (Plain (OpenGap least) ∷ atoms) text run spelled e = absurd cc
+run_can (Plain (Range low high) ∷ atoms) text run spelled e = absurd cc
+run_can (Plain (Except b) ∷ atoms) text run spelled e = absurd cc
+run_can (Plain (Choice alternatives) ∷ atoms) text run spelled e = absurd cc
+run_can (Outside low high ∷ atoms) text run spelled e = absurd cc
+run_can (Between low high ∷ atoms) text run spelled e = absurd cc
 
 -- each alternative is spelled by some text, and has an item
 abbrev AreSpelled : List (List Atom) → Type 0
-AreSpelled alts = AllByRecursion (λ as. (text : List ℕ) × SpellsAtoms text as × (0 < length as)) alts
+AreSpelled alts = AllByRecursion (λ atoms. (text : List ℕ) × SpellsAtoms text atoms × (0 < length atoms)) alts
 
 spelled_each : (alts : List (List Atom)) (text : List ℕ) → SpellsAlternatives text alts → AreSpelled alts × (0 < length alts)
 spelled_each [] text spelled = absurd spelled
@@ -160,22 +160,22 @@ runs_can : (alts : List (List Atom)) (runs : List (List ℕ)) → AreSpelled alt
 runs_can [] runs each e =
     let none : [] ≡ runs = cc in
     let P : List (List ℕ) → Type 0 = λ r. AllByRecursion (λ run. (0 < length run) × AreBytes run) r × (0 ≤ length r) in subst P none (tt, omega arith)
-runs_can (as ∷ alts) runs ((text, spelled, some), each) e = go (run_of as) (runs_of alts) refl refl e (λ rest there. runs_can alts rest each there)
+runs_can (atoms ∷ alts) runs ((text, spelled, some), each) e = go (run_of atoms) (runs_of alts) refl refl e (λ rest there. runs_can alts rest each there)
   where
-    go : (o : Option (List ℕ)) (p : Option (List (List ℕ))) → run_of as ≡ o → runs_of alts ≡ p → with_run o p ≡ Some runs
+    go : (o : Option (List ℕ)) (p : Option (List (List ℕ))) → run_of atoms ≡ o → runs_of alts ≡ p → with_run o p ≡ Some runs
         → ((rest : List (List ℕ)) → runs_of alts ≡ Some rest → AllByRecursion (λ run. (0 < length run) × AreBytes run) rest × (length alts ≤ length rest))
         → AllByRecursion (λ run. (0 < length run) × AreBytes run) runs × (suc (length alts) ≤ length runs)
     go None p here there bad again = absurd cc
     go (Some run) None here there bad again = absurd cc
     go (Some run) (Some rest) here there whole again =
         let both : run ∷ rest ≡ runs = cc in
-        let (bytes, long) = run_can as text run spelled here in
+        let (bytes, long) = run_can atoms text run spelled here in
         let (others, many) = again rest there in
         let P : List (List ℕ) → Type 0 = λ r. AllByRecursion (λ run. (0 < length run) × AreBytes run) r × (suc (length alts) ≤ length r) in subst P both (((omega arith, bytes), others), omega arith)
 
 each_can : (alts : List (List Atom)) → AreSpelled alts → AreAllWritable (patterns_of_each alts)
 each_can [] each = tt
-each_can (as ∷ alts) ((text, spelled, some), each) = all_append AreWritable (patterns_of_atoms as) (patterns_of_each alts) (atoms_can as text spelled) (each_can alts each)
+each_can (atoms ∷ alts) ((text, spelled, some), each) = all_append AreWritable (patterns_of_atoms atoms) (patterns_of_each alts) (atoms_can atoms text spelled) (each_can alts each)
 
 choice_can : (o : Option (List (List ℕ))) (alts : List (List Atom)) → runs_of alts ≡ o → AreSpelled alts → 0 < length alts → AreAllWritable (patterns_of_choice o alts)
 choice_can None alts is each some = each_can alts each

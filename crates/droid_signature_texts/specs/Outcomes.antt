@@ -11,10 +11,13 @@ use Rattle.droid_signature_texts.specs.declared.reason.Reason.{Reason}
 use Rattle.droid_signature_texts.specs.declared.reason.Reason.TheVariants as reasons
 
 -- a reason that is returned satisfies P
+abbrev pub Says : Stop → (Reason → Type 0) → Type 0
+Says stops.Memory P = ⊤
+Says (stops.LeftOut reason) P = P reason
+
 abbrev pub IfLeftOut : {X : Type 0} → Result X Stop → (Reason → Type 0) → Type 0
 IfLeftOut (Ok x) P = ⊤
-IfLeftOut (Err stops.Memory) P = ⊤
-IfLeftOut (Err (stops.LeftOut reason)) P = P reason
+IfLeftOut (Err stop) P = Says stop P
 
 -- there are more than 64 texts
 abbrev pub HasMany : List (List ℕ) → Reason → Type 0

@@ -1,5 +1,5 @@
 -- How this project writes a pattern: the shortest of its texts, with digits in upper case.
-use Rattle.std.specs.Prelude.{ℕ, ◌+◌, ◌≤◌, ◌<◌, ◌/◌, ◌%◌, ◌==◌, nat_lt, List, [], ◌∷◌, ◌++◌, length, map, codes, decimal, if◌then◌else◌, ⊤}
+use Rattle.std.specs.Prelude.{ℕ, zero, suc, ◌+◌, ◌≤◌, ◌<◌, ◌/◌, ◌%◌, ◌==◌, nat_lt, List, [], ◌∷◌, ◌++◌, length, map, codes, decimal, if◌then◌else◌, ⊤}
 use Rattle.std.specs.List.{flat_map, AllByRecursion}
 use Rattle.std.specs.Prelude.{Bool, true, false}
 use Rattle.droid_pronom_pattern.specs.Patterns.{Element, Byte, AnyByte, Gap, OpenGap, Range, Except, Choice}
@@ -26,6 +26,11 @@ open_gap n = if n == 0 then 42 ∷ [] else 123 ∷ (decimal n ++ codes "-*}")
 abbrev pub marked : {X : Type 0} → (X → List ℕ) → ℕ → List X → List ℕ
 marked text mark [] = []
 marked text mark (x ∷ xs) = mark ∷ (text x ++ marked text 124 xs)
+
+-- the mark behind so many items
+abbrev pub next_mark : ℕ → ℕ → ℕ
+next_mark mark zero = mark
+next_mark mark (suc count) = 124
 
 -- an element
 abbrev pub written : Element → List ℕ

@@ -5,7 +5,7 @@ ghost use Rattle.std.specs.Prelude.{◌≡◌};
 use std::marker::Model;
 
 /// A pattern's text. In contracts it is the list of its bytes.
-#[derive(Debug, Drop)]
+#[derive(Drop)]
 pub struct PatternText {
     bytes: Vec<u8>,
 }

@@ -17,7 +17,7 @@ const MOST_PATTERNS: usize = 64;
 const MOST_BYTES: usize = 4096;
 
 /// Texts of patterns, any of which has to match. In contracts it is the list of them.
-#[derive(Debug, Drop)]
+#[derive(Drop)]
 pub struct PatternTexts {
     texts: Vec<PatternText>,
 }

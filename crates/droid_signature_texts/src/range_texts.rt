@@ -1,6 +1,6 @@
 //! Ranges of several bytes, written out byte by byte.
 
-ghost use Rattle.std.specs.Prelude.{◌≡◌, ◌≢◌, ◌≤◌, ◌<◌, ◌++◌, [], length, slice_index, IfOk, OnOk};
+ghost use Rattle.std.specs.Prelude.{◌≡◌, ◌≢◌, ◌≤◌, ◌++◌, ◌∷◌, [], IfOk, OnOk};
 ghost use Rattle.droid_signature_spec.specs.Expansions.{any_bytes, ranges, upward_from, up_to, range_before};
 ghost use Rattle.droid_signature_texts.specs.Written.{behind, pair, written_all, written_each};
 
@@ -40,7 +40,7 @@ fn add_ranges(
         return Ok(());
     };
     if *l != *h {
-        add_apart(alloc, texts, front, low, high)?;
+        add_apart(alloc, texts, front, *l, lower, *h, higher)?;
         return Ok(());
     }
     let text = with_byte(alloc, front, *l)?;
@@ -63,25 +63,24 @@ fn add_if_none(
     Ok(())
 }
 
-/// Adds the texts of the bytes between two bounds whose first bytes differ, behind a text.
+/// Adds the texts of the bytes between two bounds whose first bytes, `l` and `h`, differ, behind a text.
 fn add_apart(
     alloc: Global,
     texts: &mut PatternTexts,
     front: &[u8],
-    low: &[u8],
-    high: &[u8],
+    l: u8,
+    lower: &[u8],
+    h: u8,
+    higher: &[u8],
 ) -> Result<(), AllocError>
-    requires low { 0 < length low.now }
-    requires high { 0 < length high.now }
-    requires apart { slice_index low.now 0 ≢ slice_index high.now 0 }
-    ensures { OnOk result (texts.new ≡ texts.old ++ behind front.now (ranges low.now high.now)) }
+    requires { l ≢ h }
+    ensures { OnOk result (texts.new ≡ texts.old ++ behind front.now (ranges (l ∷ lower.now) (h ∷ higher.now))) }
 {
-    let least = with_byte(alloc, front, low[0])?;
-    add_upward(alloc, texts, least.as_slice(), &low[1..])?;
-    let next = u16::from(low[0]) + 1;
-    add_between(alloc, texts, front, next, u16::from(high[0]), low.len() - 1)?;
-    let most = with_byte(alloc, front, high[0])?;
-    add_up_to(alloc, texts, most.as_slice(), &high[1..])?;
+    let least = with_byte(alloc, front, l)?;
+    add_upward(alloc, texts, least.as_slice(), lower)?;
+    add_between(alloc, texts, front, u16::from(l) + 1, u16::from(h), lower.len())?;
+    let most = with_byte(alloc, front, h)?;
+    add_up_to(alloc, texts, most.as_slice(), higher)?;
     Ok(())
 }
 
@@ -150,7 +149,8 @@ fn add_between(
 fn push_any(text: &mut Vec<u8>, count: usize) -> Result<(), AllocError>
     ensures { OnOk result (text.new.items ≡ text.old.items ++ written_all (any_bytes count)) }
 {
-    for _place in 0..count {
+    for place in 0..count {
+        let _ = place;
         push_range(text, 0, 255)?;
     }
     Ok(())

@@ -6,7 +6,7 @@ ghost use Rattle.droid_signature_texts.specs.declared.reason.Stop.TheVariants as
 use std::alloc::{AllocError, AllocFailed};
 
 /// Why a registry cannot hold a signature.
-#[derive(Clone, Copy, Debug, PartialEq, Eq)]
+#[derive(Clone, Copy, PartialEq, Eq)]
 pub enum Reason {
     /// It has no byte sequence, so it would hit every file.
     NoSequence,
@@ -43,7 +43,7 @@ pub enum Reason {
 }
 
 /// Why the making of patterns stopped.
-#[derive(Clone, Copy, Debug, PartialEq, Eq)]
+#[derive(Clone, Copy, PartialEq, Eq)]
 pub enum Stop {
     Memory,
     LeftOut(Reason),

@@ -1,6 +1,6 @@
 //! The texts of the patterns that stand for the terms of a sequence's or a fragment's text.
 
-ghost use Rattle.std.specs.Prelude.{◌≡◌, ◌+◌, ◌≤◌, ◌==◌, ◌++◌, ◌∷◌, [], IfOk, OnOk, map, if◌then◌else◌};
+ghost use Rattle.std.specs.Prelude.{◌≡◌, ◌+◌, ◌≤◌, ◌++◌, ◌∷◌, [], IfOk, OnOk, map};
 ghost use Rattle.std.specs.List.{flat_map, list_all};
 ghost use Rattle.droid_pronom_pattern.specs.Patterns.{Choice};
 ghost use Rattle.droid_signature_parser.specs.TermValues.{atom_of, term_of};
@@ -10,7 +10,7 @@ ghost use Rattle.droid_signature_texts.specs.Outcomes.{IfLeftOut, IsReasonOfAtom
 ghost use Rattle.droid_signature_texts.specs.Items.{items_of};
 ghost use Rattle.droid_signature_texts.specs.Texts.{AreSmall};
 ghost use Rattle.droid_signature_texts.specs.Written as spec;
-ghost use Rattle.droid_signature_texts.specs.Written.{is_run, marked, one_text, pair, written, written_each};
+ghost use Rattle.droid_signature_texts.specs.Written.{marked, one_text, pair, written, written_each};
 
 use crate::element_texts::{push_byte, push_bytes, push_except, push_gap, push_range};
 use crate::growing::expanded;
@@ -123,7 +123,7 @@ fn push_outside(text: &mut Vec<u8>, low: u8, high: u8) -> Result<(), AllocError>
 fn push_each(text: &mut Vec<u8>, mark: u8, from: u16, count: u16) -> Result<u8, AllocError>
     requires { from + count ≤ 256 }
     ensures text { OnOk result (text.new.items ≡ text.old.items ++ marked pair mark (upward from count)) }
-    ensures mark { IfOk result (λ next. next ≡ (if count == 0 then mark else 124)) }
+    ensures mark { IfOk result (λ next. next ≡ spec.next_mark mark count) }
 {
     let mut next = mark;
     for place in 0..count {
@@ -149,25 +149,15 @@ fn choice_texts(alloc: Global, alternatives: &[Vec<TextItem>]) -> Result<Pattern
 
 /// Returns whether each alternative is a run of bytes.
 fn are_all_runs(alternatives: &[Vec<TextItem>]) -> bool
-    ensures { result ≡ list_all (list_all is_run) (map items_of alternatives.now) }
+    ensures { result ≡ list_all (λ items. list_all (λ item. spec.is_run (atom_of item)) items.items) alternatives.now }
 {
-    for items in alternatives {
-        if !are_runs(items.as_slice()) {
-            return false;
-        }
-    }
-    true
+    alternatives.iter().all(|items| are_runs(items.as_slice()))
 }
 
 fn are_runs(items: &[TextItem]) -> bool
-    ensures { result ≡ list_all is_run (map atom_of items.now) }
+    ensures { result ≡ list_all (λ item. spec.is_run (atom_of item)) items.now }
 {
-    for item in items {
-        if !is_run(item) {
-            return false;
-        }
-    }
-    true
+    items.iter().all(|item| is_run(item))
 }
 
 fn is_run(item: &TextItem) -> bool

@@ -8,7 +8,7 @@ import re
 import xml.etree.ElementTree as tree
 
 LARGEST_OFFSET = 65_535
-MOST_FRAGMENTS = 256
+LARGEST_POSITION = 64
 MOST_RANGE = 16
 
 ITEM = re.compile(
@@ -175,8 +175,11 @@ def text_of(element):
 def side_expressions(part, name):
     """An expression for the fragments of each position, from 1 on, each with its gap: a pair of the gap and the text."""
     fragments = inside(part, name)
-    if len(fragments) > MOST_FRAGMENTS:
-        raise NotTaken("ManyFragments")
+    for it in fragments:
+        if number(it, "Position") == 0:
+            raise NotTaken("FragmentPositions")
+        if number(it, "Position") > LARGEST_POSITION:
+            raise NotTaken("LargePosition")
     positions = {number(it, "Position") for it in fragments}
     if positions != set(range(1, len(positions) + 1)):
         raise NotTaken("FragmentPositions")

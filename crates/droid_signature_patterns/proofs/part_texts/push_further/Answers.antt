@@ -11,7 +11,7 @@ use Rattle.droid_signature_patterns.proofs.PartLevels.{further_more}
 use Rattle.droid_signature_patterns.proofs.part_texts.push_further.Goals as goal
 
 pub returns-in_err-push_part-clause-err : goal.returns-in_err-push_part-clause-err
-returns-in_err-push_part-clause-err c = passed_on (λ reason. Any (IsReasonOfReadPart reason) c.args.parts.now) (λ reason. IsReasonOfReadPart reason c.part-item.result) c.from_residual.result _ c.from_residual.ensures.1
+returns-in_err-push_part-clause-err c = passed_on (λ reason. Any (IsReasonOfReadPart reason) c.args.parts.now) (λ reason. IsReasonOfReadPart reason c.part-item.result) c.from_residual-in_err-push_part.result _ c.from_residual-in_err-push_part.ensures.1
     (λ reason h. any_at (IsReasonOfReadPart reason) c.args.parts.now c.loop-part.part-index c.part-item.result (omega arith) c.part-item.is h) c.in_err-push_part.ensures.err
 
 pub loop-part-preserved : goal.loop-part-preserved

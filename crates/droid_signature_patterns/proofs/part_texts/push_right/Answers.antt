@@ -1,5 +1,7 @@
 -- One more position.
-use Rattle.std.proofs.Common.{◌≡◌, ◌+◌, ℕ, arith}
+use Rattle.std.proofs.Common.{◌≡◌, ◌+◌, ◌++◌, ℕ, map, ap, ◌∙◌, arith}
+use Rattle.droid_signature_texts.specs.Written.{written_each}
+use Rattle.droid_signature_patterns.specs.Parts.{outermost_of, right_levels}
 use Rattle.droid_signature_texts.proofs.Exits.{passed_on}
 use Rattle.droid_signature_patterns.specs.Reasons.{IsReasonOfLevel}
 use Rattle.droid_signature_patterns.specs.declared.part_texts.Way.TheVariants as way
@@ -12,3 +14,8 @@ returns-in_err-level-clause-err c = passed_on (λ reason. (position : ℕ) × Is
 
 pub loop-place-preserved : goal.loop-place-preserved
 loop-place-preserved c = right_more c.args.fragments.now c.loop-place.place c.args.levels.now.items c.loop-place.levels.items c.push.new.self.items c.in_ok-level.level c.in_ok-level.ensures.ok c.in_ok-push.ensures.items c.loop-place.invariant
+
+pub returns-clause-ok : goal.returns-clause-ok
+returns-clause-ok c =
+    let last : c.loop-place.place ≡ outermost_of c.args.fragments.now = omega arith in
+    c.loop-place.invariant ∙ ap (λ n. c.args.levels.now.items ++ map written_each (right_levels c.args.fragments.now n)) last

@@ -13,7 +13,7 @@ pub returns-in_err-see_positions-clause-err : goal.returns-in_err-see_positions-
 returns-in_err-see_positions-clause-err c = left_out (IsReasonOfSide c.args.fragments.now) c.from_residual.result _ c.from_residual.ensures.1 (inl c.in_err-see_positions.ensures)
 
 pub returns-in_err-more-clause-err : goal.returns-in_err-more-clause-err
-returns-in_err-more-clause-err c = passed_on (IsReasonOfSide c.args.fragments.now) (λ reason. IsReasonOfFragment reason c.fragment-item.result) c.from_residual.result _ c.from_residual.ensures.1
+returns-in_err-more-clause-err c = passed_on (IsReasonOfSide c.args.fragments.now) (λ reason. IsReasonOfFragment reason c.fragment-item.result) c.from_residual-in_err-more.result _ c.from_residual-in_err-more.ensures.1
     (λ reason h. inr (any_at (IsReasonOfFragment reason) c.args.fragments.now c.loop-fragment.fragment-index c.fragment-item.result (omega arith) c.fragment-item.is h)) c.in_err-more.ensures.err
 
 pub loop-fragment-preserved : goal.loop-fragment-preserved

@@ -1,8 +1,8 @@
 -- As many bytes as there were steps.
 use Rattle.std.proofs.Common.{◌≡◌, ◌++◌}
-use Rattle.droid_signature_spec.specs.Expansions.{any_places}
+use Rattle.droid_signature_spec.specs.Expansions.{any_bytes}
 use Rattle.droid_signature_texts.specs.Written.{written_all}
 use Rattle.droid_signature_texts.proofs.range_texts.push_any.Given as goal
 
-abbrev pub invariant-loop-_place : goal.invariant-loop-_place
-invariant-loop-_place l = l.text.items ≡ l.initial.text.items ++ written_all (any_places l._place)
+abbrev pub invariant-loop-place : goal.invariant-loop-place
+invariant-loop-place l = l.text.items ≡ l.initial.text.items ++ written_all (any_bytes l.place)

@@ -1,0 +1,21 @@
+-- One more byte sequence, one that a registry cannot hold, and all of them.
+use Rattle.std.proofs.Common.{◌≡◌, ◌*◌, ◌<◌, ◌≤◌, List, length, take, inr, ap, subst, arith}
+use Rattle.std.proofs.lemmas.List.{take_all}
+use Rattle.droid_signature_spec.specs.Records.{ByteSequenceRecord}
+use Rattle.droid_signature_texts.proofs.Exits.{any_at, passed_on}
+use Rattle.droid_signature_patterns.specs.Choices.{AreAllTaken, IsReasonOf}
+use Rattle.droid_signature_patterns.specs.Reasons.{IsReasonOfOne}
+use Rattle.droid_signature_patterns.proofs.Ways.{taken_more, ways_more}
+use Rattle.droid_signature_patterns.proofs.choices.choices_of_sequences.Goals as goal
+
+pub returns-in_err-choices-clause-left_out : goal.returns-in_err-choices-clause-left_out
+returns-in_err-choices-clause-left_out c = passed_on (IsReasonOf c.args.sequences.now) (λ reason. IsReasonOfOne reason c.sequence-item.result) c.from_residual.result _ c.from_residual.ensures.1
+    (λ reason h. inr (inr (any_at (IsReasonOfOne reason) c.args.sequences.now c.loop-sequence.sequence-index c.sequence-item.result (omega arith) c.sequence-item.is h))) c.in_err-choices.ensures.left_out
+
+pub loop-sequence-preserved : goal.loop-sequence-preserved
+loop-sequence-preserved c =
+    let i = c.loop-sequence.sequence-index in
+    let taken = c.in_ok-choices.choices in
+    (taken_more c.args.sequences.now i c.sequence-item.result c.loop-sequence.all.items c.push.new.self.items taken (omega arith) c.sequence-item.is c.loop-sequence.invariant.0 c.in_ok-choices.ensures.taken c.in_ok-push.ensures.items,
+    ways_more c.loop-sequence.all.items c.push.new.self.items taken c.loop-sequence.count _ c.in_ok-push.ensures.items c.loop-sequence.invariant.1 (ap (λ n. c.loop-sequence.count * n) c.len.ensures),
+    omega arith, omega arith)

@@ -1,0 +1,2 @@
+-- The registry that rows make, one after the other.
+pub mod RowSteps
