@@ -62,8 +62,8 @@ outside_text low high old first second all next one mark_is two three =
     let front = upward 0 low in
     let back = upward (high + 1) (255 - high) in
     let whole : marked (flat_map pair) 40 (runs_outside low high) ≡ marked pair 40 front ++ marked pair next back =
-      singles 40 (front ++ back) ∙ marked_append pair 40 front back
-      ∙ ap (λ n. marked pair 40 front ++ marked pair n back) (ap (next_mark 40) (length_upward 0 low) ∙ sym mark_is) in
+    singles 40 (front ++ back) ∙ marked_append pair 40 front back
+    ∙ ap (λ n. marked pair 40 front ++ marked pair n back) (ap (next_mark 40) (length_upward 0 low) ∙ sym mark_is) in
     three
     ∙ ap (λ l. l ++ 41 ∷ []) (two ∙ ap (λ l. l ++ marked pair next back) one ∙ append_assoc old (marked pair 40 front) (marked pair next back) ∙ ap (λ l. old ++ l) (sym whole))
     ∙ append_assoc old (marked (flat_map pair) 40 (runs_outside low high)) (41 ∷ [])

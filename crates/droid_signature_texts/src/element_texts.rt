@@ -24,7 +24,11 @@ fn digit(value: u8) -> u8
     requires { value < 16 }
     ensures { result ≡ spec.digit value }
 {
-    if value < 10 { b'0' + value } else { b'A' - 10 + value }
+    if value < 10 {
+        b'0' + value
+    } else {
+        b'A' - 10 + value
+    }
 }
 
 /// Appends bytes, each as two digits.
@@ -60,11 +64,7 @@ pub(crate) fn push_except(text: &mut Vec<u8>, byte: u8) -> Result<(), AllocError
 }
 
 /// Appends a gap of at least `least` bytes, and at most `most` if there is such a limit.
-pub fn push_gap(
-    text: &mut Vec<u8>,
-    least: u16,
-    most: Option<u16>,
-) -> Result<(), AllocError>
+pub fn push_gap(text: &mut Vec<u8>, least: u16, most: Option<u16>) -> Result<(), AllocError>
     ensures { OnOk result (text.new.items ≡ text.old.items ++ written (gap_of least most)) }
 {
     match most {

@@ -169,12 +169,7 @@ fn both(alloc: Global, first: &[u8], second: &[u8]) -> Result<Vec<u8>, Stop>
     Ok(text)
 }
 
-fn appended(
-    alloc: Global,
-    len: usize,
-    first: &[u8],
-    second: &[u8],
-) -> Result<Vec<u8>, AllocError>
+fn appended(alloc: Global, len: usize, first: &[u8], second: &[u8]) -> Result<Vec<u8>, AllocError>
     ensures { IfOk result (λ text. text.items ≡ first.now ++ second.now) }
 {
     let mut text = Vec::with_capacity(alloc, len)?;

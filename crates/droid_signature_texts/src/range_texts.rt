@@ -78,7 +78,14 @@ fn add_apart(
 {
     let least = with_byte(alloc, front, l)?;
     add_upward(alloc, texts, least.as_slice(), lower)?;
-    add_between(alloc, texts, front, u16::from(l) + 1, u16::from(h), lower.len())?;
+    add_between(
+        alloc,
+        texts,
+        front,
+        u16::from(l) + 1,
+        u16::from(h),
+        lower.len(),
+    )?;
     let most = with_byte(alloc, front, h)?;
     add_up_to(alloc, texts, most.as_slice(), higher)?;
     Ok(())

@@ -55,9 +55,7 @@ fn item_texts(alloc: Global, item: &TextItem) -> Result<PatternTexts, Stop>
     ensures err { IfLeftOut result (λ reason. IsReasonOfAtom reason (atom_of item.now)) }
 {
     match item {
-        TextItem::Between { low, high } => {
-            between_texts(alloc, low.as_slice(), high.as_slice())
-        }
+        TextItem::Between { low, high } => { between_texts(alloc, low.as_slice(), high.as_slice()) }
         TextItem::Byte(_)
         | TextItem::AnyByte
         | TextItem::Gap { .. }

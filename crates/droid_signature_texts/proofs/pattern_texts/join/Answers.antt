@@ -21,6 +21,7 @@ loop-first-preserved c =
     let firsts = c.args.firsts.now in
     let seconds = c.args.seconds.now in
     let more = joined_more firsts seconds c.loop-first.first-index c.first-item.result (omega arith) c.first-item.is in
-    let same = ap (λ first. each_behind first seconds) c.as_slice.ensures in
-    (c.in_ok-add_behind.ensures.ok ∙ ap (λ l. l ++ each_behind c.as_slice.result.now seconds) c.loop-first.invariant.0 ∙ ap (λ l. joined (take c.loop-first.first-index firsts) seconds ++ l) same ∙ sym more,
-    c.in_ok-add_behind.ensures.short c.loop-first.invariant.1)
+    let same = ap (λ first. each_behind first seconds) c.as_slice.ensures in (
+      c.in_ok-add_behind.ensures.ok ∙ ap (λ l. l ++ each_behind c.as_slice.result.now seconds) c.loop-first.invariant.0 ∙ ap (λ l. joined (take c.loop-first.first-index firsts) seconds ++ l) same ∙ sym more,
+      c.in_ok-add_behind.ensures.short c.loop-first.invariant.1,
+    )

@@ -13,6 +13,6 @@ returns c =
     let low : c.from.result ≡ l = omega arith in
     let high : c.from-2.result ≡ h = omega arith in
     let between = c.in_ok-add_between.ensures ∙ ap (λ n. c.add_upward.new.texts ++ behind c.args.front.now (range_before (n + 1) c.from-2.result count)) low
-      ∙ ap (λ n. c.add_upward.new.texts ++ behind c.args.front.now (range_before (l + 1) n count)) high in
+    ∙ ap (λ n. c.add_upward.new.texts ++ behind c.args.front.now (range_before (l + 1) n count)) high in
     apart_steps c.args.texts.now c.add_upward.new.texts c.add_between.new.texts c.add_up_to.new.texts c.args.front.now c.as_slice.result.now c.as_slice-2.result.now c.args.lower.now c.args.higher.now l h c.requires
     (c.as_slice.ensures.value ∙ c.in_ok-least.ensures) (c.as_slice-2.ensures.value ∙ c.in_ok-most.ensures) c.in_ok-add_upward.ensures between c.in_ok-add_up_to.ensures

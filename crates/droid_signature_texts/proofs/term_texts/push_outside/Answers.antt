@@ -13,7 +13,7 @@ returns c =
     let above : c.from-3.result ≡ 255 - c.args.high = omega arith in
     let mark = c.in_ok-mark.mark in
     let second = c.in_ok-push_each.ensures.text
-      ∙ ap (λ n. c.push_each.new.text.items ++ marked pair mark (upward (n + 1) c.from-3.result)) high
-      ∙ ap (λ n. c.push_each.new.text.items ++ marked pair mark (upward (c.args.high + 1) n)) above in
+    ∙ ap (λ n. c.push_each.new.text.items ++ marked pair mark (upward (n + 1) c.from-3.result)) high
+    ∙ ap (λ n. c.push_each.new.text.items ++ marked pair mark (upward (c.args.high + 1) n)) above in
     outside_text c.args.low c.args.high old c.push_each.new.text.items c.push_each-2.new.text.items c.push.new.self.items mark
     (c.in_ok-mark.ensures.text ∙ ap (λ n. old ++ marked pair 40 (upward 0 n)) low) (c.in_ok-mark.ensures.mark ∙ ap (next_mark 40) low) second c.in_ok-push.ensures.items

@@ -14,6 +14,8 @@ loop-items-preserved c =
     let i = c.loop-items.items-index in
     let x = c.items-item.result in
     let below : i < length all = omega arith in
-    let there = sym (get_or-map items_of all i x (items_of x) below ∙ ap items_of (sym c.items-item.is)) in
-    (marked_more (flat_map one_text) 40 (map items_of all) i (items_of x) [] c.loop-items.text.items c.push.new.self.items _ c.loop-items.mark (omega (arith, length-map all items_of)) there
-    c.loop-items.invariant.0 c.loop-items.invariant.1 c.in_ok-push.ensures.items (c.in_ok-push_items.ensures ∙ ap (λ l. c.push.new.self.items ++ flat_map one_text (map atom_of l)) c.as_slice.ensures.value), next_more 40 i)
+    let there = sym (get_or-map items_of all i x (items_of x) below ∙ ap items_of (sym c.items-item.is)) in (
+      marked_more (flat_map one_text) 40 (map items_of all) i (items_of x) [] c.loop-items.text.items c.push.new.self.items _ c.loop-items.mark (omega (arith, length-map all items_of)) there
+          c.loop-items.invariant.0 c.loop-items.invariant.1 c.in_ok-push.ensures.items (c.in_ok-push_items.ensures ∙ ap (λ l. c.push.new.self.items ++ flat_map one_text (map atom_of l)) c.as_slice.ensures.value),
+      next_more 40 i,
+    )
