@@ -3,5 +3,5 @@ pub mod PartLevels
 pub mod ReadTexts
 pub mod Ways
 pub mod Taken
-pub mod Reading
+pub mod SequenceReads
 pub mod Ends
