@@ -24,10 +24,10 @@ pub(crate) fn read_sequence(alloc: Global, sequence: &SequenceRecord) -> Result<
     ensures ok { IfOk result (λ read. IsRead sequence.now read.offsets read.first read.further.items) }
     ensures err { IfLeftOut result (IsReasonOfSequence sequence.now) }
 {
-    let reference = sequence.reference();
+    let from = sequence.reference();
     let parts = sequence.parts();
-    let anchor = anchor_of(reference)?;
-    if are_several_from_end(reference, parts.len()) {
+    let anchor = anchor_of(from)?;
+    if are_several_from_end(from, parts.len()) {
         return Err(Stop::LeftOut(Reason::SeveralFromEnd));
     }
     if !are_numbered(parts) {

@@ -1,5 +1,7 @@
 -- What a byte sequence becomes is read as the patterns that stand for it.
 use Rattle.std.proofs.Common.{◌≡◌, inl, inr, sym, ap, ◌∙◌, subst}
+use Rattle.std.specs.List.{list_all}
+use Rattle.droid_signature_patterns.specs.Ends.{ends_in_byte}
 use Rattle.droid_signature_texts.proofs.Exits.{passed_on}
 use Rattle.droid_signature_patterns.specs.Reasons.{IsReasonOfOne, IsReasonOfRow, IsReasonOfSequence}
 use Rattle.droid_signature_patterns.proofs.Taken.{is_taken, is_left_out}
@@ -17,9 +19,9 @@ returns-in_err-texts-clause-left_out c =
 pub returns-then-not-end_in_bytes-clause-left_out : goal.returns-then-not-end_in_bytes-clause-left_out
 returns-then-not-end_in_bytes-clause-left_out c =
     let read = c.in_ok-read.read in
-    is_left_out c.args.sequence.now read.offsets read.first read.further.items c.in_ok-read.ensures.ok c.in_ok-texts.texts c.in_ok-texts.ensures.ok (sym (c.if-not-end_in_bytes.ensures ∙ ap _ c.as_slice.ensures))
+    is_left_out c.args.sequence.now read.offsets read.first read.further.items c.in_ok-read.ensures.ok c.in_ok-texts.texts c.in_ok-texts.ensures.ok (sym (c.if-not-end_in_bytes.ensures ∙ ap (list_all ends_in_byte) c.as_slice.ensures))
 
 pub returns-clause-taken : goal.returns-clause-taken
 returns-clause-taken c =
     let read = c.in_ok-read.read in
-    is_taken c.args.sequence.now (record { offsets = read.offsets; texts = c.in_ok-texts.texts }) read.first read.further.items c.in_ok-read.ensures.ok c.in_ok-texts.ensures.ok c.in_ok-texts.ensures.small (sym (c.if-not-end_in_bytes.ensures ∙ ap _ c.as_slice.ensures))
+    is_taken c.args.sequence.now (record { offsets = read.offsets; texts = c.in_ok-texts.texts }) read.first read.further.items c.in_ok-read.ensures.ok c.in_ok-texts.ensures.ok c.in_ok-texts.ensures.small (sym (c.if-not-end_in_bytes.ensures ∙ ap (list_all ends_in_byte) c.as_slice.ensures))

@@ -1,5 +1,6 @@
 -- One more byte sequence, one that a registry cannot hold, and all of them.
-use Rattle.std.proofs.Common.{◌≡◌, ◌*◌, ◌<◌, ◌≤◌, List, length, take, inr, ap, subst, arith}
+use Rattle.std.proofs.Common.{◌≡◌, ℕ, ◌+◌, ◌*◌, ◌<◌, ◌≤◌, List, length, take, inl, inr, refl, sym, ap, ◌∙◌, subst, arith}
+use Rattle.std.proofs.lemmas.Bool.{eqb-false}
 use Rattle.std.proofs.lemmas.List.{take_all}
 use Rattle.droid_signature_spec.specs.Records.{ByteSequenceRecord}
 use Rattle.droid_signature_texts.proofs.Exits.{any_at, passed_on}
@@ -17,5 +18,17 @@ loop-sequence-preserved c =
     let i = c.loop-sequence.sequence-index in
     let taken = c.in_ok-choices.choices in
     (taken_more c.args.sequences.now i c.sequence-item.result c.loop-sequence.all.items c.push.new.self.items taken (omega arith) c.sequence-item.is c.loop-sequence.invariant.0 c.in_ok-choices.ensures.taken c.in_ok-push.ensures.items,
-    ways_more c.loop-sequence.all.items c.push.new.self.items taken c.loop-sequence.count _ c.in_ok-push.ensures.items c.loop-sequence.invariant.1 (ap (λ n. c.loop-sequence.count * n) c.len.ensures),
-    omega arith, omega arith)
+    ways_more c.loop-sequence.all.items c.push.new.self.items taken c.loop-sequence.count _ c.in_ok-push.ensures.items c.loop-sequence.invariant.1 (ap (λ n. c.loop-sequence.count * n) c.len-count.ensures),
+    omega arith, c.in_ok-push.ensures.len ∙ ap (λ n. n + 1) c.loop-sequence.invariant.3)
+
+pub returns-clause-taken : goal.returns-clause-taken
+returns-clause-taken c =
+    let P : List ByteSequenceRecord → Type 0 = λ l. AreAllTaken l c.loop-sequence.all.items in
+    let Q : ℕ → Type 0 = λ n. n ≤ 64 in
+    let some = eqb-false (length c.args.sequences.now) 0 (sym c.if-is_empty.ensures) in
+    let counted = c.loop-sequence.invariant.3 in
+    record {
+      some = omega (arith, c.loop-sequence.all.ok);
+      each = subst P (take_all c.loop-sequence.sequence-index c.args.sequences.now (omega arith)) c.loop-sequence.invariant.0;
+      few = subst Q c.loop-sequence.invariant.1 c.loop-sequence.invariant.2;
+    }
