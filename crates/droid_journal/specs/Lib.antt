@@ -1,0 +1,5 @@
+-- What a journal keeps, and what comes of it after a crash.
+pub mod Machines
+pub mod Standing
+pub mod Replaying
+pub mod Opening

@@ -1,0 +1,48 @@
+-- What a journal stands for (this project's own).
+use Rattle.std.specs.Prelude.{◌≡◌, ℕ, Bool, true, false, List, [], ◌∷◌, ◌++◌, take, ◌⊎◌, Option, None}
+use Rattle.md5.specs.Md5.{md5}
+use Rattle.droid_frame.specs.types.frame.Frame.{Frame}
+use Rattle.droid_frame.specs.types.reply.Reply.{Reply}
+use Rattle.droid_journal_chain.specs.Chains.{Chain, NotByChance, journal_bytes, last_check}
+use Rattle.droid_journal_chain.specs.Fronts.{IsFront}
+use Rattle.droid_journal_chain.specs.Records.{AllFit, Record}
+use Rattle.droid_journal.specs.Machines.{Run, record_of}
+use Rattle.droid_journal.specs.declared.journal.Journal.{Journal}
+
+-- The machine stands for all these records, and the file has them behind its header; the first of them are on the disk.
+pub record Stands {F M : Type 0} (has : F → List ℕ → Type 0) (kept : F → List ℕ) (stands : M → List Record → Type 0) (header : List ℕ) (journal : Journal F M) (synced all : List Record) : Type 0 where
+  pub machine : stands journal.machine all
+  pub file : has journal.file (journal_bytes header all)
+  pub on_disk : kept journal.file ≡ journal_bytes header synced
+  pub front : IsFront synced all
+  pub start : journal.start ≡ md5 header
+  pub check : journal.check ≡ last_check header all
+  pub fit : AllFit all
+  pub clean : journal.unsynced ≡ false → synced ≡ all
+
+-- all of them are on the disk
+abbrev pub IsSettled : {F M : Type 0} (has : F → List ℕ → Type 0) (kept : F → List ℕ) (stands : M → List Record → Type 0) (header : List ℕ) (journal : Journal F M) → List Record → Type 0
+IsSettled has kept stands header journal records = Stands has kept stands header journal records records
+
+-- Of these requests the first were handled, whatever came of the call; the file has those of them that were accepted, in
+-- order, or a front of their bytes.
+pub record Wrote {F : Type 0} (has : F → List ℕ → Type 0) (gives : List Record → Frame → Reply → Bool → Type 0) (header : List ℕ) (file : F) (records : List Record) (frames : List Frame) (written : List Record) : Type 0 where
+  pub count : ℕ
+  pub replies : List Reply
+  pub run : Run gives records (take count frames) replies written
+  pub bytes : List ℕ
+  pub in_file : has file bytes
+  pub front : IsFront bytes (journal_bytes header written)
+
+-- the same of one request: nothing of it is in the file, or a front of its bytes
+pub record WroteOne {F : Type 0} (has : F → List ℕ → Type 0) (gives : List Record → Frame → Reply → Bool → Type 0) (header : List ℕ) (file : F) (all : List Record) (frame : Frame) : Type 0 where
+  pub written : List Record
+  pub bytes : List ℕ
+  pub in_file : has file bytes
+  pub front : IsFront bytes (journal_bytes header written)
+  pub which : (written ≡ all) ⊎ ((first : Bool) × (reply : Reply) × gives all frame reply true × (written ≡ all ++ record_of first frame reply ∷ []))
+
+-- what comes of a file that begins with these bytes is a front of what was written, and has all that was acknowledged
+abbrev pub LeavesBetween : List ℕ → List ℕ → List Record → List Record → Type 0
+LeavesBetween header kept acknowledged written = (file : List ℕ) (its : List Record) (rest : List ℕ) → IsFront kept file → NotByChance header written file → Chain header file its rest
+    → IsFront acknowledged its × IsFront its written

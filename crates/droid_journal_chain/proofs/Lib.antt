@@ -1,0 +1,4 @@
+pub mod Bytes
+pub mod Fronts
+pub mod RecordLaws
+pub mod Chains

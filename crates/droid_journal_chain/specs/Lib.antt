@@ -1,0 +1,5 @@
+-- The bytes of a journal.
+pub mod Records
+pub mod Fronts
+pub mod Chains
+pub mod Reading

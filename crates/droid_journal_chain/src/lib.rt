@@ -1,0 +1,16 @@
+//! The records of a journal as bytes.
+//!
+//! A journal is a header, and then a record for each accepted request: the frames of the request and of its reply, and a
+//! check value that chains the record to the one before it.
+#![tactic(auto)]
+
+mod checks;
+mod damage;
+pub mod laws;
+mod reading;
+mod writing;
+
+pub use checks::start_of;
+pub use damage::has_later;
+pub use reading::{Found, record_of};
+pub use writing::record;
