@@ -1,9 +1,11 @@
 -- What a machine answers, and what a journal keeps of it (this project's own).
-use Rattle.std.specs.Prelude.{◌≡◌, ℕ, if◌then◌else◌, Bool, true, List, [], ◌∷◌, ◌++◌}
+use Rattle.std.specs.Prelude.{◌≡◌, ℕ, if◌then◌else◌, Bool, true, false, List, [], ◌∷◌, ◌++◌, ◌⊎◌}
 use Rattle.droid_frame.specs.Frames.{frame_bytes}
 use Rattle.droid_frame.specs.ReplyFrames.{reply_frame}
 use Rattle.droid_frame.specs.types.frame.Frame.{Frame}
+use Rattle.droid_frame.specs.types.refusal.Refusal.TheVariants.{Memory}
 use Rattle.droid_frame.specs.types.reply.Reply.{Reply}
+use Rattle.droid_frame.specs.types.reply.Reply.TheVariants.{Refused}
 use Rattle.droid_journal_chain.specs.Records.{Record, made}
 
 -- the record of a request that was accepted with this reply
@@ -14,16 +16,14 @@ record_of first frame reply = made first (frame_bytes frame) (reply_frame frame.
 abbrev pub extended : List Record → Bool → Frame → Reply → Bool → List Record
 extended records first frame reply accepted = if accepted then records ++ record_of first frame reply ∷ [] else records
 
+-- the machine gave this reply; or there was no memory to spell the request, and the machine was not asked
+abbrev pub Answers : (List Record → Frame → Reply → Bool → Type 0) → List Record → Frame → Reply → Bool → Type 0
+Answers gives records frame reply accepted = gives records frame reply accepted ⊎ ((reply ≡ Refused Memory) × (accepted ≡ false))
+
 -- these requests in order got these replies, and left these records
 abbrev pub Run : (List Record → Frame → Reply → Bool → Type 0) → List Record → List Frame → List Reply → List Record → Type 0
 Run gives records [] [] after = records ≡ after
 Run gives records [] (reply ∷ replies) after = ⊥
 Run gives records (frame ∷ frames) [] after = ⊥
 Run gives records (frame ∷ frames) (reply ∷ replies) after =
-    (first : Bool) × (accepted : Bool) × gives records frame reply accepted × Run gives (extended records first frame reply accepted) frames replies after
-
--- each of these records, in order behind those before, has an accepted request and the reply that it got
-abbrev pub Gave : (List Record → Frame → Reply → Bool → Type 0) → List Record → List Record → Type 0
-Gave gives before [] = Unit {0}
-Gave gives before (it ∷ its) =
-    (frame : Frame) × (reply : Reply) × (it ≡ record_of it.first frame reply) × gives before frame reply true × Gave gives (before ++ it ∷ []) its
+    (first : Bool) × (accepted : Bool) × Answers gives records frame reply accepted × Run gives (extended records first frame reply accepted) frames replies after

@@ -1,9 +1,8 @@
 -- What a journal stands for (this project's own).
-use Rattle.std.specs.Prelude.{◌≡◌, ℕ, Bool, true, false, List, [], ◌∷◌, ◌++◌, take, ◌⊎◌, Option, None}
-use Rattle.md5.specs.Md5.{md5}
+use Rattle.std.specs.Prelude.{◌≡◌, ℕ, Bool, true, false, List, [], ◌∷◌, ◌++◌, ◌⊎◌}
 use Rattle.droid_frame.specs.types.frame.Frame.{Frame}
 use Rattle.droid_frame.specs.types.reply.Reply.{Reply}
-use Rattle.droid_journal_chain.specs.Chains.{Chain, NotByChance, journal_bytes, last_check}
+use Rattle.droid_journal_chain.specs.Chains.{Chain, NotByChance, first_check, journal_bytes, last_check}
 use Rattle.droid_journal_chain.specs.Fronts.{IsFront}
 use Rattle.droid_journal_chain.specs.Records.{AllFit, Record}
 use Rattle.droid_journal.specs.Machines.{Run, record_of}
@@ -15,7 +14,7 @@ pub record Stands {F M : Type 0} (has : F → List ℕ → Type 0) (kept : F →
   pub file : has journal.file (journal_bytes header all)
   pub on_disk : kept journal.file ≡ journal_bytes header synced
   pub front : IsFront synced all
-  pub start : journal.start ≡ md5 header
+  pub start : journal.start ≡ first_check header
   pub check : journal.check ≡ last_check header all
   pub fit : AllFit all
   pub clean : journal.unsynced ≡ false → synced ≡ all
@@ -27,9 +26,10 @@ IsSettled has kept stands header journal records = Stands has kept stands header
 -- Of these requests the first were handled, whatever came of the call; the file has those of them that were accepted, in
 -- order, or a front of their bytes.
 pub record Wrote {F : Type 0} (has : F → List ℕ → Type 0) (gives : List Record → Frame → Reply → Bool → Type 0) (header : List ℕ) (file : F) (records : List Record) (frames : List Frame) (written : List Record) : Type 0 where
-  pub count : ℕ
+  pub handled : List Frame
+  pub among : IsFront handled frames
   pub replies : List Reply
-  pub run : Run gives records (take count frames) replies written
+  pub run : Run gives records handled replies written
   pub bytes : List ℕ
   pub in_file : has file bytes
   pub front : IsFront bytes (journal_bytes header written)
@@ -41,6 +41,12 @@ pub record WroteOne {F : Type 0} (has : F → List ℕ → Type 0) (gives : List
   pub in_file : has file bytes
   pub front : IsFront bytes (journal_bytes header written)
   pub which : (written ≡ all) ⊎ ((first : Bool) × (reply : Reply) × gives all frame reply true × (written ≡ all ++ record_of first frame reply ∷ []))
+
+-- Whatever became of the last call: the first of what was written are on the disk.
+pub record Keeps {F : Type 0} (kept : F → List ℕ) (header : List ℕ) (file : F) (synced written : List Record) : Type 0 where
+  pub on_disk : kept file ≡ journal_bytes header synced
+  pub front : IsFront synced written
+  pub fit : AllFit synced
 
 -- what comes of a file that begins with these bytes is a front of what was written, and has all that was acknowledged
 abbrev pub LeavesBetween : List ℕ → List ℕ → List Record → List Record → Type 0

@@ -1,8 +1,7 @@
 //! The frames of a record as bytes.
 
-ghost use Rattle.std.specs.Prelude.{◌≡◌, ◌≤◌, ◌++◌, IfOk, IfSome, OnOk, length};
+ghost use Rattle.std.specs.Prelude.{◌≡◌, ◌≤◌, IfOk, IfSome, length, true};
 ghost use Rattle.droid_frame.specs.Frames.{frame_bytes};
-ghost use Rattle.droid_frame.specs.Limits.{body_limit};
 ghost use Rattle.droid_frame.specs.Replies.{HasReplySpelling};
 ghost use Rattle.droid_frame.specs.ReplyFrames.{reply_frame};
 ghost use Rattle.droid_frame.specs.Streams.{IsReadable};
@@ -10,14 +9,28 @@ ghost use Rattle.droid_frame.specs.Versions.{IsVersion};
 
 use crate::fault::Fault;
 use droid_frame::{
-    Arrival, Frame, FrameFault, HEADER_LENGTH, Noted, Reply, read_frame, reply_body_len,
+    Arrival, Frame, FrameFault, HEADER_LENGTH, Noted, Reply, is_version, read_frame, reply_body_len,
     write_frame, write_reply,
 };
 use std::alloc::{AllocError, Global};
 
+/// The most bytes of a frame's body.
+const BODY: usize = 4_194_368;
+
+/// Returns whether a stream can carry the frame: its version is 1 or 2, and its body is within the limit of version 2.
+pub(crate) fn is_carried(frame: &Frame) -> bool
+    ensures version { result ≡ true → IsVersion frame.now.version }
+    ensures body { result ≡ true → length frame.now.body ≤ 4194368 }
+{
+    if frame.body.len() > BODY {
+        return false;
+    }
+    is_version(frame.version)
+}
+
 /// Spells a frame. Its body must be within the limit of version 2.
 pub(crate) fn request_bytes(alloc: Global, frame: &Frame) -> Result<Vec<u8>, AllocError>
-    requires { length frame.now.body ≤ body_limit 2 }
+    requires { length frame.now.body ≤ 4194368 }
     ensures { IfOk result (λ bytes. bytes.items ≡ frame_bytes frame.now) }
 {
     let bytes = Vec::with_capacity(alloc, HEADER_LENGTH + frame.body.len())?;

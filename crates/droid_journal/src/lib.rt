@@ -12,9 +12,11 @@ mod journal;
 mod log_file;
 mod machine;
 mod opening;
+mod place;
+mod reading;
 mod replaying;
 
-pub use crash::{Revived, Tears, crash_and_reopen};
+pub use crash::{Tears, crash_and_reopen};
 pub use fault::Fault;
 pub use journal::Journal;
 pub use log_file::{FileError, LogFile};

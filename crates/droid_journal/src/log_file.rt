@@ -4,7 +4,7 @@ ghost use Rattle.std.specs.Prelude.{◌≡◌, ◌≤◌, ◌++◌, ℕ, List, l
 ghost use Rattle.droid_journal_chain.specs.Fronts.{IsFront};
 
 /// A call on the file failed.
-#[derive(Clone, Copy, Debug, PartialEq, Eq)]
+#[derive(Clone, Copy)]
 pub struct FileError;
 
 /// A file that is read and cut at first, and then appended to. A crash at any moment leaves bytes that begin with those

@@ -10,7 +10,7 @@ ghost use Rattle.droid_journal_chain.specs.Records.{Record};
 use droid_frame::{Frame, Reply};
 
 /// A reply, and whether a request was accepted.
-#[derive(Debug, Drop)]
+#[derive(Drop)]
 pub struct Handled {
     /// The reply.
     pub reply: Reply,

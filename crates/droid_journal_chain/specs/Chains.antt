@@ -14,12 +14,16 @@ abbrev pub check_after : List ℕ → List ℕ → List Record → List ℕ
 check_after start check [] = check
 check_after start check (it ∷ its) = check_after start (next_check start check it) its
 
--- a journal: its header, and the records; the MD5 of the header is the start value and the check value before the first
+-- the start value of a journal with this header, and the check value before its first record: the MD5 of the header
+abbrev pub first_check : List ℕ → List ℕ
+first_check header = md5 header
+
+-- a journal: its header, and the records
 abbrev pub journal_bytes : List ℕ → List Record → List ℕ
-journal_bytes header its = header ++ chain_bytes (md5 header) (md5 header) its
+journal_bytes header its = header ++ chain_bytes (first_check header) (first_check header) its
 
 abbrev pub last_check : List ℕ → List Record → List ℕ
-last_check header its = check_after (md5 header) (md5 header) its
+last_check header its = check_after (first_check header) (first_check header) its
 
 -- the bytes begin with this record, with a right check value
 pub record BeginsWith (start check bytes : List ℕ) (it : Record) (after rest : List ℕ) : Type 0 where
@@ -35,7 +39,7 @@ BeginsNoRecord start check bytes = (it : Record) (rest : List ℕ) → Fits it �
 pub record Chain (header file : List ℕ) (its : List Record) (rest : List ℕ) : Type 0 where
   pub fit : AllFit its
   pub joined : file ≡ journal_bytes header its ++ rest
-  pub ends : BeginsNoRecord (md5 header) (last_check header its) rest
+  pub ends : BeginsNoRecord (first_check header) (last_check header its) rest
 
 -- at the front 16 bytes stand, and then a whole record, with a right check value behind these, that was written when all
 -- before it was on the disk

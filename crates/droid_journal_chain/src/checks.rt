@@ -1,7 +1,7 @@
 //! Check values.
 
 ghost use Rattle.std.specs.Prelude.{◌≡◌, ◌≤◌, length};
-ghost use Rattle.md5.specs.Md5.{md5};
+ghost use Rattle.droid_journal_chain.specs.Chains.{first_check};
 ghost use Rattle.droid_journal_chain.specs.Records.{first_byte, made, mark_in, next_check};
 
 use md5::{Digest, Md5};
@@ -11,7 +11,7 @@ const HEADER: usize = 18;
 
 /// Computes the start value of a journal with this header: its MD5 (RFC 1321).
 pub fn start_of(header: &[u8]) -> [u8; 16]
-    ensures { result ≡ md5 header.now }
+    ensures { result ≡ first_check header.now }
 {
     let mut hasher = Md5::new();
     hasher.update(header);

@@ -1,0 +1,4 @@
+pub mod Standing
+pub mod Handing
+pub mod Going
+pub mod Openings

@@ -1,0 +1,2 @@
+-- The records of a service's history.
+pub mod Histories

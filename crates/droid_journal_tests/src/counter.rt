@@ -1,0 +1,32 @@
+//! A machine that counts.
+
+use droid_frame::{Frame, Refusal, Reply};
+use droid_journal::{Handled, Machine};
+
+/// Accepts each Abandon, and counts them.
+#[derive(Drop)]
+pub(crate) struct Counter {
+    pub(crate) count: u64,
+}
+
+impl Machine for Counter {
+    ghost Setting = { Unit {0} };
+
+    ghost stands = { λ setting machine records. ⊥ };
+
+    ghost gives = { λ setting records frame reply accepted. ⊥ };
+
+    fn handle(&mut self, frame: Frame) -> Handled {
+        if frame.kind != 6 {
+            return Handled {
+                reply: Reply::Refused(Refusal::Malformed),
+                accepted: false,
+            };
+        }
+        self.count = self.count.saturating_add(1);
+        Handled {
+            reply: Reply::Abandoned,
+            accepted: true,
+        }
+    }
+}
