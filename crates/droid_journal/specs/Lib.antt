@@ -1,4 +1,5 @@
 -- What a journal keeps, and what comes of it after a crash.
+pub mod Faults
 pub mod Machines
 pub mod Standing
 pub mod Replaying

@@ -26,6 +26,11 @@ abbrev pub Knows : List ℕ → List ℕ → Beginning → Type 0
 Knows header file beginnings.Whole = HasHeader header file
 Knows header file (beginnings.Part count) = IsBegun header file count
 
+-- no more than the header
+abbrev pub PartWithin : List ℕ → Beginning → Type 0
+PartWithin header beginnings.Whole = Unit {0}
+PartWithin header (beginnings.Part count) = count ≤ length header
+
 -- Records were handed to a machine, from one place of a file to another. A machine that stood for those before them stands
 -- for these too, and gave each its reply.
 pub record Hands {S M : Type 0} (stands : S → M → List Record → Type 0) (gives : S → List Record → Frame → Reply → Bool → Type 0) (start : List ℕ) (old : M) (from : Place) (new : M) (to : Place) (its : List Record) : Type 0 where

@@ -1,8 +1,7 @@
 -- Records that were handed to a machine again (this project's own).
-use Rattle.std.specs.Prelude.{◌≡◌, ◌≢◌, ℕ, ◌+◌, Bool, true, List, [], ◌∷◌, ◌++◌, ◌⊎◌, length, drop, ◌≤◌}
+use Rattle.std.specs.Prelude.{◌≡◌, ◌≢◌, ℕ, ◌+◌, Bool, true, List, [], ◌∷◌, ◌++◌, length}
 use Rattle.droid_frame.specs.Frames.{frame_bytes}
 use Rattle.droid_frame.specs.ReplyFrames.{reply_frame}
-use Rattle.droid_frame.specs.Streams.{IsReadable}
 use Rattle.droid_frame.specs.types.frame.Frame.{Frame}
 use Rattle.droid_frame.specs.types.reply.Reply.{Reply}
 use Rattle.droid_journal_chain.specs.Chains.{BeginsNoRecord, chain_bytes, check_after}
@@ -21,12 +20,11 @@ abbrev pub Gave : (List Record → Frame → Reply → Bool → Type 0) → List
 Gave gives before [] = Unit {0}
 Gave gives before (it ∷ its) = GaveOne gives before it × Gave gives (before ++ it ∷ []) its
 
--- no stream carries the request; or it is not accepted behind these records, or with another reply
+-- behind these records the request is not accepted, or with another reply
 abbrev pub Refutes : (List Record → Frame → Reply → Bool → Type 0) → List Record → List ℕ → List ℕ → Type 0
 Refutes gives before request reply =
-    ((frame : Frame) → IsReadable frame → request ≢ frame_bytes frame)
-    ⊎ ((frame : Frame) × (answer : Reply) × (accepted : Bool) × (request ≡ frame_bytes frame) × gives before frame answer accepted
-    × (accepted ≡ true → reply_frame frame.version frame.client frame.number answer ≢ reply))
+    (frame : Frame) × (answer : Reply) × (accepted : Bool) × (request ≡ frame_bytes frame) × gives before frame answer accepted
+    × (accepted ≡ true → reply_frame frame.version frame.client frame.number answer ≢ reply)
 
 -- The bytes begin with records, and behind them none follows; a machine that stood for the records before them stands for
 -- these too, and gave each its reply.

@@ -19,7 +19,7 @@ pub enum Fault {
     Record(u64),
     /// Behind this many records the file was damaged.
     Damage(u64),
-    /// A frame came that no stream can carry.
+    /// A frame that no stream can carry: one came, or a record has one.
     Frame,
 }
 

@@ -1,16 +1,17 @@
 //! The frames of a record as bytes.
 
-ghost use Rattle.std.specs.Prelude.{◌≡◌, ◌≤◌, IfOk, IfSome, length, true};
+ghost use Rattle.std.specs.Prelude.{◌≡◌, ◌≢◌, ◌≤◌, ◌↔◌, ℕ, IfErr, IfOk, IsTrue, length, true};
 ghost use Rattle.droid_frame.specs.Frames.{frame_bytes};
 ghost use Rattle.droid_frame.specs.Replies.{HasReplySpelling};
 ghost use Rattle.droid_frame.specs.ReplyFrames.{reply_frame};
 ghost use Rattle.droid_frame.specs.Streams.{IsReadable};
 ghost use Rattle.droid_frame.specs.Versions.{IsVersion};
+ghost use Rattle.droid_journal.specs.Faults.{IsOfReading};
 
 use crate::fault::Fault;
 use droid_frame::{
-    Arrival, Frame, FrameFault, HEADER_LENGTH, Noted, Reply, is_version, read_frame, reply_body_len,
-    write_frame, write_reply,
+    Arrival, Frame, FrameFault, HEADER_LENGTH, Noted, Reply, is_version, read_frame,
+    reply_body_len, write_frame, write_reply,
 };
 use std::alloc::{AllocError, Global};
 
@@ -63,20 +64,29 @@ pub(crate) fn reply_bytes(
     }
 }
 
-/// Reads the frame that these bytes spell. Returns `None` if they spell none that a stream can carry.
-pub(crate) fn frame_of(alloc: Global, bytes: &[u8]) -> Result<Option<Frame>, AllocError>
-    ensures { IfOk result (λ read. IfSome read (λ frame. IsReadable frame × (bytes.now ≡ frame_bytes frame))) }
+/// Reads the frame that these bytes spell.
+pub(crate) fn frame_of(alloc: Global, bytes: &[u8]) -> Result<Frame, Fault>
+    ensures found { IfOk result (λ frame. IsReadable frame × (bytes.now ≡ frame_bytes frame)) }
+    ensures fault { IfErr result IsOfReading }
+    ensures other { IfErr result (λ fault. (number : ℕ) → fault ≢ Fault.Record number) }
 {
     let mut rest = bytes;
     match read_frame(alloc, &mut rest) {
         Ok(Arrival::Frame(frame)) => {
             if rest.is_empty() {
-                return Ok(Some(frame));
+                return Ok(frame);
             }
-            Ok(None)
+            Err(Fault::Frame)
         }
-        Ok(Arrival::End) => Ok(None),
-        Err(FrameFault::Memory) => Err(AllocError),
-        Err(_) => Ok(None),
+        Ok(Arrival::End) => Err(Fault::Frame),
+        Err(FrameFault::Memory) => Err(Fault::Memory),
+        Err(_) => Err(Fault::Frame),
     }
+}
+
+/// Returns whether these bytes are the same.
+pub(crate) fn is_same(one: &[u8], other: &[u8]) -> bool
+    ensures { IsTrue result ↔ (one.now ≡ other.now) }
+{
+    one == other
 }

@@ -9,7 +9,7 @@ ghost use Rattle.droid_journal.specs.Machines.{Answers, Run, extended};
 ghost use Rattle.droid_journal.specs.Opening.{IsReady};
 ghost use Rattle.droid_journal.specs.Standing.{IsSettled, Stands, Wrote, WroteOne};
 ghost use Rattle.droid_journal_chain.specs.Fronts.{IsFront};
-ghost use Rattle.droid_journal_chain.specs.Records.{Record, made, next_check, record_bytes};
+ghost use Rattle.droid_journal_chain.specs.Records.{Fits, Record, made, next_check, record_bytes};
 
 use crate::fault::Fault;
 use crate::frames::{is_carried, reply_bytes, request_bytes};
@@ -78,6 +78,7 @@ impl<F: LogFile + Drop, M: Machine + Drop> Journal<F, M> {
         requires header { 18 ≤ length request.now }
         requires size { length request.now ≤ 4194386 }
         ensures bytes { IfOk result (λ x. x.0.items ≡ record_bytes self.now.start self.now.check (made (not self.now.unsynced) request.now (reply_frame version client number reply.now))) }
+        ensures fits { IfOk result (λ x. Fits (made (not self.now.unsynced) request.now (reply_frame version client number reply.now))) }
         ensures check { IfOk result (λ x. x.1 ≡ next_check self.now.start self.now.check (made (not self.now.unsynced) request.now (reply_frame version client number reply.now))) }
     {
         let reply = reply_bytes(self.alloc, version, client, number, reply)?;
@@ -111,6 +112,7 @@ impl<F: LogFile + Drop, M: Machine + Drop> Journal<F, M> {
         ensures part { (s : List ℕ) → F.has self.old.file s → OnErr result ((part : List ℕ) × F.has self.new.file (s ++ part)
             × IsFront part (record_bytes self.old.start self.old.check (made (not self.old.unsynced) request.now (reply_frame version client number reply.now)))) }
         ensures check { OnOk result (self.new.check ≡ next_check self.old.start self.old.check (made (not self.old.unsynced) request.now (reply_frame version client number reply.now))) }
+        ensures fits { OnOk result (Fits (made (not self.old.unsynced) request.now (reply_frame version client number reply.now))) }
         ensures unsynced { OnOk result (self.new.unsynced ≡ true) }
         ensures kept { F.kept self.new.file ≡ F.kept self.old.file }
         ensures machine { self.new.machine ≡ self.old.machine }

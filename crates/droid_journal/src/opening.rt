@@ -1,13 +1,14 @@
 //! Opening a journal: a machine that stands for the records of a file.
 
-ghost use Rattle.std.specs.Prelude.{◌≡◌, ◌≢◌, ◌≤◌, ℕ, List, [], length, take, IfOk, IfErr, IsErr, IsErrOf, OnOk};
-ghost use Rattle.droid_journal.specs.Opening.{HasHeader, IsBegun, IsKept, IsReady, Knows, ReadsAll, WasFound};
+ghost use Rattle.std.specs.Prelude.{◌≡◌, ◌≢◌, ◌≤◌, ℕ, List, [], length, take, IfOk, IfErr, IsErrOf, OnOk};
+ghost use Rattle.droid_journal.specs.Opening.{HasHeader, IsBegun, IsKept, IsReady, Knows, PartWithin, ReadsAll, WasFound};
 ghost use Rattle.droid_journal.specs.Replaying.{Gave};
 ghost use Rattle.droid_journal_chain.specs.Chains.{Chain, HasLater, NotByChance, first_check, journal_bytes};
 ghost use Rattle.droid_journal_chain.specs.Fronts.{IsFront};
 ghost use Rattle.droid_journal_chain.specs.Records.{AllFit, Record};
 
 use crate::fault::Fault;
+use crate::frames::is_same;
 use crate::log_file::LogFile;
 use crate::machine::Machine;
 use crate::place::Place;
@@ -37,19 +38,15 @@ enum Beginning {
 }
 
 /// Reads what a file begins with.
-fn beginning_of<F: LogFile>(
-    file: &F,
-    header: &[u8],
-    buffer: &mut [u8],
-) -> Result<Beginning, Fault>
+fn beginning_of<F: LogFile>(file: &F, header: &[u8], buffer: &mut [u8]) -> Result<Beginning, Fault>
     requires found { F.is_found file.now }
     requires header { length header.now ≤ 4096 }
     requires window { length buffer.old ≡ 16777216 }
     ensures window { length buffer.new ≡ 16777216 }
     ensures begins { (s : List ℕ) → F.has file.now s → IfOk result (Knows header.now s) }
+    ensures part { IfOk result (PartWithin header.now) }
     ensures other { IsErrOf result Fault.Header → (s : List ℕ) → F.has file.now s → (HasHeader header.now s → ⊥) × ((count : ℕ) → IsBegun header.now s count → ⊥) }
     ensures damage { (n : ℕ) → IsErrOf result (Fault.Damage n) → ⊥ }
-    ensures written { IsErrOf result Fault.Write → ⊥ }
 {
     let Ok(count) = file.read_at(0, buffer) else {
         return Err(Fault::Read);
@@ -61,16 +58,17 @@ fn beginning_of<F: LogFile>(
 fn beginning_in(seen: &[u8], header: &[u8]) -> Result<Beginning, Fault>
     requires { length header.now ≤ 4096 }
     ensures begins { (s : List ℕ) → seen.now ≡ take 16777216 s → IfOk result (Knows header.now s) }
-    ensures other { IsErr result → (s : List ℕ) → seen.now ≡ take 16777216 s → (HasHeader header.now s → ⊥) × ((count : ℕ) → IsBegun header.now s count → ⊥) }
+    ensures other { IsErrOf result Fault.Header → (s : List ℕ) → seen.now ≡ take 16777216 s → (HasHeader header.now s → ⊥) × ((count : ℕ) → IsBegun header.now s count → ⊥) }
+    ensures part { IfOk result (PartWithin header.now) }
     ensures header { IfErr result (λ fault. fault ≡ Fault.Header) }
 {
     if seen.len() >= header.len() {
-        if &seen[..header.len()] != header {
+        if !is_same(&seen[..header.len()], header) {
             return Err(Fault::Header);
         }
         return Ok(Beginning::Whole);
     }
-    if seen != &header[..seen.len()] {
+    if !is_same(seen, &header[..seen.len()]) {
         return Err(Fault::Header);
     }
     Ok(Beginning::Part(seen.len()))
@@ -120,7 +118,7 @@ fn read_all<F: LogFile, M: Machine + Drop>(
         → IfOk result (λ to. (its : List Record) × ReadsAll M.stands M.gives header.now s machine.old machine.new to its) }
     ensures damage { (n : ℕ) → IsErrOf result (Fault.Damage n) → (s : List ℕ) → F.has file.now s → HasHeader header.now s
         → (its : List Record) × (rest : List ℕ) × Chain header.now s its rest × HasLater (first_check header.now) rest }
-    ensures others { IsErrOf result Fault.Write → ⊥ }
+    ensures others { IsErrOf result Fault.Header → ⊥ }
 {
     let start = start_of(header);
     let from = Place {
@@ -129,7 +127,8 @@ fn read_all<F: LogFile, M: Machine + Drop>(
         records: 0,
     };
     let to = hand_all(alloc, file, machine, &start, from, buffer)?;
-    if is_damaged(file, &start, to.at, buffer)? {
+    let later = is_damaged(file, &start, to.at, buffer)?;
+    if later {
         return Err(Fault::Damage(to.records));
     }
     Ok(to)
@@ -156,8 +155,14 @@ fn open_whole<F: LogFile, M: Machine + Drop>(
     ensures others { IsErrOf result Fault.Header → ⊥ }
 {
     let mut machine = machine;
-    let to = read_all(alloc, file, header, &mut machine, buffer)?;
-    cut_behind(file, to.at)?;
+    let to = match read_all(alloc, file, header, &mut machine, buffer) {
+        Ok(to) => to,
+        Err(fault) => return Err(fault),
+    };
+    match cut_behind(file, to.at) {
+        Ok(()) => {}
+        Err(_) => return Err(Fault::Write),
+    }
     let start = start_of(header);
     let check = to.check;
     Ok(Opened {
@@ -166,6 +171,58 @@ fn open_whole<F: LogFile, M: Machine + Drop>(
         check,
         records: to.records,
     })
+}
+
+/// Opens a file that has less than this header, and nothing else.
+fn open_begun<F: LogFile, M: Machine + Drop>(
+    file: &mut F,
+    header: &[u8],
+    machine: M,
+    count: usize,
+) -> Result<Opened<M>, Fault>
+    requires count { count ≤ length header.now }
+    requires begins { (s : List ℕ) → F.has file.old s → IsBegun header.now s count }
+    ensures opened { (s : List ℕ) → F.has file.old s → IfOk result (λ opened. (its : List Record) × WasFound header.now s its
+        × ((setting : M.Setting) → M.stands setting machine [] → IsReady F.has F.kept (M.stands setting) header.now file.new opened its × Gave (M.gives setting) [] its)) }
+    ensures fault { IfErr result (λ fault. fault ≡ Fault.Write) }
+{
+    match make_header(file, header, count) {
+        Ok(()) => {}
+        Err(_) => return Err(Fault::Write),
+    }
+    let start = start_of(header);
+    Ok(Opened {
+        machine,
+        start,
+        check: start,
+        records: 0,
+    })
+}
+
+/// Opens a file, by this buffer.
+fn open_by<F: LogFile, M: Machine + Drop>(
+    alloc: Global,
+    file: &mut F,
+    header: &[u8],
+    machine: M,
+    buffer: &mut [u8],
+) -> Result<Opened<M>, Fault>
+    requires found { F.is_found file.old }
+    requires header { length header.now ≤ 4096 }
+    requires window { length buffer.old ≡ 16777216 }
+    requires kept { (s : List ℕ) → F.has file.old s → IsKept header.now (F.kept file.old) }
+    ensures opened { (s : List ℕ) → F.has file.old s → IfOk result (λ opened. (its : List Record) × WasFound header.now s its
+        × ((setting : M.Setting) → M.stands setting machine [] → IsReady F.has F.kept (M.stands setting) header.now file.new opened its × Gave (M.gives setting) [] its)) }
+    ensures unchanged { IfErr result (λ fault. fault ≢ Fault.Write → file.new ≡ file.old) }
+    ensures damage { (n : ℕ) → IsErrOf result (Fault.Damage n) → (s : List ℕ) → F.has file.old s
+        → (its : List Record) × (rest : List ℕ) × Chain header.now s its rest × HasLater (first_check header.now) rest }
+    ensures other_header { IsErrOf result Fault.Header → (s : List ℕ) → F.has file.old s → (HasHeader header.now s → ⊥) × ((count : ℕ) → IsBegun header.now s count → ⊥) }
+{
+    let beginning = beginning_of(file, header, buffer)?;
+    match beginning {
+        Beginning::Whole => open_whole(alloc, file, header, machine, buffer),
+        Beginning::Part(count) => open_begun(file, header, machine, count),
+    }
 }
 
 /// Makes a machine stand for the records of a file, and cuts the file behind them; `machine` has accepted nothing yet. The
@@ -197,16 +254,5 @@ pub fn open<F: LogFile, M: Machine + Drop>(
     ensures other_header { IsErrOf result Fault.Header → (s : List ℕ) → F.has file.old s → (HasHeader header.now s → ⊥) × ((count : ℕ) → IsBegun header.now s count → ⊥) }
 {
     let mut buffer = vec![in alloc; 0u8; WINDOW]?;
-    let count = match beginning_of(file, header, &mut buffer)? {
-        Beginning::Whole => return open_whole(alloc, file, header, machine, &mut buffer),
-        Beginning::Part(count) => count,
-    };
-    make_header(file, header, count)?;
-    let start = start_of(header);
-    Ok(Opened {
-        machine,
-        start,
-        check: start,
-        records: 0,
-    })
+    open_by(alloc, file, header, machine, buffer.as_mut_slice())
 }

@@ -1,6 +1,7 @@
 //! Reading the records of a file, a part of it at a time.
 
-ghost use Rattle.std.specs.Prelude.{◌≡◌, ◌+◌, ◌↔◌, ◌≤◌, ℕ, List, IfOk, IsTrue, drop, length};
+ghost use Rattle.std.specs.Prelude.{◌≡◌, ◌<◌, ◌↔◌, ℕ, List, IfErr, IfOk, IsTrue, drop, length, take, true};
+ghost use Rattle.droid_journal.specs.Faults.{IsOfReading};
 ghost use Rattle.droid_journal.specs.Opening.{HandedOn, Hands, StandIn};
 ghost use Rattle.droid_journal_chain.specs.Chains.{BeginsNoRecord, HasLater};
 ghost use Rattle.droid_journal_chain.specs.Records.{Record};
@@ -35,11 +36,19 @@ fn hand_some<F: LogFile, M: Machine + Drop>(
     ensures hands { IfOk result (λ to. (its : List Record) × Hands M.stands M.gives start.now machine.old from machine.new to its
         × ((s : List ℕ) → F.has file.now s → StandIn start.now s from to its)) }
     ensures ends { IfOk result (λ to. to.at ≡ from.at → (s : List ℕ) → F.has file.now s → BeginsNoRecord start.now to.check (drop to.at s)) }
+    ensures fault { IfErr result IsOfReading }
 {
     let Ok(count) = file.read_at(from.at, buffer) else {
         return Err(Fault::Read);
     };
-    let part = replay(alloc, machine, start, from.check, from.records, &buffer[..count])?;
+    let part = replay(
+        alloc,
+        machine,
+        start,
+        from.check,
+        from.records,
+        &buffer[..count],
+    )?;
     let Some(at) = from.at.checked_add(part.used as u64) else {
         return Err(Fault::Read);
     };
@@ -65,6 +74,7 @@ pub(crate) fn hand_all<F: LogFile, M: Machine + Drop>(
     ensures window { length buffer.new ≡ 16777216 }
     ensures hands { IfOk result (λ to. (its : List Record) × Hands M.stands M.gives start.now machine.old from machine.new to its
         × ((s : List ℕ) → F.has file.now s → HandedOn start.now s from to its)) }
+    ensures fault { IfErr result IsOfReading }
 {
     let mut place = from;
     for _ in 0..u64::MAX {
@@ -77,6 +87,27 @@ pub(crate) fn hand_all<F: LogFile, M: Machine + Drop>(
     Err(Fault::Read)
 }
 
+/// Searches what is read at once from a place on for records that were written when all before them was on the disk.
+/// Returns whether there is one, and whether the file ends there.
+fn search_some<F: LogFile>(
+    file: &F,
+    start: &[u8],
+    at: u64,
+    buffer: &mut [u8],
+) -> Result<(bool, bool), Fault>
+    requires found { F.is_found file.now }
+    requires window { length buffer.old ≡ 16777216 }
+    ensures window { length buffer.new ≡ 16777216 }
+    ensures later { (s : List ℕ) → F.has file.now s → IfOk result (λ x. IsTrue x.0 ↔ HasLater start.now (take 16777216 (drop at s))) }
+    ensures ends { (s : List ℕ) → F.has file.now s → IfOk result (λ x. x.1 ≡ true → length (take 16777216 (drop at s)) < 16777216) }
+    ensures fault { IfErr result IsOfReading }
+{
+    let Ok(count) = file.read_at(at, buffer) else {
+        return Err(Fault::Read);
+    };
+    Ok((has_later(start, &buffer[..count]), count < WINDOW))
+}
+
 /// Whether a whole record stands anywhere behind a place that was written when all before it was on the disk.
 pub(crate) fn is_damaged<F: LogFile>(
     file: &F,
@@ -86,17 +117,16 @@ pub(crate) fn is_damaged<F: LogFile>(
 ) -> Result<bool, Fault>
     requires found { F.is_found file.now }
     requires window { length buffer.old ≡ 16777216 }
-    ensures { (s : List ℕ) → F.has file.now s → IfOk result (λ later. IsTrue later ↔ HasLater start.now (drop from s)) }
+    ensures later { (s : List ℕ) → F.has file.now s → IfOk result (λ later. IsTrue later ↔ HasLater start.now (drop from s)) }
+    ensures fault { IfErr result IsOfReading }
 {
     let mut at = from;
     for _ in 0..u64::MAX {
-        let Ok(count) = file.read_at(at, buffer) else {
-            return Err(Fault::Read);
-        };
-        if has_later(start, &buffer[..count]) {
+        let (later, ended) = search_some(file, start, at, buffer)?;
+        if later {
             return Ok(true);
         }
-        if count < WINDOW {
+        if ended {
             return Ok(false);
         }
         let Some(next) = at.checked_add(STEP) else {

@@ -1,12 +1,13 @@
 //! Handing a machine the records of a file again.
 
-ghost use Rattle.std.specs.Prelude.{◌≡◌, ◌≤◌, ◌∷◌, ◌++◌, ℕ, Bool, List, [], length, IfNone, IfOk, IfSome, IsErrOf, OnOk};
+ghost use Rattle.std.specs.Prelude.{◌≡◌, ◌≤◌, ◌∷◌, ◌++◌, ℕ, Bool, List, [], length, IfErr, IfNone, IfOk, IfSome, IsErrOf, OnOk};
+ghost use Rattle.droid_journal.specs.Faults.{IsOfReading};
 ghost use Rattle.droid_journal.specs.Replaying.{GaveOne, Refutes, Replays};
 ghost use Rattle.droid_journal_chain.specs.Chains.{BeginsNoRecord, BeginsWith};
 ghost use Rattle.droid_journal_chain.specs.Records.{Record, made};
 
 use crate::fault::Fault;
-use crate::frames::{frame_of, reply_bytes};
+use crate::frames::{frame_of, is_same, reply_bytes};
 use crate::machine::Machine;
 use droid_frame::{Refusal, Reply};
 use droid_journal_chain::{Found, record_of};
@@ -40,13 +41,12 @@ fn replay_one<M: Machine + Drop>(
         → OnOk result (M.stands setting machine.new (before ++ made first request.now reply.now ∷ [])) }
     ensures gave { (setting : M.Setting) (before : List Record) (first : Bool) → M.stands setting machine.old before
         → OnOk result (GaveOne (M.gives setting) before (made first request.now reply.now)) }
-    // The fault names a record only if its request gets another reply, or is none.
+    ensures fault { IfErr result IsOfReading }
+    // The fault names a record only if its request gets another reply.
     ensures refuted { (other : ℕ) → IsErrOf result (Fault.Record other) → (setting : M.Setting) (before : List Record) → M.stands setting machine.old before
         → Refutes (M.gives setting) before request.now reply.now }
 {
-    let Some(frame) = frame_of(alloc, request)? else {
-        return Err(Fault::Record(number));
-    };
+    let frame = frame_of(alloc, request)?;
     let (version, client, its) = (frame.version, frame.client, frame.number);
     let handled = machine.handle(frame);
     if is_out_of_memory(&handled.reply) {
@@ -56,7 +56,7 @@ fn replay_one<M: Machine + Drop>(
         return Err(Fault::Record(number));
     }
     let spelled = reply_bytes(alloc, version, client, its, &handled.reply)?;
-    if spelled.as_slice() != reply {
+    if !is_same(&spelled, reply) {
         return Err(Fault::Record(number));
     }
     Ok(())
@@ -81,6 +81,7 @@ pub(crate) fn replay<M: Machine + Drop>(
 ) -> Result<Replayed, Fault>
     ensures replays { IfOk result (λ x. Replays M.stands M.gives start.now check bytes.now machine.old x.used x.check machine.new) }
     ensures bound { IfOk result (λ x. x.used ≤ length bytes.now) }
+    ensures fault { IfErr result IsOfReading }
 {
     let mut rest = bytes;
     let mut check = check;

@@ -1,0 +1,34 @@
+use Rattle.std.proofs.Common.{rules, ◌≡◌, ◌++◌, ℕ, List, [], refl}
+use Rattle.droid_journal.proofs.Handing.{hands_none, hands_on, stand_on}
+use Rattle.droid_journal.proofs.reading.hand_all.Goals as goal
+
+pub loop-init : goal.loop-init
+loop-init g c = record {
+  window = c.requires.window;
+  so_far = ([], hands_none g.M.Machine.stands g.M.Machine.gives c.args.start.now c.args.machine.now c.args.from, λ s here. refl);
+}
+
+pub returns-then-next-place-clause-hands : goal.returns-then-next-place-clause-hands
+returns-then-next-place-clause-hands g c =
+    let p = c.loop.invariant.so_far in
+    let q = c.in_ok-next.ensures.hands in (
+      p.0 ++ q.0,
+      hands_on g.M.Machine.stands g.M.Machine.gives c.args.start.now c.args.machine.now c.loop.machine c.hand_some.new.machine c.args.from c.loop.place c.in_ok-next.next p.0 q.0 p.1 q.1,
+      λ s here. record {
+        joined = stand_on g.M.Machine.stands g.M.Machine.gives c.args.start.now s c.args.machine.now c.loop.machine c.args.from c.loop.place c.in_ok-next.next p.0 q.0 p.1 (p.2 s here) (q.2 s here);
+        ends = c.in_ok-next.ensures.ends c.if-next-place.true s here;
+      },
+    )
+
+pub loop-preserved : goal.loop-preserved
+loop-preserved g c =
+    let p = c.loop.invariant.so_far in
+    let q = c.in_ok-next.ensures.hands in
+    record {
+      window = c.hand_some.ensures.window;
+      so_far = (
+        p.0 ++ q.0,
+        hands_on g.M.Machine.stands g.M.Machine.gives c.args.start.now c.args.machine.now c.loop.machine c.hand_some.new.machine c.args.from c.loop.place c.in_ok-next.next p.0 q.0 p.1 q.1,
+        λ s here. stand_on g.M.Machine.stands g.M.Machine.gives c.args.start.now s c.args.machine.now c.loop.machine c.args.from c.loop.place c.in_ok-next.next p.0 q.0 p.1 (p.2 s here) (q.2 s here),
+      );
+    }
