@@ -218,10 +218,16 @@ fn open_by<F: LogFile, M: Machine + Drop>(
         → (its : List Record) × (rest : List ℕ) × Chain header.now s its rest × HasLater (first_check header.now) rest }
     ensures other_header { IsErrOf result Fault.Header → (s : List ℕ) → F.has file.old s → (HasHeader header.now s → ⊥) × ((count : ℕ) → IsBegun header.now s count → ⊥) }
 {
-    let beginning = beginning_of(file, header, buffer)?;
+    let beginning = match beginning_of(file, header, buffer) {
+        Ok(beginning) => beginning,
+        Err(fault) => return Err(fault),
+    };
     match beginning {
         Beginning::Whole => open_whole(alloc, file, header, machine, buffer),
-        Beginning::Part(count) => open_begun(file, header, machine, count),
+        Beginning::Part(count) => match open_begun(file, header, machine, count) {
+            Ok(opened) => Ok(opened),
+            Err(_) => Err(Fault::Write),
+        },
     }
 }
 

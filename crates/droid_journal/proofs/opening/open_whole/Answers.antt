@@ -1,5 +1,6 @@
-use Rattle.std.proofs.Common.{◌≡◌, ℕ, List, take, drop}
+use Rattle.std.proofs.Common.{Err, ap, ◌≡◌, ℕ, List, take, drop}
 use Rattle.droid_journal.specs.Opening.{Records}
+use Rattle.droid_journal.specs.declared.fault.Fault.TheVariants as faults
 use Rattle.droid_journal.specs.declared.opening.Opened.{Opened}
 use Rattle.droid_journal.proofs.Openings.{cut_leaves, cut_within, ready}
 use Rattle.droid_journal.proofs.opening.open_whole.Goals as goal
@@ -24,4 +25,6 @@ returns-clause-opened g c = λ s here.
     )
 
 pub returns-in-Err-clause-damage : goal.returns-in-Err-clause-damage
-returns-in-Err-clause-damage g c = λ n told s here. c.in-Err.ensures.damage n told s here (c.requires.begins s here)
+returns-in-Err-clause-damage g c = λ n told s here.
+    let same : c.in-Err.fault ≡ faults.Damage n = cc in
+    c.in-Err.ensures.damage n (ap Err same) s here (c.requires.begins s here)
