@@ -1,6 +1,6 @@
 //! The service: what it keeps, and the calls of its users.
 
-ghost use Rattle.std.specs.Prelude.{◌≡◌, ◌≢◌, ◌≤◌, ℕ, [], None, Some, false, IfOk, IfErr, IfSome, IsSome, IsTrue, OnErr, length, vec_len};
+ghost use Rattle.std.specs.Prelude.{◌≡◌, ◌≢◌, ◌≤◌, ℕ, [], None, Some, false, IfOk, IfErr, IfSome, IsSome, IsTrue, OnErr, vec_len};
 ghost use Rattle.std.specs.List.{AllByRecursion};
 ghost use Rattle.std.specs.NonZero.{non_zero_usize_get};
 ghost use Rattle.droid_core.specs.Cached.{KeepsText, cache_size_of, cached_in, caches};
@@ -170,15 +170,6 @@ impl Service {
     {
         let place = self.holdings.files.place_of(profile, file)?;
         Some(self.holdings.files.kept_bytes(place))
-    }
-
-    /// Returns how many requests were accepted: the length of the history. A request that came again counts once.
-    pub fn accepted(&mut self) -> u64
-        ensures count { (setting : Setting) (history : History) → StandsFor setting self.old history → result ≡ length history }
-        ensures same { self.new ≡ self.old }
-    {
-        let counts = self.holdings.store.counts().unwrap();
-        counts.accepted
     }
 
     /// Returns how many replies are cached, at most as many as the cache has places.

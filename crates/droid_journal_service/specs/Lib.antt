@@ -1,2 +1,0 @@
--- The records of a service's history.
-pub mod Histories
