@@ -1,13 +1,15 @@
 //! Reads the command line, runs the command that it asks for, and returns the exit status.
 
 use droid_desk_arguments::{
-    Asked, NoCommand, ProfileOptions, RegistrySource, SubmitOptions, unread_words, what_is_asked,
+    Asked, NoCommand, ProfileOptions, RegistrySource, SubmitOptions, VerifyOptions, unread_words,
+    what_is_asked,
 };
 use droid_desk_folders::submit_folder;
 use droid_desk_profile::profile_folder;
 use droid_desk_service::{
     Ended, registry_for, run_command, script_command, send_command, serve_command,
 };
+use droid_desk_verify::verify_folder;
 use std::process::ExitCode;
 use std::{env, io};
 
@@ -32,6 +34,7 @@ fn fulfil(rt: &HostRuntime, asked: Asked<'_>, on_terminal: bool) -> ExitCode {
     match asked {
         Asked::Profile(options) => profile(rt, options, on_terminal),
         Asked::Submit(options) => submit(rt, options, on_terminal),
+        Asked::Verify(options) => verify(rt, options, on_terminal),
         Asked::Script { registry } => end(rt, &script_command(rt, registry)),
         Asked::Run { registry } => end(rt, &run_command(rt, registry)),
         Asked::Serve {
@@ -67,6 +70,12 @@ fn profile(rt: &HostRuntime, options: ProfileOptions<'_>, on_terminal: bool) -> 
 
 fn submit(rt: &HostRuntime, options: SubmitOptions<'_>, on_terminal: bool) -> ExitCode {
     let ending = submit_folder(rt, options, on_terminal);
+    let _ = ending.print(rt, options);
+    ExitCode::from(ending.status())
+}
+
+fn verify(rt: &HostRuntime, options: VerifyOptions<'_>, on_terminal: bool) -> ExitCode {
+    let ending = verify_folder(rt, options, on_terminal);
     let _ = ending.print(rt, options);
     ExitCode::from(ending.status())
 }

@@ -7,7 +7,7 @@ use Rattle.droid_fixity.specs.declared.difference.Difference.TheVariants.{Change
 use Rattle.droid_fixity.specs.declared.item.Changes.{Changes}
 use Rattle.droid_fixity.specs.declared.item.Item.{Item}
 use Rattle.droid_fixity_profile.specs.declared.seen.Seen.{Seen}
-use Rattle.droid_desk_folders.specs.SkippedEntries.{is_explained}
+use Rattle.droid_desk_outputs.specs.SkippedPaths.{is_explained}
 use Rattle.droid_desk_folders.specs.declared.difference_line.DifferenceLine.{DifferenceLine}
 use Rattle.droid_desk_outputs.specs.declared.skipped_entry.SkippedEntry.{SkippedEntry}
 

@@ -1,0 +1,295 @@
+"""`verify` beside a model in Python: every kind of difference, alone and in pairs, by each form of a list and each hash,
+and over random pairs of trees."""
+import csv
+import hashlib
+import io
+import os
+import random
+import subprocess
+import unittest
+
+from lib.program import PROGRAM
+from lib.trees import LINK, UNREAD, InFolder, profile
+
+COLUMNS = ["difference", "path", "size", "hash", "found_path", "found_size", "found_hash", "reason"]
+# names of files and folders that a list has to quote or escape
+NAMES = [b"a", b"b", b"c.txt", b'quote"', b"comma,", b"line\nfeed", b"back\\slash", b"return\r", "Stra\u00dfe".encode(), b" blank ", b"-", b"%0A"]
+HASHES = {"md5": hashlib.md5, "sha256": hashlib.sha256}
+
+
+def verify(*words, **more):
+    """Runs `verify`: its status, its standard output and its standard error."""
+    run = subprocess.run([PROGRAM, "verify", *words], capture_output=True, timeout=120, **more)
+    return run.returncode, run.stdout, run.stderr
+
+
+def rows_in(text):
+    """Reads the rows of a report, as tuples of bytes."""
+    found = list(csv.reader(io.StringIO(text.decode("utf-8", "surrogateescape"), newline=""), strict=True))
+    assert found[0] == COLUMNS, found[0]
+    return [tuple(os.fsencode(field) for field in row) for row in found[1:]]
+
+
+def contents(top):
+    """Walks a folder: for each path below it None, if it is a folder, or else the bytes of the file. Links are left out."""
+    found = {}
+    for folder, folders, files in os.walk(top):
+        for name in folders + files:
+            path = os.path.join(folder, name)
+            if not os.path.islink(path):
+                found[path[len(top) :]] = None if os.path.isdir(path) else open(path, "rb").read()
+    return found
+
+
+def escaped(path):
+    """A path as `md5sum` writes it, and what stands in front of its line."""
+    text = path.replace(b"\\", b"\\\\").replace(b"\n", b"\\n").replace(b"\r", b"\\r")
+    return text, b"\\" if text != path else b""
+
+
+def sums(items, name):
+    """The list that `md5sum` or `sha256sum` writes of these files."""
+    lines = []
+    for path, content in sorted(items.items()):
+        if content is not None:
+            text, front = escaped(path[1:])
+            lines.append(front + HASHES[name](content).hexdigest().encode() + b"  " + (b"./-" if text == b"-" else text) + b"\n")
+    return b"".join(lines)
+
+
+def bag(items, name):
+    """The manifest of a bag with these files (RFC 8493)."""
+    encode = lambda path: path.replace(b"%", b"%25").replace(b"\n", b"%0A").replace(b"\r", b"%0D")
+    return b"".join(HASHES[name](content).hexdigest().encode() + b"  data" + encode(path) + b"\n" for path, content in items.items() if content is not None)
+
+
+def expected(listed, found, name, with_sizes=True):
+    """The report by the definition: for each path of either side what differs; a missing file moved where it and a new file
+    are the only ones with their hash, and their sizes are not known to differ."""
+    digest = lambda content: b"" if content is None or name == "none" else HASHES[name](content).hexdigest().encode()
+    size = lambda content: b"" if content is None else str(len(content)).encode()
+    old = lambda content: (size(content) if with_sizes else b"", digest(content))
+    new = lambda content: (size(content), digest(content))
+    missing = [path for path in listed if path not in found]
+    added = [path for path in found if path not in listed]
+    by = lambda paths, items: {d: [p for p in paths if digest(items[p]) == d] for d in {digest(items[p]) for p in paths} if d}
+    lost, came = by(missing, listed), by(added, found)
+    moves = {}
+    for d, paths in lost.items():
+        if len(paths) == 1 and len(came.get(d, [])) == 1:
+            moves[paths[0]] = came[d][0]
+    rows = []
+    for path in sorted({*listed, *found}):
+        if path in listed and path in found:
+            a, b = listed[path], found[path]
+            if (a is None) != (b is None) or (a is not None and (digest(a) != digest(b) or (with_sizes and len(a) != len(b)))):
+                rows.append((b"changed", path, *old(a), path, *new(b), b""))
+        elif path in moves:
+            rows.append((b"moved", path, *old(listed[path]), moves[path], *new(found[moves[path]]), b""))
+        elif path in listed:
+            rows.append((b"missing", path, *old(listed[path]), b"", b"", b"", b""))
+        elif path not in moves.values():
+            rows.append((b"new", path, b"", b"", path, *new(found[path]), b""))
+    return rows
+
+
+class Lists(InFolder):
+    def write(self, name, text):
+        path = self.work + b"/" + name
+        with open(path, "wb") as file:
+            file.write(text)
+        return path
+
+    def checked(self, top, against, rows):
+        """Checks the report of `verify`, its status and that standard error counts what it has."""
+        status, out, said = verify(top, "--against", against)
+        self.assertEqual((rows_in(out), status), (rows, 5 if rows else 0), said)
+        for kind in [b"changed", b"missing", b"new", b"moved", b"unreadable"]:
+            self.assertIn(b"\n" + kind + b": %d\n" % sum(row[0] == kind for row in rows), said)
+
+    def by_each_form(self, change):
+        """Makes the lists of the tree, changes the tree, and compares it with each list."""
+        listed = contents(self.top)
+        files = {path: content for path, content in listed.items() if content is not None}
+        lists = []
+        for name in ["none", *HASHES]:
+            path = self.work + b"/" + name.encode() + b".csv"
+            self.assertEqual(profile(self.top, "--hash", name, "--output", path, "--quiet")[0], 0)
+            lists.append((path, listed, name, True))
+            if name != "none":
+                lists.append((self.write(b"list." + name.encode(), sums(listed, name)), files, name, False))
+        change()
+        found = contents(self.top)
+        for path, items, name, with_sizes in lists:
+            seen = found if with_sizes else {p: content for p, content in found.items() if content is not None}
+            self.checked(self.top, path, expected(items, seen, name, with_sizes))
+
+    def tree(self):
+        self.folder(b"/in")
+        for at, name in enumerate(NAMES):
+            self.file(b"/" + name, b"top %d" % at)
+            self.file(b"/in/" + name, b"in %d" % at)
+
+    def test_nothing_differs(self):
+        self.tree()
+        self.by_each_form(lambda: None)
+
+    def test_each_difference_alone_and_in_pairs(self):
+        steps = {
+            "changed": lambda: self.file(b"/a", b"TOP 0"),
+            "longer": lambda: self.file(b"/c.txt", b"longer than before"),
+            "missing": lambda: os.remove(self.top + b"/in/b"),
+            "new": lambda: self.file(b"/in/newer", b"new"),
+            "moved": lambda: os.rename(self.top + b"/in/line\nfeed", self.top + b"/line2"),
+            "folder": lambda: (os.remove(self.top + b"/b"), self.folder(b"/b")),
+            "copied": lambda: self.file(b"/copy of a", b"top 0"),
+        }
+        for one in steps:
+            for other in steps:
+                with self.subTest(one=one, other=other):
+                    subprocess.run(["rm", "-rf", self.top], check=True)
+                    self.folder(b"")
+                    self.tree()
+                    self.by_each_form(lambda: [steps[step]() for step in sorted({one, other})])
+
+    def test_moment_alone(self):
+        self.file(b"/a", b"a")
+        self.by_each_form(lambda: self.file(b"/a", b"a", when=1_700_000_000))
+
+    def test_two_files_of_one_hash_do_not_move(self):
+        self.file(b"/a", b"same")
+        self.file(b"/b", b"same")
+        self.by_each_form(lambda: [os.rename(self.top + b"/" + name, self.top + b"/new " + name) for name in (b"a", b"b")])
+
+    def test_lists_of_coreutils(self):
+        self.tree()
+        for name in HASHES:
+            made = subprocess.run(f"find . -type f -exec {name}sum {{}} +", shell=True, cwd=self.top, capture_output=True, check=True).stdout
+            self.checked(self.top, self.write(b"list", made), [])
+            self.checked(self.top, self.write(b"list", made.replace(b"\n", b"\r\n")), [])
+
+    def test_bag(self):
+        self.folder(b"/data")
+        self.file(b"/bagit.txt", b"BagIt-Version: 1.0\nTag-File-Character-Encoding: UTF-8\n")
+        for at, name in enumerate(NAMES):
+            self.file(b"/data/" + name, b"%d" % at)
+        for name in HASHES:
+            listed = {path: content for path, content in contents(self.top + b"/data").items() if content is not None}
+            manifest = self.write(b"manifest", bag(listed, name))
+            self.checked(self.top, manifest, [])
+            self.file(b"/data/a", b"another")
+            found = {path: content for path, content in contents(self.top + b"/data").items() if content is not None}
+            self.checked(self.top, manifest, expected(listed, found, name, False))
+            self.file(b"/data/a", b"0")
+
+    def test_order_of_the_rows(self):
+        self.tree()
+        path = self.work + b"/list.csv"
+        profile(self.top, "--output", path, "--quiet")
+        lines = list(csv.reader(io.StringIO(open(path, "rb").read().decode(), newline="")))
+        lines[1:] = lines[:0:-1]
+        text = io.StringIO()
+        csv.writer(text, lineterminator="\r\n").writerows(lines)
+        self.checked(self.top, self.write(b"other.csv", text.getvalue().encode()), [])
+
+    def test_unreadable_files_are_not_missing(self):
+        self.file(b"/a", b"a")
+        self.folder(b"/in")
+        self.file(b"/in/b", b"b")
+        path = self.work + b"/list.csv"
+        profile(self.top, "--output", path, "--quiet")
+        os.chmod(self.top + b"/a", 0)
+        os.chmod(self.top + b"/in", 0)
+        self.addCleanup(os.chmod, self.top + b"/in", 0o700)
+        if os.access(self.top + b"/a", os.R_OK):
+            self.skipTest("this user reads all")
+        rows = [(b"unreadable", b"/a", b"", b"", b"", b"", b"", UNREAD), (b"unreadable", b"/in", b"", b"", b"", b"", b"", UNREAD)]
+        self.checked(self.top, path, rows)
+
+    def test_links_are_no_part(self):
+        self.file(b"/a", b"a")
+        path = self.work + b"/list.csv"
+        profile(self.top, "--output", path, "--quiet")
+        os.symlink(b"a", self.top + b"/link")
+        self.checked(self.top, path, [])
+        os.remove(self.top + b"/a")
+        os.symlink(b"link", self.top + b"/a")
+        self.checked(self.top, path, expected({b"/a": b"a"}, {}, "md5"))
+
+    def test_names_that_are_no_text(self):
+        self.file(b"/\xff", b"a")
+        listed = self.write(b"list", hashlib.md5(b"a").hexdigest().encode() + b"  \xff\n")
+        status, out, said = verify(self.top, "--against", listed)
+        self.assertEqual((status, [row[:2] for row in rows_in(out)]), (5, [(b"unreadable", b"/\xff")]), said)
+
+    def test_quiet(self):
+        self.file(b"/a", b"a")
+        listed = self.write(b"list", sums({b"/a": b"b"}, "md5"))
+        status, out, said = verify(self.top, "--against", listed, "--quiet")
+        self.assertEqual((status, len(rows_in(out)), said), (5, 1, b""))
+
+    def test_lists_that_are_none(self):
+        self.tree()
+        path = self.work + b"/list.csv"
+        profile(self.top, "--output", path, "--quiet")
+        whole = open(path, "rb").read()
+        rows = whole.split(b"\n")
+        for bad in [
+            b"no list\n",
+            whole.replace(b'"SIZE"', b'"SIZES"'),
+            whole.replace(b'"File"', b'"Fil"', 1),
+            whole + b'"a"\n',
+            whole + rows[-2].replace(b'"1"', b'"2"', 1) + b"\n" + rows[1] + b"\n",
+            sums({b"/a": b"a"}, "md5") + sums({b"/b": b"b"}, "sha256"),
+            sums({b"/a": b"a"}, "md5") * 2,
+            hashlib.md5(b"").hexdigest().encode() + b"  ../a\n",
+        ]:
+            with self.subTest(bad=bad[-60:]):
+                status, out, said = verify(self.top, "--against", self.write(b"bad", bad))
+                self.assertEqual((status, out), (3, b""), said)
+                self.assertTrue(said.startswith(b"fault: List\n"), said)
+        status, out, said = verify(self.top, "--against", self.work + b"/none")
+        self.assertEqual((status, out, said.startswith(b"fault: Open\n")), (3, b"", True))
+        status, out, said = verify(self.work + b"/none", "--against", path)
+        self.assertEqual((status, out, said.startswith(b"fault: Folder\n")), (4, b"", True))
+
+    def test_lists_cut_at_each_byte(self):
+        self.file(b"/a", b"a")
+        self.file(b"/b", b"b")
+        path = self.work + b"/list.csv"
+        profile(self.top, "--output", path, "--quiet")
+        whole = open(path, "rb").read()
+        for end in range(len(whole)):
+            status, out, said = verify(self.top, "--against", self.write(b"cut", whole[:end]), "--quiet")
+            # what is left of the list is malformed, or is all but its last rows
+            self.assertIn(status, [3, 5] if end < len(whole) - 3 else [0], (end, said))
+            if status == 5:
+                self.assertTrue({row[0] for row in rows_in(out)} <= {b"new"}, (end, out))
+
+    def test_random_pairs(self):
+        chance = random.Random(54)
+        for number in range(int(os.environ.get("PAIRS", "60"))):
+            with self.subTest(number=number):
+                subprocess.run(["rm", "-rf", self.top], check=True)
+                self.folder(b"")
+                self.fill(chance, 12)
+                self.by_each_form(lambda: self.fill(chance, 6))
+
+    def fill(self, chance, count):
+        """Adds, changes, moves and removes some files."""
+        for _ in range(count):
+            folder = chance.choice([b"/", b"/in/", b"/in/deep/"])
+            path = folder + chance.choice(NAMES)
+            full = self.top + path
+            what = chance.randrange(6)
+            if what == 0 and os.path.exists(full):
+                subprocess.run(["rm", "-rf", full], check=True)
+            elif what == 1 and os.path.isfile(full):
+                os.rename(full, full + b".moved")
+            elif not os.path.isdir(full):
+                self.folder(folder)
+                self.file(path, b"%d" % chance.randrange(5) * chance.randrange(3))
+
+
+if __name__ == "__main__":
+    unittest.main()
