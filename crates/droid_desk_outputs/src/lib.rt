@@ -1,5 +1,5 @@
 //! What the commands of a folder share: where the files that they write lie, what was skipped and its CSV, and the
-//! sentences behind a fault.
+//! sentences behind a fault. It passes on the words and digits that their CSVs have.
 #![tactic(auto)]
 
 mod csv_records;
@@ -11,6 +11,8 @@ mod skipped_paths;
 mod skipped_text;
 
 pub use csv_records::{finish_csv, new_csv, write_record};
+pub use droid_desk_progress::cause;
+pub use droid_export::HashText;
 pub use folder_advice::{NO_MEMORY, print_no_folder, print_no_output};
 pub use places::{absolute_path, folder_of, is_same_place, lies_in};
 pub use recorder::Recorder;

@@ -1,0 +1,38 @@
+-- What is reported of a tree beside a list, in order of path (this project's own).
+use Rattle.std.specs.Prelude.{◌≡◌, ℕ, Bool, true, false, List, [], ◌∷◌, ◌++◌, filter, map, IsPermutation}
+use Rattle.std.specs.List.Sorted.{IsSortedBy}
+use Rattle.droid_fixity_forms.specs.Inventories.{is_before}
+use Rattle.droid_fixity_forms.specs.Reports.{path_of}
+use Rattle.droid_fixity_forms.specs.item_types.difference.Difference.{Difference}
+use Rattle.droid_fixity_forms.specs.item_types.difference.Difference.TheVariants.{Changed, Missing, New, Moved, Touched}
+use Rattle.droid_fixity_forms.specs.item_types.item.Item.{Item}
+use Rattle.droid_tree.specs.declared.skipped.Skipped.{Skipped}
+use Rattle.droid_desk_profile.specs.outputs_types.skipped_entry.SkippedEntry.{SkippedEntry}
+use Rattle.droid_desk_comparison.specs.declared.finding.Finding.{Finding}
+use Rattle.droid_desk_comparison.specs.declared.finding.Kind.{Kind}
+use Rattle.droid_desk_comparison.specs.declared.finding.Kind.TheVariants.{Differs, Unreadable}
+
+-- another moment alone is no difference: copies of a folder have other moments
+abbrev pub is_reported : Difference → Bool
+is_reported (Changed l f changes) = true
+is_reported (Missing l) = true
+is_reported (New f) = true
+is_reported (Moved l f) = true
+is_reported (Touched l f) = false
+
+-- a difference, at the path of the list, if the list has it
+abbrev pub difference_at : List Item → List Item → Difference → Finding
+difference_at listed found difference = record { path = path_of listed found difference; kind = Differs difference }
+
+-- an unreadable entry
+abbrev pub unreadable_at : SkippedEntry → Finding
+unreadable_at entry = record { path = entry.path; kind = Unreadable entry.why }
+
+-- what is reported: the differences, and all that is unreadable
+abbrev pub findings_in : List Item → List Item → List Difference → List SkippedEntry → List Finding
+findings_in listed found differences unreadable = map (difference_at listed found) (filter is_reported differences) ++ map unreadable_at unreadable
+
+-- each once, in order of path
+pub record AreFindings (listed found : List Item) (differences : List Difference) (unreadable : List SkippedEntry) (findings : List Finding) : Type 0 where
+  pub same : IsPermutation (findings_in listed found differences unreadable) findings
+  pub in_order : IsSortedBy (λ a b. is_before a.path b.path) findings

@@ -1,0 +1,161 @@
+//! What is reported of a tree beside a list.
+
+ghost use Rattle.std.specs.Prelude.{◌≡◌, ◌++◌, [], ◌∷◌, IfOk, OnOk, filter, map};
+ghost use Rattle.std.specs.Ordering.{nat_cmp};
+ghost use Rattle.std.specs.Cmp.Lexicographic.{slice_cmp};
+ghost use Rattle.droid_fixity_forms.specs.Reports.{path_at, path_of};
+ghost use Rattle.droid_desk_comparison.specs.Findings.{AreFindings, difference_at, is_reported, unreadable_at};
+
+use crate::tree_check::Checked;
+use droid_desk_outputs::SkippedEntry;
+use droid_fixity::{Difference, Item};
+use droid_frame::Blob;
+use droid_tree::Skipped;
+use std::alloc::{AllocError, Global};
+use std::cmp::Ordering;
+
+/// What is reported at a path.
+#[derive(Drop)]
+pub struct Finding {
+    /// The path: that of the list, if the list has it.
+    pub path: Blob,
+    /// What is reported.
+    pub kind: Kind,
+}
+
+/// What is reported.
+#[derive(Clone, Copy)]
+pub enum Kind {
+    /// A difference between the list and the tree.
+    Differs(Difference),
+    /// An entry could not be read, for this reason.
+    Unreadable(Skipped),
+}
+
+/// Returns what is reported, in order of path: the differences, but for those of the moment alone, and all that is
+/// unreadable.
+pub fn findings_of(
+    alloc: Global,
+    checked: &Checked,
+    unreadable: &[SkippedEntry],
+) -> Result<Vec<Finding>, AllocError>
+    ensures { IfOk result (λ findings. AreFindings checked.now.listed checked.now.found checked.now.differences.items unreadable.now findings.items) }
+{
+    let mut findings = Vec::new(alloc);
+    let listed = checked.listed.as_slice();
+    let found = checked.found.as_slice();
+    add_differences(
+        alloc,
+        &mut findings,
+        listed,
+        found,
+        checked.differences.as_slice(),
+    )?;
+    add_unreadable(alloc, &mut findings, unreadable)?;
+    findings.sort_unstable_by(|first, second| order_of(first, second));
+    Ok(findings)
+}
+
+/// Compares the paths of two findings.
+fn order_of(first: &Finding, second: &Finding) -> Ordering
+    ensures { result ≡ slice_cmp nat_cmp first.now.path second.now.path }
+{
+    first.path.as_slice().cmp(second.path.as_slice())
+}
+
+/// Appends the differences, but for those of the moment alone.
+fn add_differences(
+    alloc: Global,
+    findings: &mut Vec<Finding>,
+    listed: &[Item],
+    found: &[Item],
+    differences: &[Difference],
+) -> Result<(), AllocError>
+    ensures { OnOk result (findings.new.items ≡ findings.old.items ++ map (difference_at listed.now found.now) (filter is_reported differences.now)) }
+{
+    for difference in differences {
+        add_difference(alloc, findings, listed, found, *difference)?;
+    }
+    Ok(())
+}
+
+/// Appends a difference, unless it is one of the moment alone.
+fn add_difference(
+    alloc: Global,
+    findings: &mut Vec<Finding>,
+    listed: &[Item],
+    found: &[Item],
+    difference: Difference,
+) -> Result<(), AllocError>
+    ensures { OnOk result (findings.new.items ≡ findings.old.items ++ map (difference_at listed.now found.now) (filter is_reported (difference ∷ []))) }
+{
+    if is_reported(difference) {
+        let path = Blob::copy_of(alloc, path_of(listed, found, difference))?;
+        let kind = Kind::Differs(difference);
+        findings.push(Finding { path, kind })?;
+    }
+    Ok(())
+}
+
+/// Returns whether a difference is not one of the moment alone.
+fn is_reported(difference: Difference) -> bool
+    ensures { result ≡ is_reported difference }
+{
+    match difference {
+        Difference::Changed { .. } => true,
+        Difference::Missing { .. } => true,
+        Difference::New { .. } => true,
+        Difference::Moved { .. } => true,
+        Difference::Touched { .. } => false,
+    }
+}
+
+/// Appends all that is unreadable.
+fn add_unreadable(
+    alloc: Global,
+    findings: &mut Vec<Finding>,
+    unreadable: &[SkippedEntry],
+) -> Result<(), AllocError>
+    ensures { OnOk result (findings.new.items ≡ findings.old.items ++ map unreadable_at unreadable.now) }
+{
+    for entry in unreadable {
+        add_entry(alloc, findings, entry)?;
+    }
+    Ok(())
+}
+
+fn add_entry(
+    alloc: Global,
+    findings: &mut Vec<Finding>,
+    entry: &SkippedEntry,
+) -> Result<(), AllocError>
+    ensures { OnOk result (findings.new.items ≡ findings.old.items ++ unreadable_at entry.now ∷ []) }
+{
+    let path = Blob::copy_of(alloc, entry.path.as_slice())?;
+    let kind = Kind::Unreadable(entry.why);
+    findings.push(Finding { path, kind })?;
+    Ok(())
+}
+
+/// Returns the path by which a difference is sorted.
+fn path_of<'a>(listed: &'a [Item], found: &'a [Item], difference: Difference) -> &'a [u8]
+    ensures { result.now ≡ path_of listed.entry.now found.entry.now difference }
+{
+    match difference {
+        Difference::Changed { listed: place, .. } => path_at(listed, place),
+        Difference::Touched { listed: place, .. } => path_at(listed, place),
+        Difference::Missing { listed: place } => path_at(listed, place),
+        Difference::New { found: place } => path_at(found, place),
+        Difference::Moved { listed: place, .. } => path_at(listed, place),
+    }
+}
+
+/// Returns the path of the item at this place, or an empty one.
+fn path_at(items: &[Item], place: usize) -> &[u8]
+    ensures { result.now ≡ path_at items.entry.now place }
+{
+    match items.get(place) {
+        Some(item) => item.path.as_slice(),
+        None => b"",
+    }
+}

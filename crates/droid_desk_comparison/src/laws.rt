@@ -1,0 +1,40 @@
+//! Laws of a comparison. Each is the contract of a function that does nothing.
+
+ghost use Rattle.std.specs.Prelude.{◌≡◌, Bool, List, [], Ok, false, filter};
+ghost use Rattle.droid_desk_comparison.specs.CheckedTrees.{items_of, readable_in};
+ghost use Rattle.droid_desk_comparison.specs.Findings.{AreFindings};
+ghost use Rattle.droid_fixity_forms.specs.ListForms.{form_of};
+ghost use Rattle.droid_fixity_forms.specs.Listings.{ListSays};
+ghost use Rattle.droid_desk_comparison.specs.declared.finding.Finding.{Finding};
+ghost use Rattle.droid_fixity_forms.specs.declared.list_form.ListForm.TheVariants.{Profile};
+ghost use Rattle.droid_fixity_forms.specs.declared.listed.Listed.{Listed};
+ghost use Rattle.droid_desk_comparison.specs.declared.tree_check.Checked.{Checked};
+ghost use Rattle.droid_desk_profile.specs.Filters.{meets};
+ghost use Rattle.droid_desk_profile.specs.Text.{text};
+ghost use Rattle.droid_fixity_forms.specs.Reports.{IsReport};
+ghost use Rattle.droid_fixity_forms.specs.item_types.item.Item.{Item};
+ghost use Rattle.droid_fixity_forms.specs.Listings.{IsInventory};
+ghost use Rattle.droid_fixity_profile.specs.Exports.{AreRecordsOf};
+ghost use Rattle.droid_frame.specs.types.filter.Filter.{Filter};
+ghost use Rattle.droid_frame.specs.types.hash_kind.HashKind.{HashKind};
+ghost use Rattle.droid_frame.specs.types.record.Record.{Record};
+ghost use Rattle.droid_desk_profile.specs.Registry.{Contents};
+
+use droid_fixity_profile::{export_lists_its_records, the_items_of_the_list_agree};
+
+/// States that the export of a tree's records, which `profile` writes, is read as a profile; and that it has no difference
+/// to a tree with these records in which nothing is unreadable.
+pub fn a_profile_agrees_with_its_tree()
+    ensures form { (registry : Contents) (criteria : Filter) (hash : HashKind) (nodes : List Record) (in_bag : Bool) → form_of in_bag (text registry criteria hash nodes) ≡ Profile }
+    ensures agrees { (registry : Contents) (criteria : Filter) (hash : HashKind) (nodes : List Record) (in_bag : Bool) (listed : Listed) (checked : Checked) → AreRecordsOf hash nodes
+        → ListSays in_bag (text registry criteria hash nodes) (Ok listed) → IsInventory (readable_in [] listed.items) checked.listed
+        → IsInventory (items_of false (filter (meets criteria) nodes)) checked.found → IsReport checked.listed checked.found checked.differences.items → checked.differences.items ≡ [] }
+{
+    export_lists_its_records();
+    the_items_of_the_list_agree();
+}
+
+/// States that nothing is reported where there is no difference and nothing is unreadable.
+pub fn nothing_is_reported_of_agreement()
+    ensures { (listed found : List Item) (findings : List Finding) → AreFindings listed found [] [] findings → findings ≡ [] }
+{}

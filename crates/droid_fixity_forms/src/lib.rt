@@ -1,0 +1,13 @@
+//! Reads a list of files in any of its forms: the CSV of a profile, a list of checksums, or the manifest of a bag. The form
+//! is seen from the first line. The crate passes on what the crates below it offer, so that whoever compares a list with a
+//! folder names this crate alone.
+#![tactic(auto)]
+
+mod list_form;
+mod listed;
+
+pub use droid_fixity::{Changes, Difference, Inventory, Item, SamePath, compare};
+pub use droid_fixity_lists::ListFault;
+pub use droid_fixity_manifest::{ManifestFault, ManifestForm};
+pub use list_form::ListForm;
+pub use listed::{Listed, UnreadList, read_list};
