@@ -5,11 +5,10 @@ use droid_desk_arguments::{
     what_is_asked,
 };
 use droid_desk_folders::submit_folder;
-use droid_desk_profile::profile_folder;
 use droid_desk_service::{
     Ended, registry_for, run_command, script_command, send_command, serve_command,
 };
-use droid_desk_verify::verify_folder;
+use droid_desk_verify::{profile_folder, verify_folder};
 use std::process::ExitCode;
 use std::{env, io};
 

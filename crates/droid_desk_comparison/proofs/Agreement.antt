@@ -11,7 +11,8 @@ use Rattle.droid_fixity_forms.specs.Reports.{IsReport}
 use Rattle.droid_fixity_forms.specs.item_types.item.Item.{Item}
 use Rattle.droid_fixity_forms.specs.Profiles.{profile_of}
 use Rattle.droid_fixity_forms.specs.list_types.fault.ListFault.{ListFault}
-use Rattle.droid_fixity_profile.specs.Comparisons.{IsInventory, Sees}
+use Rattle.droid_fixity_forms.specs.Listings.{IsInventory}
+use Rattle.droid_fixity_profile.specs.Comparisons.{Sees}
 use Rattle.droid_fixity_profile.specs.Exports.{Lists, item_of_record}
 use Rattle.droid_fixity_profile.specs.Exports as exports
 use Rattle.droid_fixity_profile.specs.declared.seen.Seen.{Seen}
@@ -65,7 +66,7 @@ module _ (agree : (listed : Result (List Item) ListFault) (items found : List It
       let seen : Seen = record { differences = checked.differences; listed = checked.listed; found = checked.found } in
       let sees : Sees (profile_of lists.0) items (Ok seen) = (
         record { items = items; are = lists.2; has = record { same = IsPermutation-trans items listed checked.listed first second; in_order = readable.in_order } },
-        subst (λ (its : List Item). IsInventory its checked.found) (same_items shown) found,
+        record { same = subst (λ (its : List Item). IsPermutation its checked.found) (same_items shown) found.same; in_order = found.in_order },
         report,
       ) in
       agree (profile_of lists.0) items items seen lists.2 (IsPermutation-refl items) sees

@@ -20,6 +20,10 @@ is_reported (New f) = true
 is_reported (Moved l f) = true
 is_reported (Touched l f) = false
 
+-- a difference is not reported, or it has another path
+abbrev pub IsSilentAt : List Item → List Item → List ℕ → Difference → Type 0
+IsSilentAt listed found path difference = is_reported difference ≡ true → ¬ (path_of listed found difference ≡ path)
+
 -- a difference, at the path of the list, if the list has it
 abbrev pub difference_at : List Item → List Item → Difference → Finding
 difference_at listed found difference = record { path = path_of listed found difference; kind = Differs difference }

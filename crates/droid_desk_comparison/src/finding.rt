@@ -7,8 +7,8 @@ ghost use Rattle.droid_fixity_forms.specs.Reports.{path_at, path_of};
 ghost use Rattle.droid_desk_comparison.specs.Findings.{AreFindings, difference_at, is_reported, unreadable_at};
 
 use crate::tree_check::Checked;
-use droid_desk_outputs::SkippedEntry;
-use droid_fixity::{Difference, Item};
+use droid_desk_profile::SkippedEntry;
+use droid_fixity_forms::{Difference, Item};
 use droid_frame::Blob;
 use droid_tree::Skipped;
 use std::alloc::{AllocError, Global};

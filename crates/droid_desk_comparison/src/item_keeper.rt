@@ -6,10 +6,10 @@ ghost use Rattle.droid_desk_profile.specs.Filters.{is_file};
 ghost use Rattle.droid_fixity_profile.specs.Exports.{item_of_record};
 ghost use Rattle.droid_desk_comparison.specs.KeptItems.{Keeps, KeepsNot, items_by};
 
-use droid_fixity::Item;
+use droid_desk_profile::{Recipient, RecipientFault};
+use droid_fixity_forms::Item;
 use droid_fixity_profile::item_of_node;
 use droid_frame::{NodeKind, Record};
-use droid_profile::{Recipient, RecipientFault};
 use std::alloc::{AllocError, Global};
 
 /// Keeps the items of a tree's records, in order.

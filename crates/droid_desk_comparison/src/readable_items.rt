@@ -7,8 +7,8 @@ ghost use Rattle.droid_desk_comparison.specs.CheckedTrees.{is_readable, readable
 ghost use Rattle.droid_fixity_forms.specs.Inventories.{AreInOrder};
 ghost use Rattle.droid_fixity_forms.specs.Listings.{IsInventory};
 
-use droid_desk_outputs::{SkippedEntry, SkippedPaths, holds_above, paths_of};
-use droid_fixity::{Inventory, Item};
+use droid_desk_profile::{SkippedEntry, SkippedPaths, holds_above, paths_of};
+use droid_fixity_forms::{Inventory, Item};
 use droid_frame::Blob;
 use std::alloc::{AllocError, Global};
 

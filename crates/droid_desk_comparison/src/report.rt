@@ -8,10 +8,8 @@ ghost use Rattle.droid_desk_comparison.specs.ReportTexts as texts;
 use crate::finding::{Finding, Kind};
 use crate::tree_check::Checked;
 use csv::Writer;
-use droid_desk_outputs::{finish_csv, new_csv, write_record};
-use droid_desk_progress::cause;
-use droid_export::HashText;
-use droid_fixity::{Difference, Item};
+use droid_desk_profile::{HashText, cause, finish_csv, new_csv, write_record};
+use droid_fixity_forms::{Difference, Item};
 use droid_frame::HashValue;
 use std::alloc::{AllocError, Global};
 

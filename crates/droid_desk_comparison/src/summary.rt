@@ -4,7 +4,7 @@ ghost use Rattle.std.specs.Prelude.{◌≡◌, Some};
 ghost use Rattle.droid_desk_comparison.specs.Summaries as summaries;
 
 use crate::finding::{Finding, Kind};
-use droid_fixity::{Difference, Item};
+use droid_fixity_forms::{Difference, Item};
 use droid_frame::NodeKind;
 use std::fmt::{self, Display, Formatter, Write};
 
@@ -77,7 +77,7 @@ fn one_more(count: u64) -> u64
 }
 
 /// Returns how many files there are among items.
-pub(crate) fn files_in(items: &[Item]) -> u64
+pub fn files_in(items: &[Item]) -> u64
     ensures { result ≡ summaries.files_in items.now }
 {
     let mut files = 0;
@@ -97,7 +97,7 @@ fn with_item(kind: NodeKind, count: u64) -> u64
 }
 
 /// Returns how many bytes items have together, or the greatest number there is.
-pub(crate) fn bytes_in(items: &[Item]) -> u64
+pub fn bytes_in(items: &[Item]) -> u64
     ensures { result ≡ summaries.bytes_in items.now }
 {
     let mut bytes: u64 = 0;

@@ -7,13 +7,12 @@ ghost use Rattle.droid_fixity_forms.specs.Reports.{IsReport};
 ghost use Rattle.droid_fixity_forms.specs.Listings.{IsInventory};
 
 use crate::item_keeper::ItemKeeper;
-use crate::listed::Listed;
 use crate::readable_items::readable_of;
-use droid_desk_outputs::{Recorder, SkippedEntry};
-use droid_fixity::{Difference, Inventory, Item, SamePath, compare};
+use droid_desk_profile::{
+    Options, ProfileFault, Profiler, Recorder, Registry, SkippedEntry, profile,
+};
+use droid_fixity_forms::{Difference, Inventory, Item, Listed, SamePath, compare};
 use droid_frame::HashKind;
-use droid_profile::{Options, ProfileFault, Profiler, profile};
-use droid_pronom::Registry;
 use droid_tree::{Skipped, Tree, Watcher};
 use std::alloc::{AllocError, Global};
 use std::mem;

@@ -1,8 +1,8 @@
 -- How the comparison of a folder ends (this project's own).
 use Rattle.std.specs.Prelude.{ℕ, ◌==◌, List, [], ◌∷◌, length, Option, Some, None, codes, if◌then◌else◌}
 use Rattle.droid_desk_comparison.specs.declared.finding.Finding.{Finding}
-use Rattle.droid_fixity_forms.specs.declared.listed.UnreadList.{UnreadList}
-use Rattle.droid_fixity_forms.specs.declared.listed.UnreadList.TheVariants as lists
+use Rattle.droid_desk_comparison.specs.list_forms.listed.UnreadList.{UnreadList}
+use Rattle.droid_desk_comparison.specs.list_forms.listed.UnreadList.TheVariants as lists
 use Rattle.droid_desk_comparison.specs.declared.tree_check.CheckFault.{CheckFault}
 use Rattle.droid_desk_comparison.specs.declared.tree_check.CheckFault.TheVariants as faults
 use Rattle.droid_desk_verify.specs.declared.verify_ending.VerifyEnding.{VerifyEnding}

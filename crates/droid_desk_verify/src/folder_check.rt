@@ -1,21 +1,13 @@
 //! The comparison of a folder of this machine.
 
-use crate::finding::{Finding, findings_of};
-use crate::item_keeper::ItemKeeper;
-use crate::list_form::ListForm;
-use crate::listed::{Listed, read_list};
-use crate::report::report_text;
-use crate::summary::{KindCounts, Summary, bytes_in, files_in};
-use crate::tree_check::{Checked, check_tree};
 use crate::verify_ending::VerifyEnding;
 use droid_desk_arguments::VerifyOptions;
-use droid_desk_outputs::Recorder;
-use droid_desk_progress::{Reporter, Verbosity};
-use droid_fixity_manifest::ManifestForm;
+use droid_desk_comparison::{
+    Checked, Finding, Folder, ItemKeeper, KindCounts, ListForm, Listed, ManifestForm, Options,
+    Profiler, Recorder, Registry, Reporter, Summary, System, Verbosity, bytes_in, check_tree,
+    files_in, findings_of, is_folder, read_list, report_text,
+};
 use droid_frame::{HashKind, Noted, WriteState, write_all};
-use droid_profile::{Options, Profiler};
-use droid_pronom::Registry;
-use droid_tree_disk::{Folder, System, is_folder};
 use std::alloc::{AllocError, Global};
 use std::fs::{self, File, Files};
 use std::io::{self, ErrorKind};

@@ -3,9 +3,7 @@
 ghost use Rattle.std.specs.Prelude.{◌≡◌, option_map};
 ghost use Rattle.droid_desk_verify.specs.VerifyEndings.{ending_of, fault_text, status_of, unchecked, unlisted};
 
-use crate::finding::Finding;
-use crate::listed::UnreadList;
-use crate::tree_check::CheckFault;
+use droid_desk_comparison::{CheckFault, Finding, UnreadList};
 use std::io::ErrorKind;
 
 /// How the comparison of a folder ends.

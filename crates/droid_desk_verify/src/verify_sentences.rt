@@ -1,10 +1,8 @@
 //! Sentences that say how a comparison ended, and what to do.
 
-use crate::listed::UnreadList;
 use crate::verify_ending::VerifyEnding;
 use droid_desk_arguments::VerifyOptions;
-use droid_desk_outputs::{NO_MEMORY, print_no_folder};
-use droid_desk_progress::Shown;
+use droid_desk_comparison::{NO_MEMORY, Shown, UnreadList, print_no_folder};
 use std::fs::Files;
 use std::io;
 

@@ -1,6 +1,7 @@
 //! The form of a list of files.
 
-ghost use Rattle.std.specs.Prelude.{◌≡◌, IfOk, option_map};
+ghost use Rattle.std.specs.Prelude.{◌≡◌, ◌==◌, IfOk, option_map};
+ghost use Rattle.std.specs.List.{position};
 ghost use Rattle.droid_fixity_manifest.specs.Lists.{items_of};
 ghost use Rattle.droid_fixity_manifest.specs.Paths.{behind};
 ghost use Rattle.droid_fixity_forms.specs.ListForms as forms;
@@ -118,8 +119,15 @@ fn is_of_bag(alloc: Global, line: &[u8]) -> Result<bool, AllocError>
 fn first_line(text: &[u8]) -> &[u8]
     ensures { result.now ≡ forms.first_line text.now }
 {
-    match text.iter().position(|byte| *byte == b'\n') {
+    match first_feed(text) {
         Some(place) => &text[..place],
         None => text,
     }
+}
+
+/// Returns the place of the first line feed.
+fn first_feed(text: &[u8]) -> Option<usize>
+    ensures { result ≡ position (λ b. b == 10) text.now }
+{
+    text.iter().position(|byte| *byte == b'\n')
 }

@@ -1,0 +1,6 @@
+mod Agreement
+mod Keeping
+mod Moments
+mod ReadableItems
+mod Silence
+mod TreeChecks

@@ -1,0 +1,7 @@
+-- types of the crate below, re-exported
+pub use Rattle.droid_fixity_forms.specs.declared as list_forms
+pub mod CheckedTrees
+pub mod Findings
+pub mod KeptItems
+pub mod ReportTexts
+pub mod Summaries

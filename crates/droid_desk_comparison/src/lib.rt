@@ -1,0 +1,22 @@
+//! Compares a tree with a list of its files, and says what differs. It walks as `profile` does. The crate passes on what
+//! reads the list and walks a folder, so that the command names this crate alone.
+#![tactic(auto)]
+
+mod finding;
+mod item_keeper;
+pub mod laws;
+mod readable_items;
+mod report;
+mod summary;
+mod tree_check;
+
+pub use droid_desk_profile::{
+    Folder, NO_MEMORY, Options, Profiler, Recorder, Registry, Reporter, Shown, System, Verbosity,
+    is_folder, print_no_folder, profile_folder,
+};
+pub use droid_fixity_forms::{ListForm, Listed, ManifestForm, UnreadList, read_list};
+pub use finding::{Finding, Kind, findings_of};
+pub use item_keeper::ItemKeeper;
+pub use report::report_text;
+pub use summary::{KindCounts, Summary, bytes_in, files_in};
+pub use tree_check::{CheckFault, Checked, check_tree};
