@@ -6,12 +6,13 @@ use Rattle.droid_frame.specs.types.hash_kind.HashKind.{HashKind}
 use Rattle.droid_frame.specs.types.hash_kind.HashKind.TheVariants as hashes
 use Rattle.droid_desk_arguments.specs.Commands.{program}
 use Rattle.droid_desk_arguments.specs.declared.arguments.Asked.{Asked}
-use Rattle.droid_desk_arguments.specs.declared.arguments.Asked.TheVariants.{Profile, Submit, Script, Run, Serve, Send}
+use Rattle.droid_desk_arguments.specs.declared.arguments.Asked.TheVariants.{Profile, Submit, Verify, Script, Run, Serve, Send}
 use Rattle.droid_desk_arguments.specs.declared.profile.ProfileOptions.{ProfileOptions}
 use Rattle.droid_desk_arguments.specs.declared.source.RegistrySource.{RegistrySource}
 use Rattle.droid_desk_arguments.specs.declared.source.RegistrySource.TheVariants as sources
 use Rattle.droid_desk_arguments.specs.declared.submit.Destination.{Destination}
 use Rattle.droid_desk_arguments.specs.declared.submit.SubmitOptions.{SubmitOptions}
+use Rattle.droid_desk_arguments.specs.declared.verify.VerifyOptions.{VerifyOptions}
 
 -- the number that a text's digits write; a plus may stand first
 abbrev pub number_of : Text → ℕ
@@ -90,10 +91,17 @@ pub record IsSubmit (rows : List Row) (options : SubmitOptions) : Type 0 where
   pub skipped : option_map (λ path. path.now) options.skipped ≡ first_of (codes "skipped") rows
   pub quiet : IsFlag (one_of (codes "quiet") rows) options.quiet
 
+-- the options of `verify`
+pub record IsVerify (rows : List Row) (options : VerifyOptions) : Type 0 where
+  pub folder : Some options.folder.now ≡ first_of (codes "folder") rows
+  pub against : Some options.against.now ≡ first_of (codes "against") rows
+  pub quiet : IsFlag (one_of (codes "quiet") rows) options.quiet
+
 -- what the options of the command with this name ask for
 abbrev pub IsAskedBy : Text → List Row → Asked → Type 0
 IsAskedBy name rows (Profile options) = (name ≡ codes "profile") × IsProfile rows options
 IsAskedBy name rows (Submit options) = (name ≡ codes "submit") × IsSubmit rows options
+IsAskedBy name rows (Verify options) = (name ≡ codes "verify") × IsVerify rows options
 IsAskedBy name rows (Script registry) = (name ≡ codes "script") × IsSource rows registry
 IsAskedBy name rows (Run registry) = (name ≡ codes "run") × IsSource rows registry
 IsAskedBy name rows (Serve registry port connections) =

@@ -100,6 +100,12 @@ submit_files =
 abbrev pub submit_command : App
 submit_command = with_rule (with_rule (with_rule submit_files export_option) skipped_option) (flag_named (codes "quiet"))
 
+abbrev pub against_option : Rule
+against_option = needed (option_named (codes "against"))
+
+abbrev pub verify_command : App
+verify_command = with_rule (with_rule (with_rule (new_app (codes "verify")) folder_word) against_option) (flag_named (codes "quiet"))
+
 abbrev pub everyday_flag : Rule
 everyday_flag = flag_named (codes "everyday")
 
@@ -122,7 +128,7 @@ send_command = with_rule (with_rule (with_rule (new_app (codes "send")) port_opt
 abbrev pub top_command : App → App
 top_command a = record a { top = record a.top { subcommand_required = true; has_version = true } }
 
--- the program with its six commands
+-- the program with its seven commands
 abbrev pub program : App
 program =
     with_subcommand
@@ -130,8 +136,10 @@ program =
     (with_subcommand
     (with_subcommand
     (with_subcommand
+    (with_subcommand
     (with_subcommand (top_command (new_app (codes "droid_desk"))) profile_command.top)
     submit_command.top)
+    verify_command.top)
     script_command.top)
     run_command.top)
     serve_command.top)

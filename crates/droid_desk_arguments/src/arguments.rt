@@ -15,6 +15,7 @@ use crate::stream_help::{
     SEND_PORT_HELP, SERVE_ABOUT, SERVE_HELP, SERVE_PORT_HELP,
 };
 use crate::submit::{SUBMIT, SubmitOptions, submit, submit_asked};
+use crate::verify::{VERIFY, VerifyOptions, verify, verify_asked};
 use clap::builder::ValueParser;
 use clap::error::ErrorKind;
 use clap::{Arg, ArgAction, ArgMatches, Command, Error};
@@ -66,6 +67,8 @@ pub enum Asked<'a> {
     Profile(ProfileOptions<'a>),
     /// Submit a folder of this machine to a service.
     Submit(SubmitOptions<'a>),
+    /// Compare a folder of this machine with a list of its files.
+    Verify(VerifyOptions<'a>),
     /// Run a script.
     Script {
         registry: RegistrySource<'a>,
@@ -145,6 +148,9 @@ fn asked_by<'a>(matches: &ArgMatches<'a>) -> Option<Asked<'a>>
     if let Some(submit) = matches.subcommand_matches(SUBMIT) {
         return submit_asked(submit);
     }
+    if let Some(verify) = matches.subcommand_matches(VERIFY) {
+        return verify_asked(verify);
+    }
     if let Some(script) = matches.subcommand_matches(SCRIPT) {
         return script_asked(script);
     }
@@ -203,6 +209,7 @@ fn command<'a>(alloc: Global) -> Result<Command<'a>, AllocError>
     top(alloc)
         .subcommand(profile(alloc)?)?
         .subcommand(submit(alloc)?)?
+        .subcommand(verify(alloc)?)?
         .subcommand(script(alloc)?)?
         .subcommand(run(alloc)?)?
         .subcommand(serve(alloc)?)?

@@ -10,9 +10,12 @@ mod source;
 mod stream_help;
 mod submit;
 mod submit_help;
+mod verify;
+mod verify_help;
 
 pub use arguments::{Asked, what_is_asked};
 pub use no_command::{NoCommand, unread_words};
 pub use profile::ProfileOptions;
 pub use source::RegistrySource;
 pub use submit::{Destination, SubmitOptions};
+pub use verify::VerifyOptions;
