@@ -11,7 +11,7 @@ use Rattle.std.proofs.lemmas.Map.Keys.{any_passes_from_place}
 use Rattle.std.proofs.lemmas.Slice.Eq.{bytes_eq-Decides}
 use Rattle.droid_frame.specs.Hashes.{hash_bytes}
 use Rattle.droid_fixity_forms.specs.Inventories.{AreInOrder, IsBefore}
-use Rattle.droid_fixity_forms.specs.Items.{bears, changes_between, is_any}
+use Rattle.droid_fixity_forms.specs.Items.{bears, changes_between, is_any, other_moment}
 use Rattle.droid_fixity_forms.specs.Reports.{IsDifference, changed, is_absent, missing, moved, new, path_at, path_of, touched}
 use Rattle.droid_fixity_forms.specs.item_types.difference.Difference.{Difference}
 use Rattle.droid_fixity_forms.specs.item_types.item.Item.{Item}
@@ -80,16 +80,21 @@ only_passes test other items item only =
 
 -- ---- the report
 
-module _ (listed found : List Item) (l f : ℕ) (a b : Item) (up : AreInOrder (paths listed)) (down : AreInOrder (paths found)) (here : slice_get listed l ≡ Some a) (there : slice_get found f ≡ Some b)
-    (same : a.path ≡ b.path) (alike : is_any (changes_between a b) ≡ false) where
-  silent : (d : Difference) → IsDifference listed found d → is_reported d ≡ true → path_of listed found d ≡ a.path → ⊥
+module _ (quick : Bool) (listed found : List Item) (l f : ℕ) (a b : Item) (up : AreInOrder (paths listed)) (down : AreInOrder (paths found)) (here : slice_get listed l ≡ Some a) (there : slice_get found f ≡ Some b)
+    (same : a.path ≡ b.path) (alike : is_any (changes_between a b) ≡ false) (moment : quick ≡ true → other_moment a.modified b.modified ≡ false) where
+  silent : (d : Difference) → IsDifference listed found d → is_reported quick d ≡ true → path_of listed found d ≡ a.path → ⊥
   silent d (changed {l = k} {f = g} {a = c} {b = e} at also one any) reported is =
       let path : c.path ≡ a.path = sym (path_is listed k c at) ∙ is in
       let first : c ≡ a = one_item listed k l c a up at here path in
       let second : e ≡ b = one_item found g f e b down also there (sym one ∙ (path ∙ same)) in
       let bad : true ≡ false = sym any ∙ (ap (λ (x : Item). is_any (changes_between x e)) first ∙ (ap (λ (x : Item). is_any (changes_between a x)) second ∙ alike)) in
       cc
-  silent d (touched at also one none other) reported is = cc
+  silent d (touched {l = k} {f = g} {a = c} {b = e} at also one none other) reported is =
+      let path : c.path ≡ a.path = sym (path_is listed k c at) ∙ is in
+      let first : c ≡ a = one_item listed k l c a up at here path in
+      let second : e ≡ b = one_item found g f e b down also there (sym one ∙ (path ∙ same)) in
+      let bad : true ≡ false = sym other ∙ (ap (λ (x : Item). other_moment x.modified e.modified) first ∙ (ap (λ (x : Item). other_moment a.modified x.modified) second ∙ moment reported)) in
+      cc
   silent d (missing {l = k} {a = c} at absent never) reported is =
       let path : c.path ≡ a.path = sym (path_is listed k c at) ∙ is in
       let bad : true ≡ false = sym absent ∙ absent_there c.path found f b there (path ∙ same) in
@@ -104,6 +109,6 @@ module _ (listed found : List Item) (l f : ℕ) (a b : Item) (up : AreInOrder (p
       let bad : true ≡ false = sym absent ∙ absent_there c.path found f b there (path ∙ same) in
       cc
 
-  pub all_silent : (report : List Difference) → AllByRecursion (IsDifference listed found) report → AllByRecursion (IsSilentAt listed found a.path) report
+  pub all_silent : (report : List Difference) → AllByRecursion (IsDifference listed found) report → AllByRecursion (IsSilentAt quick listed found a.path) report
   all_silent [] all = tt
   all_silent (d ∷ report) all = ((λ reported is. silent d all.0 reported is), all_silent report all.1)

@@ -12,17 +12,18 @@ use Rattle.droid_desk_comparison.specs.declared.finding.Finding.{Finding}
 use Rattle.droid_desk_comparison.specs.declared.finding.Kind.{Kind}
 use Rattle.droid_desk_comparison.specs.declared.finding.Kind.TheVariants.{Differs, Unreadable}
 
--- another moment alone is no difference: copies of a folder have other moments
-abbrev pub is_reported : Difference → Bool
-is_reported (Changed l f changes) = true
-is_reported (Missing l) = true
-is_reported (New f) = true
-is_reported (Moved l f) = true
-is_reported (Touched l f) = false
+-- Another moment alone is no difference where hashes are compared: copies of a folder have other moments. It is one where
+-- sizes and moments alone are.
+abbrev pub is_reported : Bool → Difference → Bool
+is_reported quick (Changed l f changes) = true
+is_reported quick (Missing l) = true
+is_reported quick (New f) = true
+is_reported quick (Moved l f) = true
+is_reported quick (Touched l f) = quick
 
 -- a difference is not reported, or it has another path
-abbrev pub IsSilentAt : List Item → List Item → List ℕ → Difference → Type 0
-IsSilentAt listed found path difference = is_reported difference ≡ true → ¬ (path_of listed found difference ≡ path)
+abbrev pub IsSilentAt : Bool → List Item → List Item → List ℕ → Difference → Type 0
+IsSilentAt quick listed found path difference = is_reported quick difference ≡ true → ¬ (path_of listed found difference ≡ path)
 
 -- a difference, at the path of the list, if the list has it
 abbrev pub difference_at : List Item → List Item → Difference → Finding
@@ -33,10 +34,10 @@ abbrev pub unreadable_at : SkippedEntry → Finding
 unreadable_at entry = record { path = entry.path; kind = Unreadable entry.why }
 
 -- what is reported: the differences, and all that is unreadable
-abbrev pub findings_in : List Item → List Item → List Difference → List SkippedEntry → List Finding
-findings_in listed found differences unreadable = map (difference_at listed found) (filter is_reported differences) ++ map unreadable_at unreadable
+abbrev pub findings_in : Bool → List Item → List Item → List Difference → List SkippedEntry → List Finding
+findings_in quick listed found differences unreadable = map (difference_at listed found) (filter (is_reported quick) differences) ++ map unreadable_at unreadable
 
 -- each once, in order of path
-pub record AreFindings (listed found : List Item) (differences : List Difference) (unreadable : List SkippedEntry) (findings : List Finding) : Type 0 where
-  pub same : IsPermutation (findings_in listed found differences unreadable) findings
+pub record AreFindings (quick : Bool) (listed found : List Item) (differences : List Difference) (unreadable : List SkippedEntry) (findings : List Finding) : Type 0 where
+  pub same : IsPermutation (findings_in quick listed found differences unreadable) findings
   pub in_order : IsSortedBy (λ a b. is_before a.path b.path) findings

@@ -32,20 +32,22 @@ pub enum Kind {
     Unreadable(Skipped),
 }
 
-/// Returns what is reported, in order of path: the differences, but for those of the moment alone, and all that is
-/// unreadable.
+/// Returns what is reported, in order of path: the differences, and all that is unreadable. Those of the moment alone are
+/// reported only if no file was read (`quick`).
 pub fn findings_of(
     alloc: Global,
+    quick: bool,
     checked: &Checked,
     unreadable: &[SkippedEntry],
 ) -> Result<Vec<Finding>, AllocError>
-    ensures { IfOk result (λ findings. AreFindings checked.now.listed checked.now.found checked.now.differences.items unreadable.now findings.items) }
+    ensures { IfOk result (λ findings. AreFindings quick checked.now.listed checked.now.found checked.now.differences.items unreadable.now findings.items) }
 {
     let mut findings = Vec::new(alloc);
     let listed = checked.listed.as_slice();
     let found = checked.found.as_slice();
     add_differences(
         alloc,
+        quick,
         &mut findings,
         listed,
         found,
@@ -63,33 +65,35 @@ fn order_of(first: &Finding, second: &Finding) -> Ordering
     first.path.as_slice().cmp(second.path.as_slice())
 }
 
-/// Appends the differences, but for those of the moment alone.
+/// Appends the differences that are reported.
 fn add_differences(
     alloc: Global,
+    quick: bool,
     findings: &mut Vec<Finding>,
     listed: &[Item],
     found: &[Item],
     differences: &[Difference],
 ) -> Result<(), AllocError>
-    ensures { OnOk result (findings.new.items ≡ findings.old.items ++ map (difference_at listed.now found.now) (filter is_reported differences.now)) }
+    ensures { OnOk result (findings.new.items ≡ findings.old.items ++ map (difference_at listed.now found.now) (filter (is_reported quick) differences.now)) }
 {
     for difference in differences {
-        add_difference(alloc, findings, listed, found, *difference)?;
+        add_difference(alloc, quick, findings, listed, found, *difference)?;
     }
     Ok(())
 }
 
-/// Appends a difference, unless it is one of the moment alone.
+/// Appends a difference, if it is reported.
 fn add_difference(
     alloc: Global,
+    quick: bool,
     findings: &mut Vec<Finding>,
     listed: &[Item],
     found: &[Item],
     difference: Difference,
 ) -> Result<(), AllocError>
-    ensures { OnOk result (findings.new.items ≡ findings.old.items ++ map (difference_at listed.now found.now) (filter is_reported (difference ∷ []))) }
+    ensures { OnOk result (findings.new.items ≡ findings.old.items ++ map (difference_at listed.now found.now) (filter (is_reported quick) (difference ∷ []))) }
 {
-    if is_reported(difference) {
+    if is_reported(quick, difference) {
         let path = Blob::copy_of(alloc, path_of(listed, found, difference))?;
         let kind = Kind::Differs(difference);
         findings.push(Finding { path, kind })?;
@@ -97,16 +101,16 @@ fn add_difference(
     Ok(())
 }
 
-/// Returns whether a difference is not one of the moment alone.
-fn is_reported(difference: Difference) -> bool
-    ensures { result ≡ is_reported difference }
+/// Returns whether a difference is reported.
+fn is_reported(quick: bool, difference: Difference) -> bool
+    ensures { result ≡ is_reported quick difference }
 {
     match difference {
         Difference::Changed { .. } => true,
         Difference::Missing { .. } => true,
         Difference::New { .. } => true,
         Difference::Moved { .. } => true,
-        Difference::Touched { .. } => false,
+        Difference::Touched { .. } => quick,
     }
 }
 

@@ -1,6 +1,6 @@
 //! Laws of a comparison. Each is the contract of a function that does nothing.
 
-ghost use Rattle.std.specs.Prelude.{◌≡◌, ℕ, Bool, List, [], Ok, Some, false, filter, map, slice_get};
+ghost use Rattle.std.specs.Prelude.{◌≡◌, ℕ, Bool, List, [], Ok, Some, true, false, filter, map, slice_get};
 ghost use Rattle.std.specs.List.{AllByRecursion};
 ghost use Rattle.droid_desk_comparison.specs.CheckedTrees.{items_of, readable_in};
 ghost use Rattle.droid_desk_comparison.specs.Findings.{AreFindings, IsSilentAt};
@@ -13,7 +13,7 @@ ghost use Rattle.droid_desk_comparison.specs.declared.tree_check.Checked.{Checke
 ghost use Rattle.droid_desk_profile.specs.Filters.{meets};
 ghost use Rattle.droid_desk_profile.specs.Text.{text};
 ghost use Rattle.droid_fixity_forms.specs.Inventories.{AreInOrder};
-ghost use Rattle.droid_fixity_forms.specs.Items.{changes_between, is_any};
+ghost use Rattle.droid_fixity_forms.specs.Items.{changes_between, is_any, other_moment};
 ghost use Rattle.droid_fixity_forms.specs.Reports.{IsReport};
 ghost use Rattle.droid_fixity_forms.specs.item_types.difference.Difference.{Difference};
 ghost use Rattle.droid_fixity_forms.specs.item_types.item.Item.{Item};
@@ -40,12 +40,12 @@ pub fn a_profile_agrees_with_its_tree()
 
 /// States that nothing is reported where there is no difference and nothing is unreadable.
 pub fn nothing_is_reported_of_agreement()
-    ensures { (listed found : List Item) (findings : List Finding) → AreFindings listed found [] [] findings → findings ≡ [] }
+    ensures { (quick : Bool) (listed found : List Item) (findings : List Finding) → AreFindings quick listed found [] [] findings → findings ≡ [] }
 {}
 
-/// States that nothing is reported at the path of an item of the list that agrees with what was found: the same kind, and
-/// the same length and hash where both have one.
+/// States that nothing is reported at the path of an item of the list that agrees with what was found: the same kind, the
+/// same length and hash where both have one, and the same moment if moments are reported.
 pub fn what_agrees_is_not_reported()
-    ensures { (listed found : List Item) (report : List Difference) (l f : ℕ) (a b : Item) → AreInOrder (map (λ item. item.path) listed) → AreInOrder (map (λ item. item.path) found) → IsReport listed found report
-        → slice_get listed l ≡ Some a → slice_get found f ≡ Some b → a.path ≡ b.path → is_any (changes_between a b) ≡ false → AllByRecursion (IsSilentAt listed found a.path) report }
+    ensures { (quick : Bool) (listed found : List Item) (report : List Difference) (l f : ℕ) (a b : Item) → AreInOrder (map (λ item. item.path) listed) → AreInOrder (map (λ item. item.path) found) → IsReport listed found report
+        → slice_get listed l ≡ Some a → slice_get found f ≡ Some b → a.path ≡ b.path → is_any (changes_between a b) ≡ false → (quick ≡ true → other_moment a.modified b.modified ≡ false) → AllByRecursion (IsSilentAt quick listed found a.path) report }
 {}

@@ -5,6 +5,8 @@
 mod finding;
 mod item_keeper;
 pub mod laws;
+mod listing_check;
+mod noted_files;
 mod readable_items;
 mod report;
 mod summary;
@@ -17,6 +19,8 @@ pub use droid_desk_profile::{
 pub use droid_fixity_forms::{ListForm, Listed, ManifestForm, UnreadList, read_list};
 pub use finding::{Finding, Kind, findings_of};
 pub use item_keeper::ItemKeeper;
+pub use listing_check::check_listing;
+pub use noted_files::NotedFiles;
 pub use report::report_text;
 pub use summary::{KindCounts, Summary, bytes_in, files_in};
 pub use tree_check::{CheckFault, Checked, check_tree};

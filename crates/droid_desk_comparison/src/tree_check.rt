@@ -83,14 +83,14 @@ pub fn check_tree<T: Tree, W: Watcher>(
 }
 
 /// Takes the items out.
-fn take_items(alloc: Global, items: &mut Vec<Item>) -> Vec<Item>
+pub(crate) fn take_items(alloc: Global, items: &mut Vec<Item>) -> Vec<Item>
     ensures { result.items ≡ items.old.items }
 {
     mem::replace(items, Vec::new(alloc))
 }
 
 /// Returns the options with this kind of hash.
-fn options_for(options: Options, hash: HashKind) -> Options
+pub(crate) fn options_for(options: Options, hash: HashKind) -> Options
     ensures { result ≡ options_for options hash }
 {
     Options {
@@ -101,7 +101,7 @@ fn options_for(options: Options, hash: HashKind) -> Options
 }
 
 /// Returns the fault that a fault of the walk is.
-fn fault_of(fault: ProfileFault) -> CheckFault
+pub(crate) fn fault_of(fault: ProfileFault) -> CheckFault
     ensures { result ≡ fault_of fault }
 {
     match fault {
@@ -113,7 +113,7 @@ fn fault_of(fault: ProfileFault) -> CheckFault
 }
 
 /// Compares the items of a list with those that were found. The recorder then keeps what is unreadable.
-fn compare_found<W>(
+pub(crate) fn compare_found<W>(
     alloc: Global,
     recorder: &mut Recorder<W>,
     listed: Inventory,
