@@ -95,6 +95,7 @@ pub record IsSubmit (rows : List Row) (options : SubmitOptions) : Type 0 where
 pub record IsVerify (rows : List Row) (options : VerifyOptions) : Type 0 where
   pub folder : Some options.folder.now ≡ first_of (codes "folder") rows
   pub against : Some options.against.now ≡ first_of (codes "against") rows
+  pub quick : IsFlag (one_of (codes "quick") rows) options.quick
   pub quiet : IsFlag (one_of (codes "quiet") rows) options.quiet
 
 -- what the options of the command with this name ask for

@@ -104,7 +104,7 @@ abbrev pub against_option : Rule
 against_option = needed (option_named (codes "against"))
 
 abbrev pub verify_command : App
-verify_command = with_rule (with_rule (with_rule (new_app (codes "verify")) folder_word) against_option) (flag_named (codes "quiet"))
+verify_command = with_rule (with_rule (with_rule (with_rule (new_app (codes "verify")) folder_word) against_option) (flag_named (codes "quick"))) (flag_named (codes "quiet"))
 
 abbrev pub everyday_flag : Rule
 everyday_flag = flag_named (codes "everyday")

@@ -9,7 +9,9 @@ ghost use Rattle.droid_desk_arguments.specs.Commands.{against_option, verify_com
 use crate::arguments::Asked;
 use crate::profile::{FOLDER, QUIET, flag, flag_of, folder, named};
 use crate::profile_help::QUIET_HELP;
-use crate::verify_help::{AGAINST_HELP, VERIFY_ABOUT, VERIFY_FOLDER_HELP, VERIFY_HELP};
+use crate::verify_help::{
+    AGAINST_HELP, QUICK_HELP, VERIFY_ABOUT, VERIFY_FOLDER_HELP, VERIFY_HELP,
+};
 use clap::{Arg, ArgMatches, Command};
 use std::alloc::{AllocError, Global};
 
@@ -18,6 +20,8 @@ pub(crate) const VERIFY: &str = "verify";
 
 const AGAINST: &str = "against";
 
+const QUICK: &str = "quick";
+
 /// The folder to compare, and with what.
 #[derive(Clone, Copy)]
 pub struct VerifyOptions<'a> {
@@ -25,6 +29,8 @@ pub struct VerifyOptions<'a> {
     pub folder: &'a str,
     /// The path of the list of its files.
     pub against: &'a str,
+    /// Whether sizes and moments alone are compared, and no file is read.
+    pub quick: bool,
     /// Whether neither progress nor the summary is printed.
     pub quiet: bool,
 }
@@ -41,10 +47,12 @@ fn verify_options<'a>(verify: &ArgMatches<'a>) -> Option<VerifyOptions<'a>>
 {
     let folder = verify.get_str(FOLDER)?;
     let against = verify.get_str(AGAINST)?;
+    let quick = flag_of(verify, QUICK);
     let quiet = flag_of(verify, QUIET);
     Some(VerifyOptions {
         folder,
         against,
+        quick,
         quiet,
     })
 }
@@ -58,6 +66,7 @@ pub(crate) fn verify<'a>(alloc: Global) -> Result<Command<'a>, AllocError>
         .after_help(VERIFY_HELP)
         .arg(folder(alloc, VERIFY_FOLDER_HELP))?
         .arg(against(alloc))?
+        .arg(flag(alloc, QUICK, QUICK_HELP))?
         .arg(flag(alloc, QUIET, QUIET_HELP))
 }
 

@@ -8,6 +8,8 @@ pub const VERIFY_FOLDER_HELP: &str = "The folder to compare: everything inside i
 pub const AGAINST_HELP: &str =
     "Compare with this file: the CSV of `profile` or of `submit --export`, or a list of checksums";
 
+pub const QUICK_HELP: &str = "Compare sizes and moments alone, and read no file";
+
 pub const VERIFY_HELP: &str = "\
 FILE is the CSV of `profile` or of `submit --export`, with any of the three hash columns, or a list as
 `md5sum` and `sha256sum` write it, with paths below DIR. If DIR is a bag (it has a bagit.txt) and the
@@ -25,11 +27,11 @@ Standard output gets a CSV: a header, and a row for each difference, in the orde
 
 `path` is the path below DIR and begins with `/`; `size` and `hash` are those of FILE, `found_path`,
 `found_size` and `found_hash` those of DIR, and `reason` says why something is unreadable. Sizes are
-compared where FILE has them, and moments never. A list of checksums names files alone, so folders are
-then not compared.
+compared where FILE has them, and moments only with --quick. A list of checksums names files alone, so
+folders are then not compared; it has no sizes, so with --quick only the names of files are.
 
 Symbolic links below DIR are never followed, and count as if they were not there. Standard error has
-what was left out, the progress, and a summary at the end: how many files and bytes were compared, and
+what was skipped, the progress, and a summary at the end: how many files and bytes were compared, and
 how many differences of each kind there are.
 
 Exit status:

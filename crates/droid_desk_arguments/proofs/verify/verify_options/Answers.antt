@@ -9,5 +9,6 @@ returns c =
     record {
       folder = c.in_ok-folder.ensures ∙ first_value-rows found (codes "folder");
       against = c.in_ok-against.ensures ∙ first_value-rows found (codes "against");
+      quick = c.flag_of-quick.ensures;
       quiet = c.flag_of-quiet.ensures;
     }
