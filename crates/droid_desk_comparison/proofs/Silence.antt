@@ -6,6 +6,7 @@ use Rattle.std.specs.Option.{option_map_or}
 use Rattle.std.specs.Ordering.{nat_cmp}
 use Rattle.std.specs.Str.{bytes_eq}
 use Rattle.std.specs.declared.cmp.Ordering.TheVariants.{Less, Equal}
+use Rattle.std.proofs.lemmas.Bool.{and_parts}
 use Rattle.std.proofs.lemmas.Cmp.{nat_list_cmp_total, tied_itself}
 use Rattle.std.proofs.lemmas.Map.Keys.{any_passes_from_place}
 use Rattle.std.proofs.lemmas.Slice.Eq.{bytes_eq-Decides}
@@ -15,7 +16,7 @@ use Rattle.droid_fixity_forms.specs.Items.{bears, changes_between, is_any, other
 use Rattle.droid_fixity_forms.specs.Reports.{IsDifference, changed, is_absent, missing, moved, new, path_at, path_of, touched}
 use Rattle.droid_fixity_forms.specs.item_types.difference.Difference.{Difference}
 use Rattle.droid_fixity_forms.specs.item_types.item.Item.{Item}
-use Rattle.droid_desk_comparison.specs.Findings.{IsSilentAt, is_reported}
+use Rattle.droid_desk_comparison.specs.Findings.{IsSilentAt, is_file_at, is_reported}
 
 abbrev paths : List Item → List (List ℕ)
 paths items = map (λ item. item.path) items
@@ -82,7 +83,7 @@ only_passes test other items item only =
 
 module _ (quick : Bool) (listed found : List Item) (l f : ℕ) (a b : Item) (up : AreInOrder (paths listed)) (down : AreInOrder (paths found)) (here : slice_get listed l ≡ Some a) (there : slice_get found f ≡ Some b)
     (same : a.path ≡ b.path) (alike : is_any (changes_between a b) ≡ false) (moment : quick ≡ true → other_moment a.modified b.modified ≡ false) where
-  silent : (d : Difference) → IsDifference listed found d → is_reported quick d ≡ true → path_of listed found d ≡ a.path → ⊥
+  silent : (d : Difference) → IsDifference listed found d → is_reported quick found d ≡ true → path_of listed found d ≡ a.path → ⊥
   silent d (changed {l = k} {f = g} {a = c} {b = e} at also one any) reported is =
       let path : c.path ≡ a.path = sym (path_is listed k c at) ∙ is in
       let first : c ≡ a = one_item listed k l c a up at here path in
@@ -93,7 +94,7 @@ module _ (quick : Bool) (listed found : List Item) (l f : ℕ) (a b : Item) (up 
       let path : c.path ≡ a.path = sym (path_is listed k c at) ∙ is in
       let first : c ≡ a = one_item listed k l c a up at here path in
       let second : e ≡ b = one_item found g f e b down also there (sym one ∙ (path ∙ same)) in
-      let bad : true ≡ false = sym other ∙ (ap (λ (x : Item). other_moment x.modified e.modified) first ∙ (ap (λ (x : Item). other_moment a.modified x.modified) second ∙ moment reported)) in
+      let bad : true ≡ false = sym other ∙ (ap (λ (x : Item). other_moment x.modified e.modified) first ∙ (ap (λ (x : Item). other_moment a.modified x.modified) second ∙ moment (and_parts quick (is_file_at found g) reported).0)) in
       cc
   silent d (missing {l = k} {a = c} at absent never) reported is =
       let path : c.path ≡ a.path = sym (path_is listed k c at) ∙ is in

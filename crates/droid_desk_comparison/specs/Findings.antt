@@ -1,7 +1,9 @@
 -- What is reported of a tree beside a list, in order of path (this project's own).
-use Rattle.std.specs.Prelude.{◌≡◌, ℕ, Bool, true, false, List, [], ◌∷◌, ◌++◌, filter, map, IsPermutation}
+use Rattle.std.specs.Prelude.{◌≡◌, ◌&&◌, ℕ, Bool, true, false, List, [], ◌∷◌, ◌++◌, filter, map, slice_get, IsPermutation}
+use Rattle.std.specs.Option.{option_map_or}
 use Rattle.std.specs.List.Sorted.{IsSortedBy}
 use Rattle.droid_fixity_forms.specs.Inventories.{is_before}
+use Rattle.droid_fixity_forms.specs.Items.{is_file}
 use Rattle.droid_fixity_forms.specs.Reports.{path_of}
 use Rattle.droid_fixity_forms.specs.item_types.difference.Difference.{Difference}
 use Rattle.droid_fixity_forms.specs.item_types.difference.Difference.TheVariants.{Changed, Missing, New, Moved, Touched}
@@ -12,18 +14,22 @@ use Rattle.droid_desk_comparison.specs.declared.finding.Finding.{Finding}
 use Rattle.droid_desk_comparison.specs.declared.finding.Kind.{Kind}
 use Rattle.droid_desk_comparison.specs.declared.finding.Kind.TheVariants.{Differs, Unreadable}
 
--- Another moment alone is no difference where hashes are compared: copies of a folder have other moments. It is one where
--- sizes and moments alone are.
-abbrev pub is_reported : Bool → Difference → Bool
-is_reported quick (Changed l f changes) = true
-is_reported quick (Missing l) = true
-is_reported quick (New f) = true
-is_reported quick (Moved l f) = true
-is_reported quick (Touched l f) = quick
+-- whether the item at this place is a file
+abbrev pub is_file_at : List Item → ℕ → Bool
+is_file_at items place = option_map_or (λ item. is_file item.kind) (slice_get items place) false
+
+-- Another moment alone is no difference where files are read: copies of a folder have other moments. Where they are not
+-- (`quick`), a file with another moment differs; a folder has another moment whenever something in it comes or goes.
+abbrev pub is_reported : Bool → List Item → Difference → Bool
+is_reported quick found (Changed l f changes) = true
+is_reported quick found (Missing l) = true
+is_reported quick found (New f) = true
+is_reported quick found (Moved l f) = true
+is_reported quick found (Touched l f) = quick && is_file_at found f
 
 -- a difference is not reported, or it has another path
 abbrev pub IsSilentAt : Bool → List Item → List Item → List ℕ → Difference → Type 0
-IsSilentAt quick listed found path difference = is_reported quick difference ≡ true → ¬ (path_of listed found difference ≡ path)
+IsSilentAt quick listed found path difference = is_reported quick found difference ≡ true → ¬ (path_of listed found difference ≡ path)
 
 -- a difference, at the path of the list, if the list has it
 abbrev pub difference_at : List Item → List Item → Difference → Finding
@@ -35,7 +41,7 @@ unreadable_at entry = record { path = entry.path; kind = Unreadable entry.why }
 
 -- what is reported: the differences, and all that is unreadable
 abbrev pub findings_in : Bool → List Item → List Item → List Difference → List SkippedEntry → List Finding
-findings_in quick listed found differences unreadable = map (difference_at listed found) (filter (is_reported quick) differences) ++ map unreadable_at unreadable
+findings_in quick listed found differences unreadable = map (difference_at listed found) (filter (is_reported quick found) differences) ++ map unreadable_at unreadable
 
 -- each once, in order of path
 pub record AreFindings (quick : Bool) (listed found : List Item) (differences : List Difference) (unreadable : List SkippedEntry) (findings : List Finding) : Type 0 where

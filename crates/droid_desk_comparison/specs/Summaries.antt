@@ -1,5 +1,5 @@
 -- The summary of a comparison (this project's own).
-use Rattle.std.specs.Prelude.{ℕ, ◌+◌, ◌-◌, ◌^◌, min, List, ◌∷◌, [], ◌++◌, Option, Some, None, codes}
+use Rattle.std.specs.Prelude.{ℕ, ◌+◌, ◌-◌, ◌^◌, min, Bool, true, false, List, ◌∷◌, [], ◌++◌, Option, Some, None, codes}
 use Rattle.std.specs.Fmt.{decimal}
 use Rattle.std.specs.List.{fold}
 use Rattle.droid_fixity_forms.specs.item_types.difference.Difference.TheVariants.{Changed, Missing, New, Moved, Touched}
@@ -53,11 +53,20 @@ bytes_in items = fold (λ bytes item. min (bytes + known_bytes item.length) (2 ^
 unfoldable pub count_line : List ℕ → ℕ → List ℕ
 count_line name count = name ++ (codes ": " ++ (decimal count ++ 10 ∷ []))
 
+-- whether the files were read is said of their number and of their bytes
+abbrev pub files_name : Bool → List ℕ
+files_name false = codes "files compared"
+files_name true = codes "files compared by size and moment alone"
+
+abbrev pub bytes_name : Bool → List ℕ
+bytes_name false = codes "bytes compared"
+bytes_name true = codes "bytes not read"
+
 -- the text
 unfoldable pub summary_text : Summary → List ℕ
 summary_text summary =
-    count_line (codes "files compared") summary.files
-    ++ (count_line (codes "bytes compared") summary.bytes
+    count_line (files_name summary.quick) summary.files
+    ++ (count_line (bytes_name summary.quick) summary.bytes
     ++ (count_line (codes "changed") summary.kinds.changed
     ++ (count_line (codes "missing") summary.kinds.missing
     ++ (count_line (codes "new") summary.kinds.added

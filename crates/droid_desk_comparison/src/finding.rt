@@ -4,12 +4,13 @@ ghost use Rattle.std.specs.Prelude.{◌≡◌, ◌++◌, [], ◌∷◌, IfOk, On
 ghost use Rattle.std.specs.Ordering.{nat_cmp};
 ghost use Rattle.std.specs.Cmp.Lexicographic.{slice_cmp};
 ghost use Rattle.droid_fixity_forms.specs.Reports.{path_at, path_of};
-ghost use Rattle.droid_desk_comparison.specs.Findings.{AreFindings, difference_at, is_reported, unreadable_at};
+ghost use Rattle.droid_desk_comparison.specs.Findings.{AreFindings, difference_at, is_file_at, is_reported, unreadable_at};
+ghost use Rattle.droid_fixity_forms.specs.Items as items;
 
 use crate::tree_check::Checked;
 use droid_desk_profile::SkippedEntry;
 use droid_fixity_forms::{Difference, Item};
-use droid_frame::Blob;
+use droid_frame::{Blob, NodeKind};
 use droid_tree::Skipped;
 use std::alloc::{AllocError, Global};
 use std::cmp::Ordering;
@@ -33,7 +34,7 @@ pub enum Kind {
 }
 
 /// Returns what is reported, in order of path: the differences, and all that is unreadable. Those of the moment alone are
-/// reported only if no file was read (`quick`).
+/// reported only if no file was read (`quick`), and of files.
 pub fn findings_of(
     alloc: Global,
     quick: bool,
@@ -74,7 +75,7 @@ fn add_differences(
     found: &[Item],
     differences: &[Difference],
 ) -> Result<(), AllocError>
-    ensures { OnOk result (findings.new.items ≡ findings.old.items ++ map (difference_at listed.now found.now) (filter (is_reported quick) differences.now)) }
+    ensures { OnOk result (findings.new.items ≡ findings.old.items ++ map (difference_at listed.now found.now) (filter (is_reported quick found.now) differences.now)) }
 {
     for difference in differences {
         add_difference(alloc, quick, findings, listed, found, *difference)?;
@@ -91,9 +92,9 @@ fn add_difference(
     found: &[Item],
     difference: Difference,
 ) -> Result<(), AllocError>
-    ensures { OnOk result (findings.new.items ≡ findings.old.items ++ map (difference_at listed.now found.now) (filter (is_reported quick) (difference ∷ []))) }
+    ensures { OnOk result (findings.new.items ≡ findings.old.items ++ map (difference_at listed.now found.now) (filter (is_reported quick found.now) (difference ∷ []))) }
 {
-    if is_reported(quick, difference) {
+    if is_reported(quick, found, difference) {
         let path = Blob::copy_of(alloc, path_of(listed, found, difference))?;
         let kind = Kind::Differs(difference);
         findings.push(Finding { path, kind })?;
@@ -102,15 +103,34 @@ fn add_difference(
 }
 
 /// Returns whether a difference is reported.
-fn is_reported(quick: bool, difference: Difference) -> bool
-    ensures { result ≡ is_reported quick difference }
+fn is_reported(quick: bool, found: &[Item], difference: Difference) -> bool
+    ensures { result ≡ is_reported quick found.now difference }
 {
     match difference {
         Difference::Changed { .. } => true,
         Difference::Missing { .. } => true,
         Difference::New { .. } => true,
         Difference::Moved { .. } => true,
-        Difference::Touched { .. } => quick,
+        Difference::Touched { found: place, .. } => quick && is_file_at(found, place),
+    }
+}
+
+/// Returns whether the item at this place is a file.
+fn is_file_at(items: &[Item], place: usize) -> bool
+    ensures { result ≡ is_file_at items.now place }
+{
+    match items.get(place) {
+        Some(item) => is_file(item.kind),
+        None => false,
+    }
+}
+
+fn is_file(kind: NodeKind) -> bool
+    ensures { result ≡ items.is_file kind }
+{
+    match kind {
+        NodeKind::File => true,
+        NodeKind::Folder => false,
     }
 }
 

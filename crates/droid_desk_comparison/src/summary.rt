@@ -26,6 +26,8 @@ pub struct KindCounts {
 /// The summary of a comparison.
 #[derive(Clone, Copy)]
 pub struct Summary {
+    /// Whether no file was read.
+    pub quick: bool,
     /// How many files the folder has.
     pub files: u64,
     /// How many bytes they have together.
@@ -136,13 +138,35 @@ fn line(name: &'static str, count: u64) -> CountLine
     CountLine { name, count }
 }
 
+/// Names the number of files.
+fn files_name(quick: bool) -> &'static str
+    ensures { result.now ≡ summaries.files_name quick }
+{
+    if quick {
+        "files compared by size and moment alone"
+    } else {
+        "files compared"
+    }
+}
+
+/// Names the number of bytes.
+fn bytes_name(quick: bool) -> &'static str
+    ensures { result.now ≡ summaries.bytes_name quick }
+{
+    if quick {
+        "bytes not read"
+    } else {
+        "bytes compared"
+    }
+}
+
 impl Display for Summary {
     ghost output = { λ summary. Some (summaries.summary_text summary) };
 
     #[tactic(auto, unfolding(crate::specs::Summaries::summary_text))]
     fn fmt<W: Write>(&self, f: &mut Formatter<W>) -> fmt::Result {
-        let files = line("files compared", self.files);
-        let bytes = line("bytes compared", self.bytes);
+        let files = line(files_name(self.quick), self.files);
+        let bytes = line(bytes_name(self.quick), self.bytes);
         let changed = line("changed", self.kinds.changed);
         let missing = line("missing", self.kinds.missing);
         let added = line("new", self.kinds.added);

@@ -3,15 +3,18 @@
 use crate::verify_ending::VerifyEnding;
 use droid_desk_arguments::VerifyOptions;
 use droid_desk_comparison::{
-    Checked, Finding, Folder, ItemKeeper, KindCounts, ListForm, Listed, ManifestForm, Options,
-    Profiler, Recorder, Registry, Reporter, Summary, System, Verbosity, bytes_in, check_tree,
-    files_in, findings_of, is_folder, read_list, report_text,
+    CheckFault, Checked, Finding, Folder, ItemKeeper, KindCounts, ListForm, Listed, ManifestForm,
+    NotedFiles, Options, Profiler, Recorder, Registry, Reporter, Summary, System, Verbosity,
+    bytes_in, check_listing, check_tree, files_in, findings_of, is_folder, read_list, report_text,
 };
 use droid_frame::{HashKind, Noted, WriteState, write_all};
 use std::alloc::{AllocError, Global};
 use std::fs::{self, File, Files};
 use std::io::{self, ErrorKind};
 use std::time::Clock;
+
+/// A folder of this machine.
+type FolderTree<'a, R> = Folder<System<'a, R>>;
 
 /// Formats are not asked for, so that a file is searched as little as can be.
 const OPTIONS: Options = Options {
@@ -20,7 +23,7 @@ const OPTIONS: Options = Options {
     hash: HashKind::Nothing,
 };
 
-/// Compares a folder of this machine with a list, and writes what differs to standard output as a CSV. What is left out is
+/// Compares a folder of this machine with a list, and writes what differs to standard output as a CSV. What is skipped is
 /// printed on standard error.
 pub fn verify_folder<R>(rt: &R, options: VerifyOptions<'_>, on_terminal: bool) -> VerifyEnding
 where
@@ -39,7 +42,7 @@ where
     match folder_of(rt, options.folder, listed.form) {
         Ok(tree) => {
             let verbosity = Verbosity::of(options.quiet, on_terminal);
-            check_folder(rt, &registry, verbosity, tree, listed)
+            check_folder(rt, &registry, options, verbosity, tree, listed)
         }
         Err(_) => VerifyEnding::NoMemory,
     }
@@ -79,7 +82,7 @@ fn folder_of<'a, R>(
     rt: &'a R,
     folder: &str,
     form: ListForm,
-) -> Result<Folder<System<'a, R>>, AllocError>
+) -> Result<FolderTree<'a, R>, AllocError>
 where
     R: Files<File = File> + AllocGlobal,
 {
@@ -99,12 +102,36 @@ where
 fn check_folder<'a, R>(
     rt: &'a R,
     registry: &Registry,
+    options: VerifyOptions<'_>,
     verbosity: Verbosity,
-    tree: Folder<System<'a, R>>,
+    tree: FolderTree<'a, R>,
     listed: Listed,
 ) -> VerifyEnding
 where
     R: Files<File = File> + Clock + Print + Eprint + AllocGlobal,
+{
+    let (checked, recorder) = if options.quick {
+        list_files(rt, registry, verbosity, tree, listed)
+    } else {
+        read_files(rt, registry, verbosity, tree, listed)
+    };
+    recorder.watcher.clear();
+    match checked {
+        Ok(checked) => report(rt, options.quick, verbosity, &checked, &recorder),
+        Err(fault) => VerifyEnding::unchecked(fault),
+    }
+}
+
+/// Compares the folder by the hashes of its files.
+fn read_files<'a, R>(
+    rt: &'a R,
+    registry: &Registry,
+    verbosity: Verbosity,
+    tree: FolderTree<'a, R>,
+    listed: Listed,
+) -> (Result<Checked, CheckFault>, Recorder<Reporter<'a, R>>)
+where
+    R: Files<File = File> + Clock + Eprint + AllocGlobal,
 {
     let alloc = rt.alloc();
     let mut profiler = Profiler {
@@ -115,16 +142,37 @@ where
     };
     let checked = check_tree(&mut profiler, registry, OPTIONS, listed);
     let Profiler { watcher, .. } = profiler;
-    watcher.watcher.clear();
-    match checked {
-        Ok(checked) => report(rt, verbosity, &checked, &watcher),
-        Err(fault) => VerifyEnding::unchecked(fault),
-    }
+    (checked, watcher)
+}
+
+/// Compares the folder by the sizes and moments of its files.
+fn list_files<'a, R>(
+    rt: &'a R,
+    registry: &Registry,
+    verbosity: Verbosity,
+    tree: FolderTree<'a, R>,
+    listed: Listed,
+) -> (Result<Checked, CheckFault>, Recorder<Reporter<'a, R>>)
+where
+    R: Files<File = File> + Clock + Eprint + AllocGlobal,
+{
+    let alloc = rt.alloc();
+    let files = Vec::new(alloc);
+    let mut profiler = Profiler {
+        alloc,
+        tree: NotedFiles { tree, files },
+        watcher: Recorder::new(alloc, Reporter::new(rt, alloc, verbosity)),
+        recipient: ItemKeeper::new(alloc, false),
+    };
+    let checked = check_listing(&mut profiler, registry, OPTIONS, listed);
+    let Profiler { watcher, .. } = profiler;
+    (checked, watcher)
 }
 
 /// Writes what differs, and prints the summary.
 fn report<R>(
     rt: &R,
+    quick: bool,
     verbosity: Verbosity,
     checked: &Checked,
     recorder: &Recorder<Reporter<'_, R>>,
@@ -133,7 +181,7 @@ where
     R: Print + Eprint + AllocGlobal,
 {
     let alloc = rt.alloc();
-    let Ok(findings) = findings_of(alloc, checked, recorder.skipped.as_slice()) else {
+    let Ok(findings) = findings_of(alloc, quick, checked, recorder.skipped.as_slice()) else {
         return VerifyEnding::NoMemory;
     };
     let findings = findings.as_slice();
@@ -141,7 +189,7 @@ where
         return ending;
     }
     if verbosity != Verbosity::Quiet {
-        print_summary(rt, checked, findings);
+        print_summary(rt, quick, checked, findings);
     }
     VerifyEnding::of(findings)
 }
@@ -164,9 +212,10 @@ fn write_report<R: Print>(
 }
 
 /// Prints how many files and bytes were compared, and how many findings of each kind there are.
-fn print_summary<R: Eprint>(rt: &R, checked: &Checked, findings: &[Finding]) {
+fn print_summary<R: Eprint>(rt: &R, quick: bool, checked: &Checked, findings: &[Finding]) {
     let found = checked.found.as_slice();
     let summary = Summary {
+        quick,
         files: files_in(found),
         bytes: bytes_in(found),
         kinds: KindCounts::of(findings),

@@ -228,6 +228,44 @@ class Lists(InFolder):
         status, out, said = verify(self.top, "--against", listed, "--quiet")
         self.assertEqual((status, len(rows_in(out)), said), (5, 1, b""))
 
+    def test_quick_compares_sizes_and_moments(self):
+        when = 1_700_000_000
+        for name in (b"/same", b"/touched", b"/longer", b"/moved", b"/gone", b"/in/same"):
+            self.folder(b"/in")
+            self.file(name, b"text" + name, when=when)
+        path = self.work + b"/list.csv"
+        self.assertEqual(profile(self.top, "--hash", "md5", "--output", path, "--quiet")[0], 0)
+        size = lambda name, more=0: str(len(b"text" + name) + more).encode()
+        md5 = lambda name: hashlib.md5(b"text" + name).hexdigest().encode()
+        self.assertEqual(verify(self.top, "--against", path, "--quick")[0], 0)
+        # other bytes, and a folder's other moment, are not seen
+        self.file(b"/same", b"TEXT/same", when=when)
+        self.file(b"/in/new", b"", when=when)
+        self.file(b"/touched", b"text/touched", when=when + 60)
+        self.file(b"/longer", b"text/longer.", when=when)
+        os.rename(self.top + b"/moved", self.top + b"/moved2")
+        os.remove(self.top + b"/gone")
+        os.chmod(self.top + b"/in/same", 0)
+        rows = [
+            (b"missing", b"/gone", size(b"/gone"), md5(b"/gone"), b"", b"", b"", b""),
+            (b"new", b"/in/new", b"", b"", b"/in/new", b"0", b"", b""),
+            (b"changed", b"/longer", size(b"/longer"), md5(b"/longer"), b"/longer", size(b"/longer", 1), b"", b""),
+            (b"missing", b"/moved", size(b"/moved"), md5(b"/moved"), b"", b"", b"", b""),
+            (b"new", b"/moved2", b"", b"", b"/moved2", size(b"/moved"), b"", b""),
+            (b"changed", b"/touched", size(b"/touched"), md5(b"/touched"), b"/touched", size(b"/touched"), b"", b""),
+        ]
+        status, out, said = verify(self.top, "--against", path, "--quick")
+        self.assertEqual((rows_in(out), status), (rows, 5), said)
+        self.assertIn(b"files compared by size and moment alone: 6\n", said)
+
+    def test_quick_with_a_list_of_checksums_compares_names(self):
+        self.file(b"/a", b"a")
+        self.file(b"/b", b"b")
+        listed = self.write(b"list", sums({b"/a": b"another", b"/c": b"c"}, "md5"))
+        status, out, said = verify(self.top, "--against", listed, "--quick")
+        self.assertEqual([row[:2] for row in rows_in(out)], [(b"new", b"/b"), (b"missing", b"/c")], said)
+        self.assertEqual(status, 5)
+
     def test_lists_that_are_none(self):
         self.tree()
         path = self.work + b"/list.csv"
