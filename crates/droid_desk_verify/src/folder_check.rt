@@ -110,15 +110,30 @@ fn check_folder<'a, R>(
 where
     R: Files<File = File> + Clock + Print + Eprint + AllocGlobal,
 {
-    let (checked, recorder) = if options.quick {
-        list_files(rt, registry, verbosity, tree, listed)
-    } else {
-        read_files(rt, registry, verbosity, tree, listed)
-    };
+    let (checked, recorder) = compare(rt, registry, options.quick, verbosity, tree, listed);
     recorder.watcher.clear();
     match checked {
         Ok(checked) => report(rt, options.quick, verbosity, &checked, &recorder),
         Err(fault) => VerifyEnding::unchecked(fault),
+    }
+}
+
+/// Compares the folder: by the hashes of its files, or (`quick`) by their sizes and moments.
+fn compare<'a, R>(
+    rt: &'a R,
+    registry: &Registry,
+    quick: bool,
+    verbosity: Verbosity,
+    tree: FolderTree<'a, R>,
+    listed: Listed,
+) -> (Result<Checked, CheckFault>, Recorder<Reporter<'a, R>>)
+where
+    R: Files<File = File> + Clock + Eprint + AllocGlobal,
+{
+    if quick {
+        list_files(rt, registry, verbosity, tree, listed)
+    } else {
+        read_files(rt, registry, verbosity, tree, listed)
     }
 }
 
