@@ -33,6 +33,7 @@ module _ {T W : Type 0} (observes : T → Observation → T → Type 0) (hears :
       ∙ ap (λ (its : List Item). items_of files_only (records_of registry options profiled.visits) ++ its) with_files
 
   pub checks : (listed : List Item) (checked : Checked) → Compares listed (folders ++ files) checked walked new.watcher → ChecksListing observes hears registry options files_only listed checked old new
+  unfolding lists
   checks listed checked compares = record {
     noted = noted;
     walked = walked;
@@ -42,4 +43,5 @@ module _ {T W : Type 0} (observes : T → Observation → T → Type 0) (hears :
   }
 
   pub ends_after : (fault : CheckFault) → IsAfterWalk fault (folders ++ files) → EndsListing observes hears registry options files_only fault old new
+  unfolding lists
   ends_after fault after = AfterWalk noted walked lists (subst (λ (its : List Item). IsAfterWalk fault its) items_are after)

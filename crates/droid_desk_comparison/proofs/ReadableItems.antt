@@ -55,25 +55,28 @@ before_differs a b before =
 abbrev having : List ℕ → List Item → ℕ
 having path items = count_by (λ item. bytes_eq path item.path) items
 
-one_more : (path : List ℕ) (item : Item) (items : List Item) → having path (item ∷ items) ≡ cond (bytes_eq path item.path) 1 0 + having path items
-one_more path item items = sum_by-cons (λ it. cond (bytes_eq path it.path) 1 0) item items
+abbrev one_if : Bool → ℕ
+one_if same = cond same 1 0
+
+one_more : (path : List ℕ) (item : Item) (items : List Item) → having path (item ∷ items) ≡ one_if (bytes_eq path item.path) + having path items
+one_more path item items = sum_by-cons (λ it. one_if (bytes_eq path it.path)) item items
+
+one_more_by : (same : Bool) (path : List ℕ) (item : Item) (items : List Item) → bytes_eq path item.path ≡ same → having path (item ∷ items) ≡ one_if same + having path items
+one_more_by same path item items is = one_more path item items ∙ ap (λ (b : Bool). one_if b + having path items) is
 
 none_after : (path : List ℕ) (items : List Item) → AllByRecursion (IsBefore path) (paths items) → having path items ≡ 0
 none_after path [] before = refl
-none_after path (item ∷ items) before =
-    let here : cond (bytes_eq path item.path) 1 0 ≡ 0 = ap (λ (b : Bool). cond b 1 0) (before_differs path item.path before.0) in
-    let rest : having path items ≡ 0 = none_after path items before.1 in
-    omega (arith, one_more path item items, here, rest)
+none_after path (item ∷ items) before = one_more_by false path item items (before_differs path item.path before.0) ∙ none_after path items before.1
 
 once_by : (same : Bool) (path : List ℕ) (item : Item) (items : List Item) → bytes_eq path item.path ≡ same → AllByRecursion (IsBefore item.path) (paths items) → having path items ≤ 1 → having path (item ∷ items) ≤ 1
 once_by true path item items is after rest =
     let equal : path ≡ item.path = (bytes_eq-Decides path item.path).0 is in
     let none : having path items ≡ 0 = none_after path items (subst (λ (p : List ℕ). AllByRecursion (IsBefore p) (paths items)) (sym equal) after) in
-    let here : cond (bytes_eq path item.path) 1 0 ≡ 1 = ap (λ (b : Bool). cond b 1 0) is in
-    omega (arith, one_more path item items, none, here)
+    let more : having path (item ∷ items) ≡ 1 + having path items = one_more_by true path item items is in
+    omega (arith, more, none)
 once_by false path item items is after rest =
-    let here : cond (bytes_eq path item.path) 1 0 ≡ 0 = ap (λ (b : Bool). cond b 1 0) is in
-    omega (arith, one_more path item items, here, rest)
+    let more : having path (item ∷ items) ≡ having path items = one_more_by false path item items is in
+    omega (arith, more, rest)
 
 at_most_once : (path : List ℕ) (items : List Item) → AreInOrder (paths items) → having path items ≤ 1
 at_most_once path [] in_order = omega arith

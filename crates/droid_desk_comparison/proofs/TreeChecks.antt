@@ -28,6 +28,7 @@ module _ {T W : Type 0} (observes : T → Observation → T → Type 0) (hears :
   items_are = taken ∙ found_items files_only (records_of registry options profiled.visits) begun kept profiled.taken files none
 
   pub checks : (listed : List Item) (checked : Checked) → Compares listed items checked walked new.watcher → ChecksTree observes hears registry options files_only listed checked old new
+  unfolding walks
   checks listed checked compares = record {
     walked = walked;
     walks = walks;
@@ -36,4 +37,5 @@ module _ {T W : Type 0} (observes : T → Observation → T → Type 0) (hears :
   }
 
   pub ends_after : (fault : CheckFault) → IsAfterWalk fault items → EndsCheck observes hears registry options files_only fault old new
+  unfolding walks
   ends_after fault after = AfterWalk walked walks (subst (λ (its : List Item). IsAfterWalk fault its) items_are after)

@@ -31,7 +31,6 @@ pub(crate) fn readable_of(
 }
 
 /// Returns the inventory of items that are in order of path.
-#[tactic(auto, using(crate::proofs::ReadableItems::never_twice))]
 fn inventory_of(items: Vec<Item>) -> Inventory
     requires { AreInOrder (map (λ item. item.path) items.items) }
     ensures { IsInventory items.items result }
