@@ -9,9 +9,7 @@ ghost use Rattle.droid_desk_arguments.specs.Commands.{against_option, verify_com
 use crate::arguments::Asked;
 use crate::profile::{FOLDER, QUIET, flag, flag_of, folder, named};
 use crate::profile_help::QUIET_HELP;
-use crate::verify_help::{
-    AGAINST_HELP, QUICK_HELP, VERIFY_ABOUT, VERIFY_FOLDER_HELP, VERIFY_HELP,
-};
+use crate::verify_help::{AGAINST_HELP, QUICK_HELP, VERIFY_ABOUT, VERIFY_FOLDER_HELP, VERIFY_HELP};
 use clap::{Arg, ArgMatches, Command};
 use std::alloc::{AllocError, Global};
 

@@ -120,7 +120,14 @@ fn item_at(alloc: Global, path: &str, entry: &FolderEntry) -> Result<Item, Alloc
     ensures { IfOk result (λ item. item ≡ item_of path.now nodes.File entry.now.len entry.now.modified hashes.Nothing) }
 {
     let kind = NodeKind::File;
-    match item_of_node(alloc, path, kind, entry.len, entry.modified, HashValue::Nothing)? {
+    match item_of_node(
+        alloc,
+        path,
+        kind,
+        entry.len,
+        entry.modified,
+        HashValue::Nothing,
+    )? {
         Some(item) => Ok(item),
         None => unreachable!(),
     }
