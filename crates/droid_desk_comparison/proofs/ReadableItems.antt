@@ -66,7 +66,10 @@ one_more_by same path item items is = one_more path item items ∙ ap (λ (b : B
 
 none_after : (path : List ℕ) (items : List Item) → AllByRecursion (IsBefore path) (paths items) → having path items ≡ 0
 none_after path [] before = refl
-none_after path (item ∷ items) before = one_more_by false path item items (before_differs path item.path before.0) ∙ none_after path items before.1
+none_after path (item ∷ items) before =
+    let more : having path (item ∷ items) ≡ 0 + having path items = one_more_by false path item items (before_differs path item.path before.0) in
+    let rest : having path items ≡ 0 = none_after path items before.1 in
+    omega (arith, more, rest)
 
 once_by : (same : Bool) (path : List ℕ) (item : Item) (items : List Item) → bytes_eq path item.path ≡ same → AllByRecursion (IsBefore item.path) (paths items) → having path items ≤ 1 → having path (item ∷ items) ≤ 1
 once_by true path item items is after rest =
@@ -75,7 +78,7 @@ once_by true path item items is after rest =
     let more : having path (item ∷ items) ≡ 1 + having path items = one_more_by true path item items is in
     omega (arith, more, none)
 once_by false path item items is after rest =
-    let more : having path (item ∷ items) ≡ having path items = one_more_by false path item items is in
+    let more : having path (item ∷ items) ≡ 0 + having path items = one_more_by false path item items is in
     omega (arith, more, rest)
 
 at_most_once : (path : List ℕ) (items : List Item) → AreInOrder (paths items) → having path items ≤ 1

@@ -6,6 +6,8 @@ use Rattle.hex.specs.Hex.{encode_lower}
 use Rattle.droid_desk_profile.specs.Causes.{cause_text}
 use Rattle.droid_desk_profile.specs.Csv.{line}
 use Rattle.droid_frame.specs.Hashes.{hash_bytes}
+use Rattle.droid_frame.specs.types.hash_value.HashValue.{HashValue}
+use Rattle.droid_frame.specs.types.hash_value.HashValue.TheVariants as hashes
 use Rattle.droid_fixity_forms.specs.item_types.difference.Difference.{Difference}
 use Rattle.droid_fixity_forms.specs.item_types.difference.Difference.TheVariants.{Changed, Missing, New, Moved, Touched}
 use Rattle.droid_fixity_forms.specs.item_types.item.Item.{Item}
@@ -60,10 +62,14 @@ abbrev pub size_text : Option Item → List ℕ
 size_text None = []
 size_text (Some item) = length_text item.length
 
--- the digits of a hash, if it is known
+-- the hash of an item, if there is one
+abbrev pub hash_of : Option Item → HashValue
+hash_of None = hashes.Nothing
+hash_of (Some item) = item.hash
+
+-- its digits; no hash has none
 abbrev pub hash_text : Option Item → List ℕ
-hash_text None = []
-hash_text (Some item) = encode_lower (hash_bytes item.hash)
+hash_text item = encode_lower (hash_bytes (hash_of item))
 
 abbrev pub path_text : Option Item → List ℕ
 path_text None = []
