@@ -1,0 +1,3 @@
+pub mod Escapes
+pub mod Readers
+pub mod Trees
