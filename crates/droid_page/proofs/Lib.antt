@@ -1,2 +1,4 @@
 mod Escaping
+mod Letters
+pub mod Pages
 mod Reading

@@ -1,3 +1,5 @@
 pub mod Escapes
+pub mod Letters
+pub mod Pages
 pub mod Readers
 pub mod Trees

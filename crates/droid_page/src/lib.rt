@@ -1,4 +1,9 @@
 //! Pages of HTML as trees of elements: no text can become markup.
 #![tactic(auto)]
 
+mod escaped;
 pub mod laws;
+mod page;
+
+pub use escaped::Escaped;
+pub use page::Page;
