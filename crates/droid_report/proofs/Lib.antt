@@ -1,0 +1,5 @@
+mod Counting
+mod Names
+mod Numbers
+mod Reading
+mod Texts
