@@ -2,3 +2,4 @@ mod Escaping
 mod Letters
 pub mod Pages
 mod Reading
+mod TableTexts

@@ -4,6 +4,8 @@
 mod escaped;
 pub mod laws;
 mod page;
+mod tables;
 
 pub use escaped::Escaped;
 pub use page::Page;
+pub use tables::{Body, Cell, Table};

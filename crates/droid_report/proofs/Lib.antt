@@ -1,4 +1,4 @@
-mod Counting
+pub mod Counting
 mod Names
 mod Numbers
 mod Reading

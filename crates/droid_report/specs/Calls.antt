@@ -20,7 +20,7 @@ lines_in rows = map line_of rows
 
 -- the contents of the code's draft
 abbrev pub draft_of : inside.Draft → Draft
-draft_of draft = record { has_header = draft.has_header; records = draft.records; lines = lines_in draft.rows.items; bytes = draft.bytes }
+draft_of draft = record { has_header = draft.has_header; records = draft.records; lines = lines_in draft.rows.items }
 
 -- a call gave what was expected, unless memory ran out
 abbrev pub Gives : Result (Vec Row Global) ProfileFault → Result (List Line) ProfileFault → Type 0

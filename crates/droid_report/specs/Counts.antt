@@ -1,5 +1,5 @@
 -- What a report counts: sums over the rows of a profile.
-use Rattle.std.specs.Prelude.{◌≡◌, ℕ, ◌+◌, ◌<◌, ◌==◌, ◌&&◌, nat_lt, not, min, position, Bool, true, false, List, [], ◌∷◌, ◌++◌, length, count_by, get_or, Option, Some, None, decimal, if◌then◌else◌, String}
+use Rattle.std.specs.Prelude.{◌≡◌, ℕ, ◌+◌, ◌-◌, ◌^◌, ◌<◌, ◌==◌, ◌&&◌, nat_lt, not, min, position, Bool, true, false, List, [], ◌∷◌, ◌++◌, length, count_by, get_or, vec_len, Option, Some, None, decimal, if◌then◌else◌, String}
 use Rattle.std.specs.BTreeMap.{BTreeMap, get_by_text}
 use Rattle.std.specs.List.{sum_by}
 use Rattle.std.specs.Option.{option_map, option_map_or, unwrap_or}
@@ -15,11 +15,11 @@ use Rattle.droid_report.specs.declared.facts.Kind.{Kind}
 use Rattle.droid_report.specs.declared.facts.Kind.TheVariants.{File, Folder}
 use Rattle.droid_report.specs.declared.facts.Method.{Method}
 use Rattle.droid_report.specs.declared.facts.Method.TheVariants as methods
-use Rattle.droid_report.specs.declared.groups.Alike.{Alike}
-use Rattle.droid_report.specs.declared.groups.Alike.TheVariants as alike
+use Rattle.droid_report.specs.declared.likeness.Alike.{Alike}
+use Rattle.droid_report.specs.declared.likeness.Alike.TheVariants as alike
 use Rattle.droid_report.specs.declared.row.Row.{Row}
-use Rattle.droid_report.specs.declared.tally.By.{By}
-use Rattle.droid_report.specs.declared.tally.By.TheVariants as by
+use Rattle.droid_report.specs.declared.classes.By.{By}
+use Rattle.droid_report.specs.declared.classes.By.TheVariants as by
 
 abbrev pub is_file : Kind → Bool
 is_file File = true
@@ -65,8 +65,12 @@ total what rows = count_by (λ row. is_counted what (line_of row)) rows
 abbrev pub bytes_of : Line → ℕ
 bytes_of line = if is_first_of_file line then line.facts.size else 0
 
-abbrev pub total_bytes : List Row → ℕ
-total_bytes rows = sum_by (λ row. bytes_of (line_of row)) rows
+abbrev pub all_bytes : List Row → ℕ
+all_bytes rows = sum_by (λ row. bytes_of (line_of row)) rows
+
+-- what 64 bits hold of a sum
+abbrev pub held : ℕ → ℕ
+held sum = min sum (2 ^ 64 - 1)
 
 -- ---- files by year, by size and by depth
 
@@ -102,9 +106,9 @@ abbrev pub is_in : By → ℕ → Line → Bool
 is_in by class line = is_first_of_file line && is_class (class_of by line.facts) class
 
 -- for each class how many files are of it
-pub record IsTally (by : By) (rows : List Row) (table : List ℕ) : Type 0 where
-  pub length : length table ≡ last_class by + 1
-  pub counts : (class : ℕ) → class < last_class by + 1 → get_or table class 0 ≡ count_by (λ row. is_in by class (line_of row)) rows
+pub record IsTally (by : By) (rows : List Row) (table : Vec ℕ Global) : Type 0 where
+  pub length : vec_len table ≡ last_class by + 1
+  pub counts : (class : ℕ) → class < last_class by + 1 → get_or table.items class 0 ≡ count_by (λ row. is_in by class (line_of row)) rows
 
 -- ---- rows that are alike
 
@@ -117,10 +121,18 @@ key_of alike.Content line = if is_first_of_file line && not (length (text_at lin
 abbrev pub has_key : Alike → List ℕ → Line → Bool
 has_key alike key line = not (length (key_of alike line) == 0) && bytes_eq key (key_of alike line)
 
--- the places of the rows with this key, in order; the first row has the place `at`
-abbrev pub places_from : ℕ → (Line → Bool) → List Row → List ℕ
-places_from at test [] = []
-places_from at test (row ∷ rows) = (if test (line_of row) then at ∷ [] else []) ++ places_from (at + 1) test rows
+-- what each of these gives with its place, of which the first has the place `at`
+abbrev pub flat_map_at : {A B : Type 0} → (ℕ → A → List B) → ℕ → List A → List B
+flat_map_at f at [] = []
+flat_map_at f at (x ∷ xs) = f at x ++ flat_map_at f (at + 1) xs
+
+-- the place of a row, if it passes a test
+abbrev pub place_if : (Line → Bool) → ℕ → Row → List ℕ
+place_if test place row = if test (line_of row) then place ∷ [] else []
+
+-- the places of the rows that pass a test, in order
+abbrev pub places_where : (Line → Bool) → List Row → List ℕ
+places_where test rows = flat_map_at (place_if test) 0 rows
 
 -- the places that a table has for a key
 abbrev pub places_of : BTreeMap (String Global) (Vec ℕ Global) → List ℕ → List ℕ
@@ -128,4 +140,4 @@ places_of groups key = option_map_or (λ places. places.items) (get_by_text grou
 
 -- for each key exactly the places of the rows that have it
 abbrev pub AreGroups : Alike → List Row → BTreeMap (String Global) (Vec ℕ Global) → Type 0
-AreGroups alike rows groups = (key : List ℕ) → places_of groups key ≡ places_from 0 (has_key alike key) rows
+AreGroups alike rows groups = (key : List ℕ) → places_of groups key ≡ places_where (has_key alike key) rows

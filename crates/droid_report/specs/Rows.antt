@@ -87,29 +87,25 @@ last [] = None
 last (line ∷ []) = Some line
 last (line ∷ next ∷ lines) = last (next ∷ lines)
 
--- what was read so far: whether there was a header, how many records, the rows, and the sum of their sizes
+-- what was read so far: whether there was a header, how many records, and the rows
 pub record Draft : Type 0 where
   pub has_header : Bool
   pub records : ℕ
   pub lines : List Line
-  pub bytes : ℕ
 
 abbrev pub nothing_read : Draft
-nothing_read = record { has_header = false; records = 0; lines = []; bytes = 0 }
+nothing_read = record { has_header = false; records = 0; lines = [] }
 
 abbrev pub with_header : List (List ℕ) → Result Draft ProfileFault
-with_header row = if is_header row then Ok (record { has_header = true; records = 1; lines = []; bytes = 0 }) else Err faults.Header
+with_header row = if is_header row then Ok (record { has_header = true; records = 1; lines = [] }) else Err faults.Header
 
--- all sizes together are below 2 ^ 64
 abbrev pub with_row : Draft → List (List ℕ) → Option Facts → Result Draft ProfileFault
 with_row draft row None = Err (faults.Record (draft.records + 1))
 with_row draft row (Some facts) =
-    if nat_lt (draft.bytes + facts.size) (2 ^ 64)
-    then Ok (record {
+    Ok (record {
       has_header = true; records = draft.records + 1;
       lines = draft.lines ++ record { fields = row; facts = facts; is_first = not (has_id (last draft.lines) row) } ∷ [];
-      bytes = draft.bytes + facts.size
-    }) else Err (faults.Record (draft.records + 1))
+    })
 
 abbrev pub taken : Draft → List (List ℕ) → Result Draft ProfileFault
 taken draft row = if draft.has_header then with_row draft row (facts_in row) else with_header row

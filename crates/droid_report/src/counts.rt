@@ -1,6 +1,6 @@
 //! Totals.
 
-ghost use Rattle.std.specs.Prelude.{◌≡◌, ◌<◌, ◌^◌};
+ghost use Rattle.std.specs.Prelude.{◌≡◌};
 ghost use Rattle.droid_report.specs.Calls.{line_of};
 ghost use Rattle.droid_report.specs.Counts as counts;
 
@@ -68,12 +68,15 @@ fn is_file(kind: Kind) -> bool
     }
 }
 
-/// Returns how many bytes all files have.
+/// Returns how many bytes all files have, or 2^64 - 1 if they are more.
 pub fn total_bytes(rows: &[Row]) -> u64
-    requires { counts.total_bytes rows.now < 2 ^ 64 }
-    ensures { result ≡ counts.total_bytes rows.now }
+    ensures { result ≡ counts.held (counts.all_bytes rows.now) }
 {
-    rows.iter().map(|row| bytes_of(row)).sum()
+    let mut bytes: u64 = 0;
+    for row in rows {
+        bytes = bytes.saturating_add(bytes_of(row));
+    }
+    bytes
 }
 
 /// Returns how many bytes a row adds to those of all files.

@@ -18,7 +18,6 @@ pub(crate) struct Draft {
     has_header: bool,
     records: u64,
     rows: Vec<Row>,
-    bytes: u64,
 }
 
 impl Draft {
@@ -33,7 +32,6 @@ impl Draft {
             has_header: false,
             records: 0,
             rows: Vec::new(alloc),
-            bytes: 0,
         }
     }
 
@@ -57,7 +55,6 @@ impl Draft {
         self.has_header = true;
         self.records = 1;
         self.rows = Vec::new(alloc);
-        self.bytes = 0;
         Ok(())
     }
 
@@ -70,9 +67,6 @@ impl Draft {
             return Err(ProfileFault::Memory);
         };
         let Some(facts) = facts_in(&row) else {
-            return Err(ProfileFault::Record { record });
-        };
-        let Some(bytes) = self.bytes.checked_add(facts.size) else {
             return Err(ProfileFault::Record { record });
         };
         let is_first = !has_id(self.rows.last(), &row);
@@ -88,7 +82,6 @@ impl Draft {
             return Err(ProfileFault::Memory);
         }
         self.records = record;
-        self.bytes = bytes;
         Ok(())
     }
 

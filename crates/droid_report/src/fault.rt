@@ -14,7 +14,7 @@ pub enum ProfileFault {
     /// The CSV does not begin with the names of a profile's columns.
     #[error("the first record is not that of a profile")]
     Header,
-    /// A record is malformed, or all sizes up to it are more than 2^64 - 1 together.
+    /// A record is malformed.
     #[error("record {record} is malformed")]
     Record {
         /// Its number. The record with the names of the columns has number 1.

@@ -1,6 +1,7 @@
 //! Reads the CSV of a profile and counts what is in it.
 #![tactic(auto)]
 
+mod classes;
 mod columns;
 mod counts;
 mod csv_error;
@@ -8,15 +9,16 @@ mod draft;
 mod facts;
 mod fault;
 mod fields;
-mod groups;
+mod likeness;
 mod profile;
+mod ranks;
 mod row;
-mod tally;
 
+pub use classes::{By, tally};
 pub use counts::{What, is_counted, is_first_of_file, total, total_bytes};
 pub use facts::{Facts, Kind, Method};
 pub use fault::ProfileFault;
-pub use groups::{Alike, Groups, groups};
+pub use likeness::{Alike, Groups, groups};
 pub use profile::read_profile;
+pub use ranks::{Group, ranked_by_bytes, ranked_by_count, repeated, summed};
 pub use row::Row;
-pub use tally::{By, tally};

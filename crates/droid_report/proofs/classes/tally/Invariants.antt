@@ -1,7 +1,7 @@
 use Rattle.std.proofs.Common.{◌≡◌, ◌+◌, ◌<◌, ℕ, count_by, get_or, take, vec_len}
 use Rattle.droid_report.specs.Calls.{line_of}
 use Rattle.droid_report.specs.Counts.{is_in, last_class}
-use Rattle.droid_report.proofs.tally.tally.Given as goal
+use Rattle.droid_report.proofs.classes.tally.Given as goal
 
 -- the rows so far are counted
 abbrev pub invariant-loop-row : goal.invariant-loop-row

@@ -1,8 +1,8 @@
 //! Files by year, by size and by depth.
 
-ghost use Rattle.std.specs.Prelude.{◌≡◌, ◌+◌, ◌<◌, ◌^◌, ℕ, IfOk, if◌then◌else◌, get_or, vec_len};
+ghost use Rattle.std.specs.Prelude.{◌≡◌, ◌+◌, ◌<◌, ◌^◌, ℕ, IfOk, IfSome, if◌then◌else◌, get_or, vec_len};
 ghost use Rattle.droid_report.specs.Calls.{line_of};
-ghost use Rattle.droid_report.specs.Counts.{IsTally, class_of, is_first_of_file, is_in, last_class, size_class};
+ghost use Rattle.droid_report.specs.Counts.{IsTally, class_of, is_class, is_in, last_class, size_class};
 
 use crate::counts::is_first_of_file;
 use crate::facts::Facts;
@@ -22,7 +22,7 @@ pub enum By {
 
 /// Counts the files of each class.
 pub fn tally(alloc: Global, rows: &[Row], by: By) -> Result<Vec<u64>, AllocError>
-    ensures { IfOk result (λ table. IsTally by rows.now table.items) }
+    ensures { IfOk result (λ table. IsTally by rows.now table) }
 {
     let mut table = vec![in alloc; 0; last_class(by) + 1]?;
     for row in rows {
@@ -56,7 +56,8 @@ fn last_class(by: By) -> usize
 
 /// Returns the class of a row, if it is the first of a file that has one.
 fn class_in(row: &Row, by: By) -> Option<usize>
-    ensures { result ≡ (if is_first_of_file (line_of row.now) then class_of by row.now.facts else None) }
+    ensures is { (class : ℕ) → is_in by class (line_of row.now) ≡ is_class result class }
+    ensures bound { IfSome result (λ class. class < last_class by + 1) }
 {
     if is_first_of_file(row) {
         class_of(row.facts, by)
@@ -67,7 +68,8 @@ fn class_in(row: &Row, by: By) -> Option<usize>
 
 /// Returns the class of a file.
 fn class_of(facts: Facts, by: By) -> Option<usize>
-    ensures { result ≡ class_of by facts }
+    ensures value { result ≡ class_of by facts }
+    ensures bound { IfSome result (λ class. class < last_class by + 1) }
 {
     match by {
         By::Year => match facts.year {

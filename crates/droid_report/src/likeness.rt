@@ -4,7 +4,7 @@ ghost use Rattle.std.specs.Prelude.{◌≡◌, ◌==◌, ◌&&◌, ◌++◌, ◌
 ghost use Rattle.std.specs.Str.{bytes_eq};
 ghost use Rattle.droid_report.specs.Calls.{line_of};
 ghost use Rattle.droid_report.specs.Counts.{AreGroups, key_of, places_of};
-ghost use Rattle.droid_report.specs.declared.groups.Alike.TheVariants as alike;
+ghost use Rattle.droid_report.specs.declared.likeness.Alike.TheVariants as alike;
 
 use crate::counts::is_first_of_file;
 use crate::row::Row;

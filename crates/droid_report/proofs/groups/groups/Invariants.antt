@@ -1,7 +1,0 @@
-use Rattle.std.proofs.Common.{◌≡◌, ℕ, List, take}
-use Rattle.droid_report.specs.Counts.{has_key, places_from, places_of}
-use Rattle.droid_report.proofs.groups.groups.Given as goal
-
--- the rows so far have their places
-abbrev pub invariant-loop-place : goal.invariant-loop-place
-invariant-loop-place l = (key : List ℕ) → places_of l.groups key ≡ places_from 0 (has_key l.alike key) (take l.place l.rows)

@@ -1,0 +1,2 @@
+pub mod ReportTables
+pub mod Reports
