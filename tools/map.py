@@ -16,7 +16,7 @@ import crates
 from crates import below, edits_of, folder, listed, named, paths, read
 
 PROGRAM = "droid_desk"
-FAMILIES = ["droid_frame", "droid_lanes", "droid_hash", "droid_scan", "droid_pronom", "droid_xml", "droid_signature", "droid_assembly", "droid_store", "droid_export", "droid_fixity", "droid_core", "droid_wire", "droid_tree", "droid_profile", "droid_lines", "droid_desk"]
+FAMILIES = ["droid_frame", "droid_lanes", "droid_hash", "droid_scan", "droid_pronom", "droid_xml", "droid_signature", "droid_assembly", "droid_store", "droid_export", "droid_fixity", "droid_page", "droid_report", "droid_core", "droid_wire", "droid_tree", "droid_profile", "droid_lines", "droid_desk"]
 # a program that is no part of the family whose first words it has
 ALONE = ["droid_desk_bench"]
 # what a crate may name in the place of a head: a sender needs no service, and isn't proved only after one; and only the

@@ -2,7 +2,7 @@
 use Rattle.std.proofs.Common.{◌≡◌, ◌∙◌, ℕ, List, [], ◌∷◌, ◌++◌, String, Vec, append-nil, append_assoc, codes, flat_map, refl, string_bytes, sym, ap}
 use Rattle.std.specs.declared.alloc.Global.{Global}
 use Rattle.droid_page.specs.Escapes.{escape}
-use Rattle.droid_page.specs.Tables.{body_text, body_tree, cell_text, cell_tree, each, head_text, head_tree, row_text, row_tree, table_text, table_tree, then}
+use Rattle.droid_page.specs.Tables.{body_text, body_tree, cell_text, cell_tree, each, head_text, head_tree, row_text, row_tree, rows_text, table_text, table_tree, then}
 use Rattle.droid_page.specs.Trees.{Tree, Nothing, Text, Number, Element, Meta, text_of}
 use Rattle.droid_page.specs.declared.tables.Cell.{Cell}
 use Rattle.droid_page.specs.declared.tables.Table.{Table}
@@ -38,7 +38,7 @@ unfolding row_text
 row_own row = sym (ap (λ (t : List ℕ). codes "<tr>" ++ t) (each_text cell_tree cell_text cell_own row.items (codes "</tr>")))
 
 table_own : (table : Table) → table_text table ≡ text_of (table_tree table) []
-unfolding table_text
+unfolding table_text rows_text
 table_own table =
     let before : List ℕ → List ℕ = λ t. codes "<section><h2>" ++ (escape (string_bytes table.title) ++ (codes "</h2><p>" ++ (escape (string_bytes table.note) ++ (codes "</p><table><thead><tr>" ++ t)))) in
     let rows : List ℕ = text_of (each row_tree table.rows.items) (codes "</tbody></table></section>") in

@@ -30,11 +30,15 @@ number_at key n = record { key = key; value = Count n }
 abbrev pub bar : ℕ → Tree
 bar share =
     Element trees.Svg (is trees.Viewbox (codes "0 0 1000 20") ∷ is trees.PreserveAspectRatio (codes "none") ∷ is trees.AriaHidden (codes "true") ∷ [])
-    (Element trees.Rect (number_at trees.Width share ∷ number_at trees.Height 20 ∷ []) Nothing Nothing) Nothing
+    (Element trees.Rect (number_at trees.Width share ∷ is trees.Height (codes "20") ∷ []) Nothing Nothing) Nothing
+
+-- a cell with a text that leads elsewhere
+abbrev pub link_tree : List ℕ → List ℕ → Tree
+link_tree target text = Element trees.Td [] (Element trees.A (is trees.Href target ∷ is trees.Rel (codes "noreferrer") ∷ []) (Text text Nothing) Nothing) Nothing
 
 abbrev pub cell_tree : Cell → Tree
 cell_tree (cells.Text text) = Element trees.Td [] (Element trees.Bdi [] (Text (string_bytes text) Nothing) Nothing) Nothing
-cell_tree (cells.Link target text) = Element trees.Td [] (Element trees.A (is trees.Href (string_bytes target) ∷ is trees.Rel (codes "noreferrer") ∷ []) (Text (string_bytes text) Nothing) Nothing) Nothing
+cell_tree (cells.Link target text) = link_tree (string_bytes target) (string_bytes text)
 cell_tree (cells.Number n) = Element trees.Td (is trees.Class (codes "n") ∷ []) (Number n Nothing) Nothing
 cell_tree (cells.Bar share) = Element trees.Td (is trees.Class (codes "b") ∷ []) (bar share) Nothing
 
@@ -61,6 +65,9 @@ body_tree title about tables =
 
 -- ---- their texts
 
+unfoldable pub link_text : List ℕ → List ℕ → List ℕ
+link_text target text = text_of (link_tree target text) []
+
 unfoldable pub cell_text : Cell → List ℕ
 cell_text cell = text_of (cell_tree cell) []
 
@@ -70,13 +77,15 @@ row_text row = codes "<tr>" ++ (flat_map cell_text row.items ++ codes "</tr>")
 unfoldable pub head_text : String Global → List ℕ
 head_text head = text_of (head_tree head) []
 
+-- the rows, and the ends of what stands around them
+unfoldable pub rows_text : List (Vec Cell Global) → List ℕ
+rows_text rows = codes "</tr></thead><tbody>" ++ (flat_map row_text rows ++ codes "</tbody></table></section>")
+
 unfoldable pub table_text : Table → List ℕ
 table_text table =
     codes "<section><h2>" ++ (escape (string_bytes table.title)
     ++ (codes "</h2><p>" ++ (escape (string_bytes table.note)
-    ++ (codes "</p><table><thead><tr>" ++ (flat_map head_text table.heads.items
-    ++ (codes "</tr></thead><tbody>" ++ (flat_map row_text table.rows.items
-    ++ codes "</tbody></table></section>")))))))
+    ++ (codes "</p><table><thead><tr>" ++ (flat_map head_text table.heads.items ++ rows_text table.rows.items)))))
 
 unfoldable pub body_text : List ℕ → List ℕ → List Table → List ℕ
 body_text title about tables =

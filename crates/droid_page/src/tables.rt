@@ -2,7 +2,7 @@
 
 ghost use Rattle.std.specs.Prelude.{◌≡◌, Some, flat_map};
 ghost use Rattle.std.specs.Fmt.{WritesOnOk};
-ghost use Rattle.droid_page.specs.Tables.{body_text, cell_text, head_text, row_text, table_text};
+ghost use Rattle.droid_page.specs.Tables.{body_text, cell_text, head_text, link_text, row_text, rows_text, table_text};
 
 use crate::escaped::Escaped;
 use std::fmt::{self, Display, Formatter, Write};
@@ -96,7 +96,7 @@ impl Display for Table {
         let rows = Rows(self.rows.as_slice());
         write!(
             f,
-            "<section><h2>{title}</h2><p>{note}</p><table><thead><tr>{heads}</tr></thead><tbody>{rows}</tbody></table></section>"
+            "<section><h2>{title}</h2><p>{note}</p><table><thead><tr>{heads}{rows}"
         )
     }
 }
@@ -129,11 +129,28 @@ fn write_head<W: Write>(f: &mut Formatter<W>, head: &String) -> fmt::Result
     write!(f, "<th scope=\"col\">{}</th>", Escaped(head.as_str()))
 }
 
-/// The rows of a table.
+/// The rows of a table, and the ends of what stands around them.
 #[derive(Clone, Copy)]
 struct Rows<'a>(&'a [Vec<Cell>]);
 
 impl Display for Rows<'_> {
+    ghost output = { λ it. Some (rows_text it.0.now) };
+
+    #[tactic(auto, unfolding(crate::specs::Tables::rows_text))]
+    fn fmt<W: Write>(&self, f: &mut Formatter<W>) -> fmt::Result {
+        write!(
+            f,
+            "</tr></thead><tbody>{}</tbody></table></section>",
+            EachRow(self.0)
+        )
+    }
+}
+
+/// Rows, one after the other.
+#[derive(Clone, Copy)]
+struct EachRow<'a>(&'a [Vec<Cell>]);
+
+impl Display for EachRow<'_> {
     ghost output = { λ it. Some (flat_map row_text it.0.now) };
 
     fn fmt<W: Write>(&self, f: &mut Formatter<W>) -> fmt::Result {
@@ -181,16 +198,11 @@ fn write_cells<W: Write>(f: &mut Formatter<W>, cells: &[Cell]) -> fmt::Result
 impl Display for Cell {
     ghost output = { λ cell. Some (cell_text cell) };
 
-    #[tactic(auto, unfolding(crate::specs::Tables::cell_text))]
+    #[tactic(auto, unfolding(crate::specs::Tables::cell_text, crate::specs::Tables::link_text))]
     fn fmt<W: Write>(&self, f: &mut Formatter<W>) -> fmt::Result {
         match self {
             Cell::Text(text) => write!(f, "<td><bdi>{}</bdi></td>", Escaped(text.as_str())),
-            Cell::Link { target, text } => write!(
-                f,
-                "<td><a href=\"{}\" rel=\"noreferrer\">{}</a></td>",
-                Escaped(target.as_str()),
-                Escaped(text.as_str())
-            ),
+            Cell::Link { target, text } => write_link(f, target.as_str(), text.as_str()),
             Cell::Number(number) => write!(f, "<td class=\"n\">{number}</td>"),
             Cell::Bar(share) => write!(
                 f,
@@ -198,4 +210,17 @@ impl Display for Cell {
             ),
         }
     }
+}
+
+/// Writes a cell with a text that leads elsewhere.
+#[tactic(auto, unfolding(crate::specs::Tables::link_text))]
+fn write_link<W: Write>(f: &mut Formatter<W>, target: &str, text: &str) -> fmt::Result
+    ensures { WritesOnOk W.write_str_gives f.old result (link_text target.now text.now) f.new }
+{
+    write!(
+        f,
+        "<td><a href=\"{}\" rel=\"noreferrer\">{}</a></td>",
+        Escaped(target),
+        Escaped(text)
+    )
 }

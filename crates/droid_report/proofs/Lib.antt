@@ -1,4 +1,5 @@
 pub mod Counting
+mod Lines
 mod Names
 mod Numbers
 mod Reading

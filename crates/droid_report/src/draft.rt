@@ -1,16 +1,16 @@
 //! A profile that is being read.
 
-ghost use Rattle.std.specs.Prelude.{◌≡◌, true};
+ghost use Rattle.std.specs.Prelude.{◌≡◌, ◌++◌, ◌∷◌, [], OnOk, true};
 ghost use Rattle.std.specs.Option.{option_copied, option_map};
 ghost use Rattle.csv.specs.Records.{fields_of};
-ghost use Rattle.droid_report.specs.Calls.{line_of};
-ghost use Rattle.droid_report.specs.Rows as rows;
+ghost use Rattle.droid_report.specs.Calls.{line_of, lines_in};
+ghost use Rattle.droid_report.specs.Rows as profiles;
 
 use crate::columns::is_header;
 use crate::fault::ProfileFault;
 use crate::row::{Row, facts_in, field};
 use csv::ByteRecord;
-use std::alloc::Global;
+use std::alloc::{AllocError, Global};
 
 /// What was read so far.
 #[derive(Drop)]
@@ -69,18 +69,13 @@ impl Draft {
         let Some(facts) = facts_in(&row) else {
             return Err(ProfileFault::Record { record });
         };
-        let is_first = !has_id(self.rows.last(), &row);
-        if self
-            .rows
-            .push(Row {
-                fields: row,
-                facts,
-                is_first,
-            })
-            .is_err()
-        {
-            return Err(ProfileFault::Memory);
-        }
+        let is_first = !has_last_id(self.rows.as_slice(), &row);
+        let row = Row {
+            fields: row,
+            facts,
+            is_first,
+        };
+        push_row(&mut self.rows, row)?;
         self.records = record;
         Ok(())
     }
@@ -100,12 +95,27 @@ impl Draft {
     }
 }
 
-/// Returns whether a row has the ID of the last one, if there was one.
-fn has_id(last: Option<&Row>, row: &ByteRecord) -> bool
-    ensures { result ≡ rows.has_id (option_map line_of (option_copied last.entry)) (fields_of row.now) }
+/// Adds a row at the end.
+fn push_row(rows: &mut Vec<Row>, row: Row) -> Result<(), AllocError>
+    ensures { OnOk result (lines_in rows.new.items ≡ lines_in rows.old.items ++ line_of row ∷ []) }
 {
-    match last {
-        Some(last) => field(&last.fields, 0) == field(row, 0),
+    rows.push(row)?;
+    Ok(())
+}
+
+/// Returns whether a row has the ID of the last of these, if there is one.
+fn has_last_id(rows: &[Row], row: &ByteRecord) -> bool
+    ensures { result ≡ profiles.has_id (profiles.last (lines_in rows.now)) (fields_of row.now) }
+{
+    has_id(rows.last(), row)
+}
+
+/// Returns whether a row has the ID of another, if there is one.
+fn has_id(other: Option<&Row>, row: &ByteRecord) -> bool
+    ensures { result ≡ profiles.has_id (option_map line_of (option_copied other.entry)) (fields_of row.now) }
+{
+    match other {
+        Some(other) => field(&other.fields, 0) == field(row, 0),
         None => false,
     }
 }

@@ -1,6 +1,6 @@
 -- The tables of a report.
-use Rattle.std.specs.Prelude.{ℕ, ◌+◌, ◌-◌, ◌*◌, ◌/◌, ◌%◌, ◌^◌, ◌==◌, nat_lt, min, max, Bool, List, [], ◌∷◌, ◌++◌, codes, decimal, length, map, take, String, Vec, string_bytes, if◌then◌else◌}
-use Rattle.std.specs.List.{flat_map, fold}
+use Rattle.std.specs.Prelude.{ℕ, ◌+◌, ◌-◌, ◌*◌, ◌/◌, ◌%◌, ◌^◌, ◌==◌, nat_lt, min, max, Bool, List, [], ◌∷◌, ◌++◌, codes, decimal, length, map, take, String, Vec, nat_eq, slice_get, string_bytes, ◌||◌, Option, Some, None, if◌then◌else◌}
+use Rattle.std.specs.List.{flat_map, fold, starts_with}
 use Rattle.std.specs.declared.alloc.Global.{Global}
 use Rattle.droid_page.specs.declared.tables.Cell.{Cell}
 use Rattle.droid_page.specs.declared.tables.Cell.TheVariants as cells
@@ -12,6 +12,7 @@ use Rattle.droid_report.specs.declared.classes.By.{By}
 use Rattle.droid_report.specs.declared.classes.By.TheVariants as by
 use Rattle.droid_report.specs.declared.counts.What.{What}
 use Rattle.droid_report.specs.declared.counts.What.TheVariants as what
+use Rattle.droid_report.specs.declared.ranks.Group.{Group}
 use Rattle.droid_report.specs.declared.row.Row.{Row}
 
 -- ---- tables without where they lie in memory
@@ -93,3 +94,35 @@ file_row what row = if is_counted what (line_of row) then (Words (text_at (line_
 -- the path and the size of the first 200 that count for a total
 abbrev pub file_rows : What → List Row → List (List Seen)
 file_rows what rows = take 200 (flat_map (file_row what) rows)
+
+-- ---- formats
+
+-- where PRONOM has the page of a format
+abbrev pub pronom : List ℕ
+pronom = codes "https://www.nationalarchives.gov.uk/PRONOM/"
+
+-- whether a PUID is PRONOM's
+abbrev pub is_pronom : List ℕ → Bool
+is_pronom puid = starts_with nat_eq puid (codes "fmt/") || starts_with nat_eq puid (codes "x-fmt/")
+
+-- a PUID, which leads to PRONOM's page if it is PRONOM's
+abbrev pub puid_seen : List ℕ → Seen
+puid_seen puid = if is_pronom puid then Link (pronom ++ puid) puid else Words puid
+
+-- the row of a format: its PUID, name and version, how many files have it, their bytes, and a bar of their number
+abbrev pub format_of : ℕ → Group → Option Row → List (List Seen)
+format_of most group None = []
+format_of most group (Some row) =
+    (puid_seen (text_at (line_of row).fields 14) ∷ Words (text_at (line_of row).fields 16) ∷ Words (text_at (line_of row).fields 17)
+    ∷ Amount group.count ∷ Amount group.bytes ∷ Bar (share_of group.count most) ∷ []) ∷ []
+
+abbrev pub format_row : List Row → ℕ → Group → List (List Seen)
+format_row rows most group = format_of most group (slice_get rows group.place)
+
+-- a row for each of the first 200 formats, with bars beside the first's
+abbrev pub most_of : List Group → ℕ
+most_of [] = 0
+most_of (group ∷ groups) = group.count
+
+abbrev pub format_rows : List Row → List Group → List (List Seen)
+format_rows rows ranked = flat_map (format_row rows (most_of ranked)) (take 200 ranked)

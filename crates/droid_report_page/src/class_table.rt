@@ -41,7 +41,7 @@ fn add_class(
 }
 
 /// Returns a number in thousandths of the greatest.
-fn share(count: u64, most: u64) -> u64
+pub(crate) fn share(count: u64, most: u64) -> u64
     ensures { result ≡ share_of count most }
 {
     (count.saturating_mul(1000) / most.max(1)).min(1000)
