@@ -30,15 +30,15 @@ module _ (K : List ℕ → List ℕ → List Token) (takes : TakesText K) where
       → (c == 38) ≡ false → (c == 60) ≡ false → (c == 34) ≡ false → K seen (pictured c ++ rest) ≡ K (seen ++ pictured c) rest
   as_picture seen rest c true delete is_control is_delete a l q =
       let goal : Bool → Type 0 = λ b. K seen (cond b (226 ∷ 144 ∷ (128 + c) ∷ []) (cond (c == 127) (226 ∷ 144 ∷ 161 ∷ []) (c ∷ [])) ++ rest)
-        ≡ K (seen ++ cond b (226 ∷ 144 ∷ (128 + c) ∷ []) (cond (c == 127) (226 ∷ 144 ∷ 161 ∷ []) (c ∷ []))) rest in
+      ≡ K (seen ++ cond b (226 ∷ 144 ∷ (128 + c) ∷ []) (cond (c == 127) (226 ∷ 144 ∷ 161 ∷ []) (c ∷ []))) rest in
       subst goal (sym is_control) (three seen rest 226 144 (128 + c) (omega arith) (omega arith) (omega arith))
   as_picture seen rest c false true is_control is_delete a l q =
       let goal : Bool → Bool → Type 0 = λ b d. K seen (cond b (226 ∷ 144 ∷ (128 + c) ∷ []) (cond d (226 ∷ 144 ∷ 161 ∷ []) (c ∷ [])) ++ rest)
-        ≡ K (seen ++ cond b (226 ∷ 144 ∷ (128 + c) ∷ []) (cond d (226 ∷ 144 ∷ 161 ∷ []) (c ∷ []))) rest in
+      ≡ K (seen ++ cond b (226 ∷ 144 ∷ (128 + c) ∷ []) (cond d (226 ∷ 144 ∷ 161 ∷ []) (c ∷ []))) rest in
       subst (λ b. goal b (c == 127)) (sym is_control) (subst (goal false) (sym is_delete) (three seen rest 226 144 161 (omega arith) (omega arith) (omega arith)))
   as_picture seen rest c false false is_control is_delete a l q =
       let goal : Bool → Bool → Type 0 = λ b d. K seen (cond b (226 ∷ 144 ∷ (128 + c) ∷ []) (cond d (226 ∷ 144 ∷ 161 ∷ []) (c ∷ [])) ++ rest)
-        ≡ K (seen ++ cond b (226 ∷ 144 ∷ (128 + c) ∷ []) (cond d (226 ∷ 144 ∷ 161 ∷ []) (c ∷ []))) rest in
+      ≡ K (seen ++ cond b (226 ∷ 144 ∷ (128 + c) ∷ []) (cond d (226 ∷ 144 ∷ 161 ∷ []) (c ∷ []))) rest in
       subst (λ b. goal b (c == 127)) (sym is_control) (subst (goal false) (sym is_delete) (takes.plain seen rest c a l q))
 
   abbrev Byte : ℕ → Type 0
@@ -81,7 +81,7 @@ module _ (K : List ℕ → List ℕ → List Token) (takes : TakesText K) where
   digits_taken (suc k) n acc h =
       let d : List ℕ = digit_glyph false (n % 10) ∷ [] in
       let next : Taken (digit_glyph false (n % 10) ∷ acc) = λ seen rest.
-        digit_taken seen (acc ++ rest) (n % 10) (omega arith) ∙ (h (seen ++ d) rest ∙ ap (λ (s : List ℕ). K s rest) (append_assoc seen d acc)) in
+      digit_taken seen (acc ++ rest) (n % 10) (omega arith) ∙ (h (seen ++ d) rest ∙ ap (λ (s : List ℕ). K s rest) (append_assoc seen d acc)) in
       cond_both (n / 10 == 0) (digit_glyph false (n % 10) ∷ acc) (digits_onto k 10 false (n / 10) (digit_glyph false (n % 10) ∷ acc)) Taken
       (λ _. next) (λ _. digits_taken k (n / 10) (digit_glyph false (n % 10) ∷ acc) next)
 

@@ -65,7 +65,7 @@ pictured_by : (c : ℕ) → c < 128 → pictured c ≡ encode_utf8 (picture_of c
 pictured_by c h =
     let goal : Bool → Bool → Type 0 = λ b d. cond b (226 ∷ 144 ∷ (128 + c) ∷ []) (cond d (226 ∷ 144 ∷ 161 ∷ []) (c ∷ [])) ≡ encode_utf8 (cond b (9216 + c) (cond d 9249 c)) in
     let each : (b d : Bool) → nat_lt c 32 ≡ b → goal b d = λ b d. elim b as (λ x. nat_lt c 32 ≡ x → goal x d) [
-      true ↦ λ e. sym (picture_bytes c (ltb-true c 32 e))
+      | true ↦ λ e. sym (picture_bytes c (ltb-true c 32 e))
       | false ↦ λ _. elim d as (λ x. goal false x) [ true ↦ sym delete_bytes | false ↦ sym (encode_ascii c h) ]
     ] in
     each (nat_lt c 32) (c == 127) refl

@@ -20,7 +20,7 @@ tree_more (Element tag attributes inside more) x rest =
     let name : List ℕ = tag_name tag in
     let end : List ℕ = 60 ∷ 47 ∷ (name ++ (62 ∷ text_of more x)) in
     let ends : 60 ∷ 47 ∷ (name ++ (62 ∷ text_of more (x ++ rest))) ≡ end ++ rest =
-      ap (λ (t : List ℕ). 60 ∷ 47 ∷ (name ++ (62 ∷ t))) (tree_more more x rest) ∙ ap (λ (t : List ℕ). 60 ∷ 47 ∷ t) (sym (append_assoc name (62 ∷ text_of more x) rest)) in
+    ap (λ (t : List ℕ). 60 ∷ 47 ∷ (name ++ (62 ∷ t))) (tree_more more x rest) ∙ ap (λ (t : List ℕ). 60 ∷ 47 ∷ t) (sym (append_assoc name (62 ∷ text_of more x) rest)) in
     ap (λ (t : List ℕ). 60 ∷ (name ++ attributes_text attributes (text_of inside t))) ends
     ∙ (ap (λ (t : List ℕ). 60 ∷ (name ++ attributes_text attributes t)) (tree_more inside end rest)
     ∙ (ap (λ (t : List ℕ). 60 ∷ (name ++ t)) (attributes_more attributes (text_of inside end) rest)

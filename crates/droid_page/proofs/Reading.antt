@@ -162,7 +162,7 @@ tree_read (Number n more) rest =
 tree_read (Element tag attributes inside more) rest =
     let ending : List ℕ = 60 ∷ 47 ∷ (tag_name tag ++ (62 ∷ text_of more rest)) in
     let last : read Data ending ≡ End (tag_name tag) ∷ (tokens_of more ++ read Data rest) =
-      end_read tag (text_of more rest) ∙ ap (λ (ts : List Token). End (tag_name tag) ∷ ts) (tree_read more rest) in
+    end_read tag (text_of more rest) ∙ ap (λ (ts : List Token). End (tag_name tag) ∷ ts) (tree_read more rest) in
     start_read tag (attributes_text attributes (text_of inside ending))
     ∙ (attributes_read attributes (tag_name tag) (text_of inside ending)
     ∙ ap (λ (ts : List Token). Start (tag_name tag) (map setting_of attributes) ∷ ts)
