@@ -10,7 +10,10 @@ mod tests {
     const ODD: &[(&str, &str)] = &[
         ("", ""),
         ("plain", "plain"),
-        ("<script>alert(1)</script>", "&lt;script&gt;alert(1)&lt;/script&gt;"),
+        (
+            "<script>alert(1)</script>",
+            "&lt;script&gt;alert(1)&lt;/script&gt;",
+        ),
         ("&amp;", "&amp;amp;"),
         ("\"quoted\" 'so'", "&quot;quoted&quot; 'so'"),
         ("a\u{0}b\n\u{7f}", "a\u{2400}b\u{240a}\u{2421}"),
@@ -93,9 +96,12 @@ mod tests {
     fn page_has_its_title_and_body(rt: HostRuntime) {
         let is_right = match page(rt.alloc()) {
             Ok(page) => {
-                page.as_str().starts_with("<!DOCTYPE html><html lang=\"en\"><head>")
+                page.as_str()
+                    .starts_with("<!DOCTYPE html><html lang=\"en\"><head>")
                     && page.as_str().contains("<title>&lt;t&gt;</title>")
-                    && page.as_str().ends_with("</head><body><main></main></body></html>")
+                    && page
+                        .as_str()
+                        .ends_with("</head><body><main></main></body></html>")
             }
             Err(_) => false,
         };

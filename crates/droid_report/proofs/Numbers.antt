@@ -64,4 +64,3 @@ digits_ascii (b ∷ text) all = λ i.
 
 pub digits_utf8 : (text : List ℕ) → list_all is_ascii_digit text ≡ true → IsUtf8 text
 digits_utf8 text all = IsUtf8-from_ascii text (digits_ascii text all)
-

@@ -103,7 +103,8 @@ abbrev pub with_row : Draft → List (List ℕ) → Option Facts → Result Draf
 with_row draft row None = Err (faults.Record (draft.records + 1))
 with_row draft row (Some facts) =
     Ok (record {
-      has_header = true; records = draft.records + 1;
+      has_header = true;
+      records = draft.records + 1;
       lines = draft.lines ++ record { fields = row; facts = facts; is_first = not (has_id (last draft.lines) row) } ∷ [];
     })
 

@@ -85,7 +85,9 @@ impl Draft {
         ensures { Gives result (finished (draft_of self).has_header (draft_of self).lines) }
     {
         let Draft {
-            has_header, rows, ..
+            has_header,
+            rows,
+            ..
         } = self;
         if has_header {
             Ok(rows)

@@ -41,11 +41,7 @@ const PRINTED_PLACES: [usize; 6] = [3, 10, 12, 14, 16, 17];
 pub(crate) fn facts_in(row: &ByteRecord) -> Option<Facts>
     ensures { result ≡ rows.facts_in (fields_of row.now) }
 {
-    if is_whole(row) {
-        facts_of(row)
-    } else {
-        None
-    }
+    if is_whole(row) { facts_of(row) } else { None }
 }
 
 /// Returns whether a row has 18 fields, a path, and text in the columns that are printed.

@@ -3,9 +3,9 @@
 ghost use Rattle.std.specs.Prelude.{◌≡◌, ◌++◌, IfOk, OnOk, Some};
 ghost use Rattle.droid_report_page.specs.ReportTables.{class_name, class_row, class_rows, greatest, power_of_four, rows_seen, share_of, unit_of};
 
-use droid_report::By;
 use crate::cells::bar_row;
 use droid_page::Cell;
+use droid_report::By;
 use std::alloc::{AllocError, Global};
 use std::fmt::{self, Display, Formatter, Write};
 
@@ -78,7 +78,12 @@ impl Display for ClassName {
                     return f.write_str("no bytes");
                 }
                 let lower = class - 1;
-                write!(f, "from {} {}", power_of_four(lower % 5), unit_of(lower / 5))
+                write!(
+                    f,
+                    "from {} {}",
+                    power_of_four(lower % 5),
+                    unit_of(lower / 5)
+                )
             }
             By::Depth => {
                 if class == 64 {

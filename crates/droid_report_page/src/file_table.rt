@@ -3,10 +3,9 @@
 ghost use Rattle.std.specs.Prelude.{◌≡◌, ◌++◌, IfOk, OnOk, if◌then◌else◌, length, nat_lt};
 ghost use Rattle.droid_report_page.specs.ReportTables.{file_row, file_rows, rows_seen};
 
-use droid_report::{What, is_counted};
 use crate::cells::amount_row;
-use droid_report::Row;
 use droid_page::Cell;
+use droid_report::{Row, What, is_counted};
 use std::alloc::{AllocError, Global};
 
 /// How many rows a table has at most.

@@ -69,9 +69,27 @@ fn report_tables(alloc: Global, rows: &[Row]) -> Result<Vec<Table>, AllocError>
 {
     let mut tables = Vec::new(alloc);
     tables.push(totals(alloc, rows)?)?;
-    tables.push(classes(alloc, "Years", "When files were last changed. Files without a date are not in it.", rows, By::Year)?)?;
-    tables.push(classes(alloc, "Sizes", "Files by size, from each power of four to the next.", rows, By::Size)?)?;
-    tables.push(classes(alloc, "Depth", "How many slashes the paths of files have.", rows, By::Depth)?)?;
+    tables.push(classes(
+        alloc,
+        "Years",
+        "When files were last changed. Files without a date are not in it.",
+        rows,
+        By::Year,
+    )?)?;
+    tables.push(classes(
+        alloc,
+        "Sizes",
+        "Files by size, from each power of four to the next.",
+        rows,
+        By::Size,
+    )?)?;
+    tables.push(classes(
+        alloc,
+        "Depth",
+        "How many slashes the paths of files have.",
+        rows,
+        By::Depth,
+    )?)?;
     tables.push(files(alloc, "Not identified", rows, What::Unidentified)?)?;
     tables.push(files(alloc, "Unexpected extensions", rows, What::Mismatches)?)?;
     tables.push(files(alloc, "Several formats", rows, What::SeveralFormats)?)?;

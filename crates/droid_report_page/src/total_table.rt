@@ -3,10 +3,9 @@
 ghost use Rattle.std.specs.Prelude.{◌≡◌, IfOk, map};
 ghost use Rattle.droid_report_page.specs.ReportTables.{rows_seen, total_row, what_name};
 
-use droid_report::{What, total};
 use crate::cells::amount_row;
-use droid_report::Row;
 use droid_page::Cell;
+use droid_report::{Row, What, total};
 use std::alloc::{AllocError, Global};
 
 /// Makes a row for each of these totals: its name and the number.

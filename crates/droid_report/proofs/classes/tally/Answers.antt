@@ -9,12 +9,12 @@ use Rattle.droid_report.proofs.classes.tally.Goals as goal
 
 pub loop-row-preserved : goal.loop-row-preserved
 loop-row-preserved c = (
-      c.count_row.ensures.length,
-      λ class below.
-        c.count_row.ensures.counts class
-        ∙ (ap (λ (n : ℕ). n + cond (is_in c.args.by class (line_of c.row-item.result)) 1 0) (c.loop-row.invariant.1 class below)
-        ∙ sym (count_more (λ (row : Row). is_in c.args.by class (line_of row)) c.args.rows.now c.loop-row.row-index c.row-item.result c.loop-row-test.true c.row-item.is)),
-    )
+  c.count_row.ensures.length,
+  λ class below.
+      c.count_row.ensures.counts class
+      ∙ (ap (λ (n : ℕ). n + cond (is_in c.args.by class (line_of c.row-item.result)) 1 0) (c.loop-row.invariant.1 class below)
+      ∙ sym (count_more (λ (row : Row). is_in c.args.by class (line_of row)) c.args.rows.now c.loop-row.row-index c.row-item.result c.loop-row-test.true c.row-item.is)),
+)
 
 pub count_row-requires-clause-room : goal.count_row-requires-clause-room
 count_row-requires-clause-room c = λ class below.
