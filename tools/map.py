@@ -16,7 +16,7 @@ import crates
 from crates import below, edits_of, folder, listed, named, paths, read
 
 PROGRAM = "droid_desk"
-FAMILIES = ["droid_frame", "droid_lanes", "droid_hash", "droid_scan", "droid_pronom", "droid_xml", "droid_signature", "droid_assembly", "droid_store", "droid_export", "droid_fixity", "droid_page", "droid_core", "droid_wire", "droid_journal", "droid_tree", "droid_profile", "droid_lines", "droid_desk"]
+FAMILIES = ["droid_frame", "droid_lanes", "droid_hash", "droid_scan", "droid_pronom", "droid_xml", "droid_signature", "droid_assembly", "droid_store", "droid_export", "droid_fixity", "droid_page", "droid_report", "droid_core", "droid_wire", "droid_journal", "droid_tree", "droid_profile", "droid_lines", "droid_desk"]
 # a program that is no part of the family whose first words it has
 ALONE = ["droid_desk_bench"]
 # what a crate may name in the place of a head: a sender needs no service, and isn't proved only after one; and only the
@@ -24,6 +24,7 @@ ALONE = ["droid_desk_bench"]
 BELOW_HEADS = {
     "droid_lines_send": ["droid_wire_client"],
     "droid_wire_turns": ["droid_frame_feed"],
+    "droid_wire_journal": ["droid_journal_chain", "droid_journal_service"],
     "droid_core_tests": ["droid_lines_script"],
     "droid_profile_rows": ["droid_core_spec"],
     "droid_profile_spec": ["droid_core_spec"],
@@ -32,6 +33,12 @@ BELOW_HEADS = {
     "droid_signature_parser": ["droid_pronom_pattern"],
     "droid_signature_spec": ["droid_pronom_pattern", "droid_pronom_formats"],
     "droid_signature_texts": ["droid_pronom_pattern"],
+    "droid_desk_comparison": ["droid_fixity_formats", "droid_fixity_forms", "droid_fixity_profile"],
+    "droid_signature_patterns": ["droid_pronom_pattern", "droid_pronom_formats"],
+    "droid_signature_tables": ["droid_pronom_formats"],
+    "droid_signature_combinations": ["droid_pronom_formats"],
+    "droid_signature": ["droid_pronom_formats"],
+    "droid_desk_report": ["droid_report_page", "droid_tree_disk"],
     "droid_desk_folders": [
         "droid_fixity_lists", "droid_fixity_profile", "droid_tree_connection", "droid_tree_disk", "droid_tree_remote", "droid_tree_submission", "droid_tree_upload",
     ],

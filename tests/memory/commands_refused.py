@@ -1,4 +1,4 @@
-"""Runs `script` over its stored script, in both versions, and `profile` of a folder again and again, and refuses
+"""Runs `script` over its stored script, in both versions, and `profile` and `verify` of a folder again and again, and refuses
 another of their allocations each time. As many run at once as there are processors."""
 import os
 import subprocess
@@ -35,8 +35,8 @@ def run(*words, given=b"", **variables):
 
 
 class Refused(InFolder):
-    def each_in_turn(self, command, is_right):
-        """Runs a command with each of its allocations refused. Each end has to be right, and each status has to
+    def each_in_turn(self, command, is_right, statuses=STATUSES):
+        """Runs a command with each of its allocations refused. Each end has to be right, and each of these statuses has to
         occur."""
         with tempfile.NamedTemporaryFile("r") as file:
             command(ALLOCATIONS=file.name)
@@ -46,7 +46,7 @@ class Refused(InFolder):
             ended = list(pool.map(lambda number: command(REFUSE=str(number)), numbers))
         wrong = [f"allocation {number} of {len(numbers)}: {end}" for number, end in zip(numbers, ended) if not is_right(*end)]
         self.assertEqual(wrong, [], "\n".join(wrong))
-        self.assertEqual({end[0] for end in ended}, STATUSES)
+        self.assertEqual({end[0] for end in ended}, statuses)
 
     def each_of_a_script(self, script):
         self.each_in_turn(lambda **variables: run("script", given=script, **variables), script_is_right)
@@ -84,6 +84,37 @@ class Refused(InFolder):
         self.assertEqual((whole[0], whole[1], [*whole[2]]), (0, b"", [b"profile.csv"]))
         self.assertTrue(whole[2][b"profile.csv"])
         self.each_in_turn(self.profile, lambda *end: end == whole if end[0] == 0 else end[0] in STATUSES and end[1:] == (FAULT, {}))
+
+    def verify(self, listed, *more, **variables):
+        """Compares the folder with a list: the status, the output with the fault, and the summary's line on formats."""
+        status, written, said = run("verify", self.top, "--against", listed, *more, **variables)
+        kept = [line for line in said.splitlines(True) if line.startswith((b"fault: ", b"format: "))]
+        return status, written + b"".join(kept)
+
+    def test_verify(self):
+        """A file changed, one moved, one is new and one has another format: the report is whole, or there is none."""
+        self.folder(b"/outer/inner")
+        self.file(b"/outer/first.msg", b"message of a file")
+        self.file(b"/outer/inner/second", b"nothing that is known")
+        self.file(b"/moved", b"moved")
+        listed = self.work + b"/list.csv"
+        self.assertEqual(run("profile", self.top, "--registry", SAMPLE, "--hash", "md5", "--output", listed)[0], 0)
+        with open(listed, "rb") as file:
+            text = file.read()
+        with open(listed, "wb") as file:
+            file.write(text.replace(b"dev/1", b"dev/9"))
+        self.file(b"/outer/inner/second", b"NOTHING that is known")
+        os.rename(self.top + b"/moved", self.top + b"/outer/moved")
+        self.file(b"/new", b"new")
+        # (--quick does not see that bytes changed; it reads no registry, so that it never ends with status 3)
+        for more, lines, statuses in (["--quick"], 4, {4, 5, 6}), (["--identify", "--registry", SAMPLE], 6, {3, 4, 5, 6}):
+            whole = self.verify(listed, *more)
+            self.assertEqual((whole[0], len(whole[1].splitlines())), (5, lines), whole)
+
+            def is_right(status, written):
+                return (status, written) == whole if status == 5 else status in statuses and written == FAULT
+
+            self.each_in_turn(lambda **variables: self.verify(listed, *more, **variables), is_right, statuses)
 
 
 def script_is_right(status, written, said):

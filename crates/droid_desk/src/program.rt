@@ -1,14 +1,16 @@
 //! Reads the command line, runs the command that it asks for, and returns the exit status.
 
 use droid_desk_arguments::{
-    Asked, NoCommand, ProfileOptions, RegistrySource, SubmitOptions, unread_words, what_is_asked,
+    Asked, NoCommand, ProfileOptions, RegistrySource, ReportOptions, SubmitOptions, VerifyOptions,
+    unread_words, what_is_asked,
 };
 use droid_desk_folders::submit_folder;
-use droid_desk_profile::profile_folder;
+use droid_desk_report::report_profile;
 use droid_desk_service::{
     Ended, registry_for, run_command, script_command, send_command, serve_command,
     serve_many_command,
 };
+use droid_desk_verify::{Registry, profile_folder, verify_folder};
 use std::process::ExitCode;
 use std::{env, io};
 
@@ -33,6 +35,8 @@ fn fulfil(rt: &HostRuntime, asked: Asked<'_>, on_terminal: bool) -> ExitCode {
     match asked {
         Asked::Profile(options) => profile(rt, options, on_terminal),
         Asked::Submit(options) => submit(rt, options, on_terminal),
+        Asked::Verify(options) => verify(rt, options, on_terminal),
+        Asked::Report(options) => report(rt, options),
         Asked::Script { registry } => end(rt, &script_command(rt, registry)),
         Asked::Run { registry } => end(rt, &run_command(rt, registry)),
         Asked::Serve {
@@ -54,14 +58,7 @@ fn fulfil(rt: &HostRuntime, asked: Asked<'_>, on_terminal: bool) -> ExitCode {
 }
 
 fn profile(rt: &HostRuntime, options: ProfileOptions<'_>, on_terminal: bool) -> ExitCode {
-    let source = match options.registry {
-        Some(path) => RegistrySource::File(path),
-        None => {
-            let _ = eprintln!(rt; "registry: the built-in registry of everyday formats");
-            RegistrySource::Everyday
-        }
-    };
-    match registry_for(rt, source) {
+    match registry_for(rt, source_of(rt, options.registry)) {
         Ok(registry) => {
             let ending = profile_folder(rt, &registry, options, on_terminal);
             let _ = ending.print(rt, options);
@@ -71,9 +68,48 @@ fn profile(rt: &HostRuntime, options: ProfileOptions<'_>, on_terminal: bool) -> 
     }
 }
 
+/// Returns the registry of a file, or else that of everyday formats. That is printed.
+fn source_of<'a>(rt: &HostRuntime, registry: Option<&'a str>) -> RegistrySource<'a> {
+    match registry {
+        Some(path) => RegistrySource::File(path),
+        None => {
+            let _ = eprintln!(rt; "registry: the built-in registry of everyday formats");
+            RegistrySource::Everyday
+        }
+    }
+}
+
+/// Compares a folder with a list. A registry is read only if formats are compared.
+fn verify(rt: &HostRuntime, options: VerifyOptions<'_>, on_terminal: bool) -> ExitCode {
+    if !options.identify || options.quick {
+        return verify_by(rt, None, options, on_terminal);
+    }
+    match registry_for(rt, source_of(rt, options.registry)) {
+        Ok(registry) => verify_by(rt, Some(&registry), options, on_terminal),
+        Err(ended) => end(rt, &ended),
+    }
+}
+
+fn verify_by(
+    rt: &HostRuntime,
+    registry: Option<&Registry>,
+    options: VerifyOptions<'_>,
+    on_terminal: bool,
+) -> ExitCode {
+    let ending = verify_folder(rt, registry, options, on_terminal);
+    let _ = ending.print(rt, options);
+    ExitCode::from(ending.status())
+}
+
 fn submit(rt: &HostRuntime, options: SubmitOptions<'_>, on_terminal: bool) -> ExitCode {
     let ending = submit_folder(rt, options, on_terminal);
     let _ = ending.print(rt, options);
+    ExitCode::from(ending.status())
+}
+
+fn report(rt: &HostRuntime, options: ReportOptions<'_>) -> ExitCode {
+    let ending = report_profile(rt, options.profile, options.title, options.output);
+    let _ = ending.print(rt, options.profile, options.output);
     ExitCode::from(ending.status())
 }
 

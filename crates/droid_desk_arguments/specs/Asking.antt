@@ -1,55 +1,18 @@
 -- What the command line asks for (this project's own).
-use Rattle.std.specs.Prelude.{◌≡◌, ◌<◌, ◌^◌, ◌⊎◌, ℕ, Bool, true, false, List, Option, Some, None, codes, option_map}
-use Rattle.std.specs.Str.Parse.{IsNumeral, digits_value, without_leading_plus}
+use Rattle.std.specs.Prelude.{◌≡◌, ◌&&◌, ℕ, Bool, true, false, List, Option, Some, None, codes, option_map}
 use Rattle.clap.specs.Words.{Row, Text, first_of, one_of, subcommand_of}
-use Rattle.droid_frame.specs.types.hash_kind.HashKind.{HashKind}
-use Rattle.droid_frame.specs.types.hash_kind.HashKind.TheVariants as hashes
 use Rattle.droid_desk_arguments.specs.Commands.{program}
 use Rattle.droid_desk_arguments.specs.declared.arguments.Asked.{Asked}
-use Rattle.droid_desk_arguments.specs.declared.arguments.Asked.TheVariants.{Profile, Submit, Script, Run, Serve, ServeMany, Send}
+use Rattle.droid_desk_arguments.specs.declared.arguments.Asked.TheVariants.{Profile, Submit, Verify, Report, Script, Run, Serve, ServeMany, Send}
 use Rattle.droid_desk_arguments.specs.declared.many.ManyOptions.{ManyOptions}
 use Rattle.droid_desk_arguments.specs.declared.profile.ProfileOptions.{ProfileOptions}
-use Rattle.droid_desk_arguments.specs.declared.source.RegistrySource.{RegistrySource}
-use Rattle.droid_desk_arguments.specs.declared.source.RegistrySource.TheVariants as sources
+use Rattle.droid_desk_arguments.specs.declared.report.ReportOptions.{ReportOptions}
 use Rattle.droid_desk_arguments.specs.declared.submit.Destination.{Destination}
 use Rattle.droid_desk_arguments.specs.declared.submit.SubmitOptions.{SubmitOptions}
-
--- the number that a text's digits write; a plus may stand first
-abbrev pub number_of : Text → ℕ
-number_of text = digits_value 10 (without_leading_plus text)
-
--- the text is a number below 2^bits
-abbrev pub IsNumber : ℕ → Text → Type 0
-IsNumber bits text = IsNumeral 10 (without_leading_plus text) × (number_of text < 2 ^ bits)
-
--- an option's number, or this one where the option has none
-abbrev pub IsNumberOr : ℕ → ℕ → Option Text → ℕ → Type 0
-IsNumberOr bits otherwise None n = n ≡ otherwise
-IsNumberOr bits otherwise (Some text) n = (n ≡ number_of text) ⊎ ((n ≡ otherwise) × (IsNumber bits text → ⊥))
-
--- a flag is set where the parse gives it the text `true`, and isn't where it gives it none or `false`
-abbrev pub IsFlag : Option Text → Bool → Type 0
-IsFlag None flag = flag ≡ false
-IsFlag (Some text) flag = (text ≡ codes "true" → flag ≡ true) × (text ≡ codes "false" → flag ≡ false)
-
--- the hash that a word names: MD5 without one
-abbrev pub IsHash : Option Text → HashKind → Type 0
-IsHash None hash = hash ≡ hashes.Md5
-IsHash (Some text) hashes.Nothing = text ≡ codes "none"
-IsHash (Some text) hashes.Md5 = text ≡ codes "md5"
-IsHash (Some text) hashes.Sha256 = text ≡ codes "sha256"
-
--- the registry that the flag `--everyday` and the file of `--registry` choose: both together choose none
-abbrev pub IsChosen : Bool → Option Text → RegistrySource → Type 0
-IsChosen everyday file sources.Sample = (everyday ≡ false) × (file ≡ None)
-IsChosen everyday file sources.Everyday = (everyday ≡ true) × (file ≡ None)
-IsChosen everyday file (sources.File path) = (everyday ≡ false) × (file ≡ Some path.now)
-
--- the registry that the options name
-pub record IsSource (rows : List Row) (source : RegistrySource) : Type 0 where
-  pub everyday : Bool
-  pub is_flag : IsFlag (one_of (codes "everyday") rows) everyday
-  pub is_chosen : IsChosen everyday (first_of (codes "registry") rows) source
+use Rattle.droid_desk_arguments.specs.declared.verify.VerifyOptions.{VerifyOptions}
+use Rattle.droid_desk_options.specs.Values.{IsFlag, IsHash, IsNumberOr, IsSource, number_of}
+use Rattle.droid_desk_options.specs.frame_types.hash_kind.HashKind.{HashKind}
+use Rattle.droid_desk_options.specs.frame_types.hash_kind.HashKind.TheVariants as hashes
 
 -- a list of checksums is asked for, and files get no hash
 abbrev pub has_no_checksums : HashKind → Option Text → Bool
@@ -91,6 +54,36 @@ pub record IsSubmit (rows : List Row) (options : SubmitOptions) : Type 0 where
   pub skipped : option_map (λ path. path.now) options.skipped ≡ first_of (codes "skipped") rows
   pub quiet : IsFlag (one_of (codes "quiet") rows) options.quiet
 
+-- the registry of everyday formats is asked for beside a file
+abbrev pub names_two : Bool → Option Text → Bool
+names_two everyday None = false
+names_two everyday (Some path) = everyday
+
+-- formats are to be compared, and no file is read
+abbrev pub reads_nothing : Bool → Bool → Bool
+reads_nothing quick identify = quick && identify
+
+-- the options of `verify`
+pub record IsVerify (rows : List Row) (options : VerifyOptions) : Type 0 where
+  pub folder : Some options.folder.now ≡ first_of (codes "folder") rows
+  pub against : Some options.against.now ≡ first_of (codes "against") rows
+  pub quick : IsFlag (one_of (codes "quick") rows) options.quick
+  pub identify : IsFlag (one_of (codes "identify") rows) options.identify
+  pub registry : option_map (λ path. path.now) options.registry ≡ first_of (codes "registry") rows
+  pub everyday : Bool
+  pub is_flag : IsFlag (one_of (codes "everyday") rows) everyday
+  pub names_one : names_two everyday (option_map (λ path. path.now) options.registry) ≡ false
+  pub reads_files : reads_nothing options.quick options.identify ≡ false
+  pub limit : IsNumberOr 32 65536 (one_of (codes "limit") rows) options.limit
+  pub match_all : IsFlag (one_of (codes "match-all") rows) options.match_all
+  pub quiet : IsFlag (one_of (codes "quiet") rows) options.quiet
+
+-- the options of `report`
+pub record IsReport (rows : List Row) (options : ReportOptions) : Type 0 where
+  pub profile : Some options.profile.now ≡ first_of (codes "profile") rows
+  pub title : option_map (λ text. text.now) options.title ≡ first_of (codes "title") rows
+  pub output : option_map (λ path. path.now) options.output ≡ first_of (codes "output") rows
+
 -- how many connections are served: there is no end, or this many
 abbrev pub IsCount : List Row → Option ℕ → Type 0
 IsCount rows None = IsFlag (one_of (codes "forever") rows) true × (first_of (codes "connections") rows ≡ None)
@@ -114,6 +107,8 @@ pub record IsOneByOne (rows : List Row) : Type 0 where
 abbrev pub IsAskedBy : Text → List Row → Asked → Type 0
 IsAskedBy name rows (Profile options) = (name ≡ codes "profile") × IsProfile rows options
 IsAskedBy name rows (Submit options) = (name ≡ codes "submit") × IsSubmit rows options
+IsAskedBy name rows (Verify options) = (name ≡ codes "verify") × IsVerify rows options
+IsAskedBy name rows (Report options) = (name ≡ codes "report") × IsReport rows options
 IsAskedBy name rows (Script registry) = (name ≡ codes "script") × IsSource rows registry
 IsAskedBy name rows (Run registry) = (name ≡ codes "run") × IsSource rows registry
 IsAskedBy name rows (Serve registry port connections) =

@@ -1,26 +1,8 @@
 -- The program's commands and their options, as a parse reads them (this project's own).
-use Rattle.std.specs.Prelude.{ℕ, true, Some, codes}
-use Rattle.clap.specs.Words.{App, Rule, Text, new_app, new_rule, with_rule, with_subcommand}
-use Rattle.clap.specs.declared.builder.action.ArgAction.TheVariants.{Set, SetTrue}
-use Rattle.clap.specs.declared.builder.value_parser.ValueParser.TheVariants.{NonEmptyString, Unsigned}
-
--- an option with one value: `--NAME VALUE`
-abbrev pub option_named : Text → Rule
-option_named name = record (new_rule name) { long = Some name; value_names = 1; action = Some Set }
-
--- an option with a number from `least` to `most`
-abbrev pub number_named : Text → ℕ → ℕ → Rule
-number_named name least most = record (option_named name) { parser = Some (Unsigned least most) }
-
--- the option must be there
-abbrev pub needed : Rule → Rule
-needed rule = record rule { required = true }
-
-abbrev pub registry_option : Rule
-registry_option = option_named (codes "registry")
-
-abbrev pub port_option : Rule
-port_option = needed (number_named (codes "port") 1 65535)
+use Rattle.std.specs.Prelude.{true, Some, codes}
+use Rattle.clap.specs.Words.{App, Rule, new_app, with_rule, with_subcommand}
+use Rattle.clap.specs.declared.builder.value_parser.ValueParser.TheVariants.{NonEmptyString}
+use Rattle.droid_desk_options.specs.Rules.{client_option, flag_named, folder_word, limit_option, needed, number_named, option_named, port_option, registry_option, word_named}
 
 abbrev pub connections_option : Rule
 connections_option = number_named (codes "connections") 1 1000
@@ -31,25 +13,11 @@ at_once_option = number_named (codes "at-once") 1 64
 abbrev pub idle_option : Rule
 idle_option = number_named (codes "idle") 1 3600
 
-abbrev pub client_option : Rule
-client_option = needed (number_named (codes "client") 0 4294967295)
-
 abbrev pub first_option : Rule
 first_option = number_named (codes "first") 0 9223372036854775807
 
--- a word that stands by itself, and must be there
-abbrev pub word_named : Text → Rule
-word_named name = record (new_rule name) { value_names = 1; action = Some Set; required = true }
-
--- an option without a value: `--NAME`
-abbrev pub flag_named : Text → Rule
-flag_named name = record (new_rule name) { long = Some name; action = Some SetTrue }
-
-abbrev pub folder_word : Rule
-folder_word = word_named (codes "folder")
-
-abbrev pub limit_option : Rule
-limit_option = number_named (codes "limit") 1 65536
+abbrev pub everyday_flag : Rule
+everyday_flag = flag_named (codes "everyday")
 
 abbrev pub hash_option : Rule
 hash_option = option_named (codes "hash")
@@ -106,8 +74,23 @@ submit_files =
 abbrev pub submit_command : App
 submit_command = with_rule (with_rule (with_rule submit_files export_option) skipped_option) (flag_named (codes "quiet"))
 
-abbrev pub everyday_flag : Rule
-everyday_flag = flag_named (codes "everyday")
+abbrev pub against_option : Rule
+against_option = needed (option_named (codes "against"))
+
+-- what is compared
+abbrev pub verify_input : App
+verify_input = with_rule (with_rule (with_rule (new_app (codes "verify")) folder_word) against_option) (flag_named (codes "quick"))
+
+-- by what its files are identified
+abbrev pub verify_files : App
+verify_files = with_rule (with_rule (with_rule verify_input (flag_named (codes "identify"))) registry_option) everyday_flag
+
+abbrev pub verify_command : App
+verify_command = with_rule (with_rule (with_rule verify_files limit_option) (flag_named (codes "match-all"))) (flag_named (codes "quiet"))
+
+-- what a page is made of, its title, and where it goes
+abbrev pub report_command : App
+report_command = with_rule (with_rule (with_rule (new_app (codes "report")) (word_named (codes "profile"))) (option_named (codes "title"))) output_option
 
 abbrev pub script_command : App
 script_command = with_rule (with_rule (new_app (codes "script")) everyday_flag) registry_option
@@ -131,7 +114,7 @@ send_command = with_rule (with_rule (with_rule (new_app (codes "send")) port_opt
 abbrev pub top_command : App → App
 top_command a = record a { top = record a.top { subcommand_required = true; has_version = true } }
 
--- the program with its six commands
+-- the program with its eight commands
 abbrev pub program : App
 program =
     with_subcommand
@@ -139,8 +122,12 @@ program =
     (with_subcommand
     (with_subcommand
     (with_subcommand
+    (with_subcommand
+    (with_subcommand
     (with_subcommand (top_command (new_app (codes "droid_desk"))) profile_command.top)
     submit_command.top)
+    verify_command.top)
+    report_command.top)
     script_command.top)
     run_command.top)
     serve_command.top)

@@ -4,21 +4,25 @@ ghost use Rattle.std.specs.Prelude.{◌≡◌, [], IfOk, IfSome, codes, false, m
 ghost use Rattle.clap.specs.Words.{app_of, fault_of, found_of, is_simple, is_simple_and_free, new_app, rows_of, rule_of, subcommand_of, subcommand_rows_of};
 ghost use Rattle.clap.specs.declared.builder.command.Command.TheViews.{out-Command};
 ghost use Rattle.droid_desk_arguments.specs.Asking.{IsAsked, IsAskedBy, WordsAsk};
-ghost use Rattle.droid_desk_arguments.specs.Commands.{client_option, connections_option, first_option, number_named, port_option, profile_command, program, registry_option, run_command, script_command, send_command, serve_command, serve_numbers, top_command};
+ghost use Rattle.droid_desk_arguments.specs.Commands.{connections_option, first_option, program, run_command, script_command, send_command, serve_command, serve_numbers, top_command};
 
 use crate::help::{ABOUT, EVERYDAY_HELP, HELP, REGISTRY_HELP, SCRIPT_ABOUT, SCRIPT_HELP};
 use crate::many::{AT_ONCE, ManyOptions, is_one_by_one, many_options, serve_many};
 use crate::no_command::{NoCommand, unused_words};
-use crate::profile::{HASH, PROFILE, ProfileOptions, flag, hash_of, profile, profile_asked};
-use crate::source::{EVERYDAY, RegistrySource, source_of};
+use crate::profile::{HASH, PROFILE, ProfileOptions, profile, profile_asked};
+use crate::report::{REPORT, ReportOptions, report, report_asked};
 use crate::stream_help::{
     CLIENT_HELP, CONNECTIONS_HELP, FIRST_HELP, RUN_ABOUT, RUN_HELP, SEND_ABOUT, SEND_HELP,
     SEND_PORT_HELP, SERVE_ABOUT, SERVE_HELP, SERVE_PORT_HELP,
 };
 use crate::submit::{SUBMIT, SubmitOptions, submit, submit_asked};
-use clap::builder::ValueParser;
+use crate::verify::{VERIFY, VerifyOptions, mistake_in_verify, verify, verify_asked};
 use clap::error::ErrorKind;
-use clap::{Arg, ArgAction, ArgMatches, Command, Error};
+use clap::{Arg, ArgMatches, Command, Error};
+use droid_desk_options::{
+    CLIENT, EVERYDAY, PORT, RegistrySource, client, flag, hash_of, number, port, registry,
+    source_of,
+};
 use std::alloc::{AllocError, Global};
 
 // The names of the commands and of their options.
@@ -30,13 +34,7 @@ const SERVE: &str = "serve";
 
 const SEND: &str = "send";
 
-pub(crate) const REGISTRY: &str = "registry";
-
-pub(crate) const PORT: &str = "port";
-
 pub(crate) const CONNECTIONS: &str = "connections";
-
-pub(crate) const CLIENT: &str = "client";
 
 const FIRST: &str = "first";
 
@@ -64,7 +62,7 @@ const ONE_AT_A_TIME: &str =
 const NO_END: &str = "the options '--forever' and '--connections <K>' cannot be used together";
 
 /// The error for two registries.
-const TWO_REGISTRIES: &str =
+pub(crate) const TWO_REGISTRIES: &str =
     "the options '--everyday' and '--registry <FILE>' cannot be used together";
 
 /// What the command line asks for.
@@ -74,6 +72,10 @@ pub enum Asked<'a> {
     Profile(ProfileOptions<'a>),
     /// Submit a folder of this machine to a service.
     Submit(SubmitOptions<'a>),
+    /// Compare a folder of this machine with a list of its files.
+    Verify(VerifyOptions<'a>),
+    /// Make a page of a profile.
+    Report(ReportOptions<'a>),
     /// Run a script.
     Script {
         registry: RegistrySource<'a>,
@@ -145,6 +147,9 @@ fn mistake_in(matches: &ArgMatches<'_>) -> &'static str {
     if let Some(serve) = matches.subcommand_matches(SERVE) {
         return mistake_in_serve(serve);
     }
+    if let Some(verify) = matches.subcommand_matches(VERIFY) {
+        return mistake_in_verify(verify);
+    }
     match matches.subcommand_name() {
         Some(SUBMIT) => NO_SUCH_HASH,
         _ => TWO_REGISTRIES,
@@ -171,6 +176,12 @@ fn asked_by<'a>(matches: &ArgMatches<'a>) -> Option<Asked<'a>>
     }
     if let Some(submit) = matches.subcommand_matches(SUBMIT) {
         return submit_asked(submit);
+    }
+    if let Some(verify) = matches.subcommand_matches(VERIFY) {
+        return verify_asked(verify);
+    }
+    if let Some(report) = matches.subcommand_matches(REPORT) {
+        return report_asked(report);
     }
     if let Some(script) = matches.subcommand_matches(SCRIPT) {
         return script_asked(script);
@@ -246,6 +257,8 @@ fn command<'a>(alloc: Global) -> Result<Command<'a>, AllocError>
     top(alloc)
         .subcommand(profile(alloc)?)?
         .subcommand(submit(alloc)?)?
+        .subcommand(verify(alloc)?)?
+        .subcommand(report(alloc)?)?
         .subcommand(script(alloc)?)?
         .subcommand(run(alloc)?)?
         .subcommand(serve(alloc)?)?
@@ -318,24 +331,6 @@ fn send<'a>(alloc: Global) -> Result<Command<'a>, AllocError>
         .arg(first(alloc))
 }
 
-pub(crate) fn registry<'a>(alloc: Global, help: &'a str) -> Arg<'a>
-    ensures rule { rule_of result ≡ registry_option }
-    ensures local { result.global ≡ false }
-{
-    Arg::new(alloc, REGISTRY)
-        .long(REGISTRY)
-        .value_name("FILE")
-        .help(help)
-        .action(ArgAction::Set)
-}
-
-pub(crate) fn port<'a>(alloc: Global, help: &'a str) -> Arg<'a>
-    ensures rule { rule_of result ≡ port_option }
-    ensures local { result.global ≡ false }
-{
-    number(alloc, PORT, "P", help, 1, 65_535).required(true)
-}
-
 fn connections<'a>(alloc: Global) -> Arg<'a>
     ensures rule { rule_of result ≡ connections_option }
     ensures local { result.global ≡ false }
@@ -343,36 +338,9 @@ fn connections<'a>(alloc: Global) -> Arg<'a>
     number(alloc, CONNECTIONS, "K", CONNECTIONS_HELP, 1, 1_000)
 }
 
-pub(crate) fn client<'a>(alloc: Global, help: &'a str) -> Arg<'a>
-    ensures rule { rule_of result ≡ client_option }
-    ensures local { result.global ≡ false }
-{
-    number(alloc, CLIENT, "C", help, 0, 4_294_967_295).required(true)
-}
-
 fn first<'a>(alloc: Global) -> Arg<'a>
     ensures rule { rule_of result ≡ first_option }
     ensures local { result.global ≡ false }
 {
     number(alloc, FIRST, "N", FIRST_HELP, 0, 9_223_372_036_854_775_807)
-}
-
-/// Makes an option with a number from `least` to `most`.
-pub(crate) fn number<'a>(
-    alloc: Global,
-    name: &'a str,
-    value: &'a str,
-    help: &'a str,
-    least: u64,
-    most: u64,
-) -> Arg<'a>
-    ensures rule { rule_of result ≡ number_named name.entry.now least most }
-    ensures local { result.global ≡ false }
-{
-    Arg::new(alloc, name)
-        .long(name)
-        .value_name(value)
-        .help(help)
-        .value_parser(ValueParser::Unsigned(least, most))
-        .action(ArgAction::Set)
 }

@@ -6,10 +6,10 @@ ghost use Rattle.clap.specs.declared.builder.command.Command.TheViews.{out-Comma
 ghost use Rattle.droid_desk_arguments.specs.Asking.{IsCount, IsMany, IsOneByOne};
 ghost use Rattle.droid_desk_arguments.specs.Commands.{at_once_option, idle_option, serve_many};
 
-use crate::arguments::{CONNECTIONS, DEFAULT_CONNECTIONS, number, serve_numbers};
-use crate::profile::{flag, flag_of};
+use crate::arguments::{CONNECTIONS, DEFAULT_CONNECTIONS, serve_numbers};
 use crate::stream_help::{AT_ONCE_HELP, FOREVER_HELP, IDLE_HELP, VERBOSE_HELP};
 use clap::{Arg, ArgMatches, Command};
+use droid_desk_options::{flag, flag_of, number};
 use std::alloc::{AllocError, Global};
 
 // The names of the options.

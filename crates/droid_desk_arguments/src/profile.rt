@@ -1,32 +1,30 @@
 //! The command `profile`: its options, and what they ask for.
 
 ghost use Rattle.std.specs.Prelude.{◌≡◌, IfOk, IfSome, None, codes, false, option_map};
-ghost use Rattle.clap.specs.Words.{app_of, found_of, one_of, rows_of, rule_of};
+ghost use Rattle.clap.specs.Words.{app_of, found_of, rows_of};
 ghost use Rattle.clap.specs.declared.builder.command.Command.TheViews.{out-Command};
-ghost use Rattle.droid_desk_arguments.specs.Asking.{IsAskedBy, IsFlag, IsHash, IsProfile, has_no_checksums};
-ghost use Rattle.droid_desk_arguments.specs.Commands.{flag_named, folder_word, limit_option, option_named, profile_command, profile_files, profile_input};
+ghost use Rattle.droid_desk_arguments.specs.Asking.{IsAskedBy, IsProfile, has_no_checksums};
+ghost use Rattle.droid_desk_arguments.specs.Commands.{profile_command, profile_files, profile_input};
 
-use crate::arguments::{Asked, REGISTRY, number, registry};
+use crate::arguments::Asked;
 use crate::profile_help::{
-    FOLDER_HELP, HASH_HELP, LEFT_OUT_HELP, LIMIT_HELP, MANIFEST_HELP, MATCH_ALL_HELP, OUTPUT_HELP,
+    FOLDER_HELP, HASH_HELP, LEFT_OUT_HELP, MANIFEST_HELP, MATCH_ALL_HELP, OUTPUT_HELP,
     OWN_REGISTRY_HELP, PROFILE_ABOUT, PROFILE_HELP, QUIET_HELP,
 };
-use clap::{Arg, ArgAction, ArgMatches, Command};
-use droid_frame::HashKind;
+use clap::{ArgMatches, Command};
+use droid_desk_options::{
+    FOLDER, HashKind, LIMIT, REGISTRY, flag, flag_of, folder, hash_of, limit, named, registry,
+};
 use std::alloc::{AllocError, Global};
 
 // The names of the command, of its word and of its options.
 pub(crate) const PROFILE: &str = "profile";
 
-pub(crate) const FOLDER: &str = "folder";
-
-pub(crate) const LIMIT: &str = "limit";
-
 pub(crate) const MATCH_ALL: &str = "match-all";
 
 pub(crate) const HASH: &str = "hash";
 
-const OUTPUT: &str = "output";
+pub(crate) const OUTPUT: &str = "output";
 
 const MANIFEST: &str = "manifest";
 
@@ -108,32 +106,6 @@ pub(crate) fn has_no_checksums(hash: HashKind, manifest: Option<&str>) -> bool
     }
 }
 
-/// Reads the name of a hash: `md5`, `sha256` or `none`. Without a name the hash is MD5.
-pub(crate) fn hash_of(word: Option<&str>) -> Option<HashKind>
-    ensures { IfSome result (λ hash. IsHash (option_map (λ text. text.now) word.entry) hash) }
-{
-    let Some(word) = word else {
-        return Some(HashKind::Md5);
-    };
-    if word == "md5" {
-        return Some(HashKind::Md5);
-    }
-    if word == "sha256" {
-        return Some(HashKind::Sha256);
-    }
-    if word == "none" {
-        return Some(HashKind::Nothing);
-    }
-    None
-}
-
-/// Returns whether a flag is set.
-pub(crate) fn flag_of(matches: &ArgMatches<'_>, name: &str) -> bool
-    ensures { IsFlag (one_of name.now (rows_of (found_of matches.now))) result }
-{
-    matches.get_flag(name)
-}
-
 pub(crate) fn profile<'a>(alloc: Global) -> Result<Command<'a>, AllocError>
     ensures shape { IfOk result (λ c. app_of c ≡ profile_command) }
     ensures local { IfOk result (λ c. (out-Command c).has_globals ≡ false) }
@@ -166,45 +138,4 @@ fn input<'a>(alloc: Global) -> Result<Command<'a>, AllocError>
         .arg(folder(alloc, FOLDER_HELP))?
         .arg(registry(alloc, OWN_REGISTRY_HELP))?
         .arg(limit(alloc))
-}
-
-pub(crate) fn folder<'a>(alloc: Global, help: &'a str) -> Arg<'a>
-    ensures rule { rule_of result ≡ folder_word }
-    ensures local { result.global ≡ false }
-{
-    Arg::new(alloc, FOLDER)
-        .value_name("DIR")
-        .help(help)
-        .action(ArgAction::Set)
-        .required(true)
-}
-
-pub(crate) fn limit<'a>(alloc: Global) -> Arg<'a>
-    ensures rule { rule_of result ≡ limit_option }
-    ensures local { result.global ≡ false }
-{
-    number(alloc, LIMIT, "BYTES", LIMIT_HELP, 1, 65_536)
-}
-
-/// Makes an option with one value.
-pub(crate) fn named<'a>(alloc: Global, name: &'a str, value: &'a str, help: &'a str) -> Arg<'a>
-    ensures rule { rule_of result ≡ option_named name.entry.now }
-    ensures local { result.global ≡ false }
-{
-    Arg::new(alloc, name)
-        .long(name)
-        .value_name(value)
-        .help(help)
-        .action(ArgAction::Set)
-}
-
-/// Makes an option without a value.
-pub(crate) fn flag<'a>(alloc: Global, name: &'a str, help: &'a str) -> Arg<'a>
-    ensures rule { rule_of result ≡ flag_named name.entry.now }
-    ensures local { result.global ≡ false }
-{
-    Arg::new(alloc, name)
-        .long(name)
-        .help(help)
-        .action(ArgAction::SetTrue)
 }

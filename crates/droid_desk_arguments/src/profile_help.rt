@@ -8,9 +8,6 @@ pub const FOLDER_HELP: &str = "The folder to profile: everything inside it; it h
 pub const OWN_REGISTRY_HELP: &str =
     "Identify files by this registry file (default: the built-in registry of everyday formats)";
 
-pub const LIMIT_HELP: &str =
-    "Search this many bytes at each end of a file (1 to 65536, default 65536)";
-
 pub const MATCH_ALL_HELP: &str =
     "If no signature matches, try all formats' extensions (default: only those of formats without signatures)";
 

@@ -6,11 +6,8 @@ ghost use Rattle.clap.specs.declared.builder.command.Command.TheViews.{out-Comma
 ghost use Rattle.droid_desk_arguments.specs.Asking.{IsAskedBy, IsSentTo, IsSubmit};
 ghost use Rattle.droid_desk_arguments.specs.Commands.{name_option, piece_size_option, submit_command, submit_connection, submit_files, submit_input, timeout_option, wait_option};
 
-use crate::arguments::{Asked, CLIENT, PORT, client, number, port};
-use crate::profile::{
-    DEFAULT_LIMIT, FOLDER, HASH, LIMIT, MATCH_ALL, QUIET, SKIPPED, flag, flag_of, folder, hash_of,
-    limit, named,
-};
+use crate::arguments::Asked;
+use crate::profile::{DEFAULT_LIMIT, HASH, MATCH_ALL, QUIET, SKIPPED};
 use crate::profile_help::{HASH_HELP, MATCH_ALL_HELP, QUIET_HELP};
 use crate::submit_help::{
     EXPORT_HELP, NAME_HELP, PIECE_SIZE_HELP, SKIPPED_HELP, SUBMIT_ABOUT, SUBMIT_CLIENT_HELP,
@@ -18,7 +15,10 @@ use crate::submit_help::{
 };
 use clap::builder::ValueParser;
 use clap::{Arg, ArgMatches, Command};
-use droid_frame::HashKind;
+use droid_desk_options::{
+    CLIENT, FOLDER, HashKind, LIMIT, PORT, client, flag, flag_of, folder, hash_of, limit, named,
+    number, port,
+};
 use std::alloc::{AllocError, Global};
 
 // The names of the command and of its options.

@@ -1,3 +1,2 @@
 pub mod Exporting
 pub mod Keeping
-pub mod SkippedPaths

@@ -1,13 +1,13 @@
 -- Which differences between a profile and a folder are reported, and in which words (this project's own).
 use Rattle.std.specs.Prelude.{ℕ, Bool, true, false, not, List, [], ◌∷◌, ◌++◌, codes, filter}
-use Rattle.droid_desk_progress.specs.Paths.{shown_text}
+use Rattle.droid_desk_outputs.specs.Causes.{shown_text}
 use Rattle.droid_fixity.specs.Reports.{path_at}
 use Rattle.droid_fixity.specs.declared.difference.Difference.{Difference}
 use Rattle.droid_fixity.specs.declared.difference.Difference.TheVariants.{Changed, Missing, New, Moved, Touched}
 use Rattle.droid_fixity.specs.declared.item.Changes.{Changes}
 use Rattle.droid_fixity.specs.declared.item.Item.{Item}
 use Rattle.droid_fixity_profile.specs.declared.seen.Seen.{Seen}
-use Rattle.droid_desk_folders.specs.SkippedEntries.{is_explained}
+use Rattle.droid_desk_outputs.specs.SkippedPaths.{is_explained}
 use Rattle.droid_desk_folders.specs.declared.difference_line.DifferenceLine.{DifferenceLine}
 use Rattle.droid_desk_outputs.specs.declared.skipped_entry.SkippedEntry.{SkippedEntry}
 

@@ -11,7 +11,7 @@ use Rattle.droid_tree_remote.specs.declared.remote_fault.RemoteFault.{RemoteFaul
 use Rattle.droid_tree_remote.specs.declared.remote_fault.RemoteFault.TheVariants as submitting
 use Rattle.droid_tree_upload.specs.declared.submission_fault.SubmissionFault.{SubmissionFault}
 use Rattle.droid_tree_upload.specs.declared.submission_fault.SubmissionFault.TheVariants as walking
-use Rattle.droid_desk_progress.specs.Faults.{walk_fault_text}
+use Rattle.droid_desk_outputs.specs.Faults.{walk_fault_text}
 use Rattle.droid_desk_folders.specs.declared.check_fault.CheckFault.{CheckFault}
 use Rattle.droid_desk_folders.specs.declared.check_fault.CheckFault.TheVariants as checking
 use Rattle.droid_desk_folders.specs.declared.profile_comparison.ComparisonFault.{ComparisonFault}

@@ -7,7 +7,7 @@ use crate::begun_options::BegunOptions;
 use crate::check_fault::CheckFault;
 use crate::profile_comparison::ComparisonFault;
 use crate::submission_fault_names::{check_name, output_name, submitting_name, transfer_name};
-use droid_desk_progress::walk_fault_name;
+use droid_desk_outputs::walk_fault_name;
 use droid_tree::WalkFault;
 use droid_tree_disk::OutputFault;
 use droid_tree_remote::{RemoteFault, TransferFault};

@@ -5,8 +5,9 @@ ghost use Rattle.droid_export.specs.Csv.{line};
 ghost use Rattle.droid_export.specs.CsvBuffer.{Holds};
 ghost use Rattle.droid_desk_outputs.specs.SkippedTexts.{entry_record, entry_text, header, skipped_csv};
 
+use crate::csv_records::{finish_csv, new_csv, write_record};
 use crate::skipped_entry::SkippedEntry;
-use csv::{QuoteStyle, Writer, WriterBuilder};
+use csv::Writer;
 use droid_desk_progress::cause;
 use droid_tree::Skipped;
 use std::alloc::{AllocError, Global};
@@ -15,30 +16,30 @@ use std::alloc::{AllocError, Global};
 pub fn skipped_csv(alloc: Global, skipped: &[SkippedEntry]) -> Result<Vec<u8>, AllocError>
     ensures { IfOk result (λ csv. csv.items ≡ skipped_csv skipped.now) }
 {
-    let mut writer = new_writer(alloc);
+    let mut writer = new_csv(alloc);
     write_pair(&mut writer, b"path", b"reason")?;
     for entry in skipped {
         write_entry(&mut writer, entry)?;
     }
-    finish(writer)
+    finish_csv(writer)
 }
 
 /// Returns the first line of this CSV, which names its columns.
 pub fn header_line(alloc: Global) -> Result<Vec<u8>, AllocError>
     ensures { IfOk result (λ text. text.items ≡ header) }
 {
-    let mut writer = new_writer(alloc);
+    let mut writer = new_csv(alloc);
     write_pair(&mut writer, b"path", b"reason")?;
-    finish(writer)
+    finish_csv(writer)
 }
 
 /// Returns the line of one entry.
 pub fn entry_line(alloc: Global, path: &[u8], why: Skipped) -> Result<Vec<u8>, AllocError>
     ensures { IfOk result (λ text. text.items ≡ entry_text path.now why) }
 {
-    let mut writer = new_writer(alloc);
+    let mut writer = new_csv(alloc);
     write_pair(&mut writer, path, cause(why).as_bytes())?;
-    finish(writer)
+    finish_csv(writer)
 }
 
 /// Writes the record of an entry.
@@ -48,32 +49,10 @@ fn write_entry(writer: &mut Writer<Vec<u8>>, entry: &SkippedEntry) -> Result<(),
     write_pair(writer, entry.path.as_slice(), cause(entry.why).as_bytes())
 }
 
-/// Makes a writer with an empty buffer. Takes no memory.
-fn new_writer(alloc: Global) -> Writer<Vec<u8>>
-    ensures { Holds result [] }
-{
-    WriterBuilder::new()
-        .quote_style(QuoteStyle::Always)
-        .from_writer(Vec::new(alloc))
-}
-
 /// Writes a record of two fields. Fails only if the buffer can't grow.
 fn write_pair(writer: &mut Writer<Vec<u8>>, first: &[u8], second: &[u8]) -> Result<(), AllocError>
     ensures { OnOk result ((text : List ℕ) → Holds writer.old text → Holds writer.new (text ++ line (first.now ∷ second.now ∷ []))) }
 {
     let fields: [&[u8]; 2] = [first, second];
-    match writer.write_fields(&fields) {
-        Ok(()) => Ok(()),
-        Err(_) => Err(AllocError),
-    }
-}
-
-/// Returns the buffer with all that was written. Fails only if the buffer can't grow.
-fn finish(writer: Writer<Vec<u8>>) -> Result<Vec<u8>, AllocError>
-    ensures { IfOk result (λ bytes. (text : List ℕ) → Holds writer text → bytes.items ≡ text) }
-{
-    match writer.into_inner() {
-        Ok(bytes) => Ok(bytes),
-        Err(_) => Err(AllocError),
-    }
+    write_record(writer, &fields)
 }

@@ -2,7 +2,7 @@
 use Rattle.std.proofs.Common.{ℕ, Bool, List, Option, Result, Ok, Err}
 use Rattle.std.specs.Prelude.{IfErr, IfOk}
 use Rattle.droid_frame.specs.stream_types.seen.Seen.{Seen}
-use Rattle.droid_pronom.specs.Registry.{Contents}
+use Rattle.droid_profile_csv.specs.Registry.{Contents}
 use Rattle.droid_tree.specs.Heard.{Heard}
 use Rattle.droid_tree.specs.Observation.{GoesOver, Observation}
 use Rattle.droid_profile_csv.specs.WrittenTrees.{After, Before, During, EndsWriting, WritesTree, heard_in}

@@ -1,3 +1,21 @@
+-- definitions and types of the crates below, re-exported
+pub use Rattle.droid_desk_outputs.specs.Causes
+pub use Rattle.droid_desk_outputs.specs.Csv
+pub use Rattle.droid_desk_outputs.specs.CsvBuffer
+pub use Rattle.droid_desk_outputs.specs.Filters
+pub use Rattle.droid_desk_outputs.specs.Moments
+pub use Rattle.droid_desk_outputs.specs.Rows
+pub use Rattle.droid_desk_outputs.specs.SkippedPaths
+pub use Rattle.droid_desk_outputs.specs.SkippedTexts
+pub use Rattle.droid_desk_outputs.specs.Text
+pub use Rattle.droid_desk_outputs.specs.declared as outputs_types
+pub use Rattle.droid_profile_csv.specs.Conditions
+pub use Rattle.droid_profile_csv.specs.EarlyEnds
+pub use Rattle.droid_profile_csv.specs.ProfileRecords
+pub use Rattle.droid_profile_csv.specs.Profiles
+pub use Rattle.droid_profile_csv.specs.Registry
+pub use Rattle.droid_profile_csv.specs.profile_types as profiler_types
+pub use Rattle.droid_profile_csv.specs.types as walk_types
 pub mod OtherFiles
 pub mod ProfileEndings
 pub mod ProfiledFolders

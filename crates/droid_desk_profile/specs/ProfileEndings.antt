@@ -44,8 +44,8 @@ output_fault_text outputs.Refused = codes "Output"
 abbrev pub csv_fault_text : CsvFault → List ℕ
 csv_fault_text faults.Memory = codes "Memory"
 csv_fault_text faults.Numbers = codes "Numbers"
-csv_fault_text (faults.Csv why) = codes "Write"
-csv_fault_text (faults.Manifest why) = codes "Write"
+csv_fault_text faults.Csv = codes "Write"
+csv_fault_text faults.Manifest = codes "Write"
 
 abbrev pub skipped_fault_text : SkippedFault → List ℕ
 skipped_fault_text skipping.Memory = codes "Memory"

@@ -101,7 +101,7 @@ fn csv_fault_name(fault: CsvFault) -> &'static str
     match fault {
         CsvFault::Memory => "Memory",
         CsvFault::Numbers => "Numbers",
-        CsvFault::Csv(_) | CsvFault::Manifest(_) => "Write",
+        CsvFault::Csv | CsvFault::Manifest => "Write",
     }
 }
 

@@ -4,8 +4,7 @@ use crate::output_files::OutputFile;
 use crate::profile_ending::ProfileEnding;
 use crate::skipped_file::SkippedFault;
 use droid_desk_arguments::ProfileOptions;
-use droid_desk_outputs::{NO_MEMORY, print_no_folder, print_no_output};
-use droid_desk_progress::Shown;
+use droid_desk_outputs::{NO_MEMORY, Shown, print_no_folder, print_no_output};
 use droid_profile_csv::CsvFault;
 use droid_tree_disk::OutputFault;
 use std::fs::Files;
@@ -33,10 +32,10 @@ impl ProfileEnding {
             ProfileEnding::NoOutput(file, OutputFault::Refused) => {
                 print_no_output(rt, path_of(options, file))
             }
-            ProfileEnding::Fault(CsvFault::Csv(_)) => {
+            ProfileEnding::Fault(CsvFault::Csv) => {
                 print_unwritten(rt, path_of(options, OutputFile::Csv))
             }
-            ProfileEnding::Fault(CsvFault::Manifest(_)) => {
+            ProfileEnding::Fault(CsvFault::Manifest) => {
                 print_unwritten(rt, path_of(options, OutputFile::Manifest))
             }
             ProfileEnding::Unlisted(SkippedFault::Write(_)) => {

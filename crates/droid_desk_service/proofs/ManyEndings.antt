@@ -1,5 +1,5 @@
 -- What the end of serving many connections says of the program's ending.
-use Rattle.std.proofs.Common.{◌≡◌, [], Option, Some, None, refl, subst, sym, ◌∙◌}
+use Rattle.std.proofs.Common.{◌≡◌, ◌≢◌, [], Option, Some, None, refl, subst, sym, ◌∙◌}
 use Rattle.std.specs.declared.io.ErrorKind.{ErrorKind}
 use Rattle.droid_desk_arguments.specs.declared.many.ManyOptions.{ManyOptions}
 use Rattle.droid_desk_service.specs.Fresh.{IsMade, IsNoService, IsUnmade}
@@ -21,10 +21,11 @@ some_of : {C : Type 0} (does : C → Event → C → Type 0) (rules : Rules) (se
     → ServesMany does rules setting history connections later after result → ServesSome rules setting history after result
 some_of does rules setting history connections later after result serves = record { steps = serves.steps; serves = serves.serves; runs = serves.runs }
 
-ends_so : (options : ManyOptions) (served : Served) → ServesFresh options served → ManyEndsAs options (many_ending_of served) None
-ends_so options ways.All fresh = fresh
-ends_so options ways.Stopped fresh = fresh
-ends_so options ways.Memory fresh = fresh
+ends_so : (options : ManyOptions) (served : Served) → served ≢ ways.Unsettled → ServesFresh options served → ManyEndsAs options (many_ending_of served) None
+ends_so options ways.All settled fresh = fresh
+ends_so options ways.Stopped settled fresh = fresh
+ends_so options ways.Memory settled fresh = fresh
+ends_so options ways.Unsettled settled fresh = absurd (settled refl)
 
 -- a fresh service served connections, and the command ends by that
 pub ends_serving : {C : Type 0} (does : C → Event → C → Type 0) (options : ManyOptions) (connections later : C) (before after : Service) (ending ended : Ending) (cause : Option ErrorKind)
@@ -39,7 +40,7 @@ ends_serving {C} does options connections later before after ending ended cause 
       same_registry = registry ∙ made.1.same_registry;
     } in
     subst (λ (k : Option ErrorKind). ManyEndsAs options ended k) (sym none)
-    (subst (λ (e : Ending). ManyEndsAs options e None) (sym (is ∙ ends.ends)) (ends_so options ends.served fresh))
+    (subst (λ (e : Ending). ManyEndsAs options e None) (sym (is ∙ ends.ends)) (ends_so options ends.served ends.settled fresh))
 
 -- the port could not be used
 pub ends_unused : (options : ManyOptions) (ended : Ending) (cause : Option ErrorKind) (kind : ErrorKind) → ended ≡ Socket → cause ≡ Some kind → ManyEndsAs options ended cause

@@ -1,5 +1,5 @@
 -- How `serve` for many connections at once ends.
-use Rattle.std.specs.Prelude.{◌≡◌, ℕ, ◌*◌, [], Option, None, Some}
+use Rattle.std.specs.Prelude.{◌≡◌, ◌≢◌, ℕ, ◌*◌, [], Option, None, Some}
 use Rattle.std.specs.declared.io.ErrorKind.{ErrorKind}
 use Rattle.droid_desk_arguments.specs.declared.many.ManyOptions.{ManyOptions}
 use Rattle.droid_desk_service.specs.Endings.{IsProgramSetting, program_limits}
@@ -27,12 +27,14 @@ abbrev pub many_ending_of : Served → Ending
 many_ending_of ways.All = Done
 many_ending_of ways.Stopped = Socket
 many_ending_of ways.Memory = Stream (serve_faults.Frame frame_faults.Memory)
+many_ending_of ways.Unsettled = Socket
 
 -- Connections were served as the options say, by one service that goes on from whatever history it stood for; and the
 -- program ends by how that ended.
 pub record EndsServing {C : Type 0} (does : C → Event → C → Type 0) (options : ManyOptions) (connections later : C) (before after : Service) (ending : Ending) : Type 0 where
   pub served : Served
   pub ends : ending ≡ many_ending_of served
+  pub settled : served ≢ ways.Unsettled
   pub serves : (setting : Setting) (history : History) → StandsFor setting before history → ServesMany does (rules_named options) setting history connections later after served
 
 -- a fresh service with the program's limits served connections as the options say, and kept its registry

@@ -108,6 +108,8 @@ fn end_of(served: Served) -> Ending
     match served {
         Served::All => Ending::Done,
         Served::Stopped => Ending::Socket,
+        // A service that keeps everything in memory never ends so.
+        Served::Unsettled => Ending::Socket,
         Served::Memory => Ending::Stream(ServeFault::Frame(FrameFault::Memory)),
     }
 }

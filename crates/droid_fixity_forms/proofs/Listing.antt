@@ -1,6 +1,6 @@
 -- What a list says, by what the calls that read it promise.
-use Rattle.std.proofs.Common.{◌≡◌, ◌∙◌, ◌≢◌, ◌+◌, ◌<◌, ◌≤◌, ℕ, List, [], ◌∷◌, Result, Ok, Err, drop, length, get_or, sym, ap, subst}
-use Rattle.std.proofs.lemmas.List.{at_drop_all, at_drop_more, drop_more}
+use Rattle.std.proofs.Common.{◌≡◌, ◌∙◌, ◌≢◌, ◌+◌, ◌<◌, ◌≤◌, ℕ, List, Result, Ok, Err, drop, length, get_or, sym, ap, subst}
+use Rattle.std.proofs.lemmas.List.{at_drop_all, drop_more}
 use Rattle.droid_frame.specs.Hashes.{hash_value_kind}
 use Rattle.droid_frame.specs.types.hash_kind.HashKind.{HashKind}
 use Rattle.droid_frame.specs.types.hash_kind.HashKind.TheVariants as kinds

@@ -1,9 +1,9 @@
 -- What one call took, by its result.
-use Rattle.std.proofs.Common.{◌≡◌, ◌≢◌, ℕ, ◌≤◌, List, [], ◌++◌, length, take, Option, Some, None, Result, Ok, Err, refl, sym, ap, subst, ◌∙◌, inl, inr}
+use Rattle.std.proofs.Common.{◌≡◌, ◌≢◌, ℕ, ◌≤◌, List, [], ◌++◌, length, take, Option, Some, None, Result, Ok, Err, sym, ap, ◌∙◌, inl, inr}
 use Rattle.std.specs.Prelude.{IfErr, IfOk, MatchOption}
 use Rattle.std.proofs.lemmas.List.{append-nil}
 use Rattle.droid_frame.specs.Frames.{frame_bytes}
-use Rattle.droid_frame.specs.Streams.{BeginsNoFrame, why}
+use Rattle.droid_frame.specs.Streams.{why}
 use Rattle.droid_frame.specs.declared.stream.arrival.Arrival.TheVariants as arrivals
 use Rattle.droid_frame.specs.declared.stream.fault.FrameFault.{FrameFault}
 use Rattle.droid_frame.specs.declared.stream.fault.FrameFault.TheVariants.{Truncated, BadVersion, TooLong, Memory, Read}

@@ -1,5 +1,5 @@
 -- One call on a stream: the frames so far, and what is held.
-use Rattle.std.proofs.Common.{◌≡◌, ℕ, ◌≤◌, List, [], ◌∷◌, ◌++◌, length, take, Option, Some, None, Result, Ok, Err, refl, sym, ap, subst, ◌∙◌, arith, append_assoc}
+use Rattle.std.proofs.Common.{◌≡◌, ℕ, List, [], ◌∷◌, ◌++◌, length, take, Option, Some, None, Result, Ok, Err, sym, ap, subst, ◌∙◌, arith, append_assoc}
 use Rattle.std.specs.List.{AllByRecursion, flat_map}
 use Rattle.std.specs.Option.{option_to_list}
 use Rattle.std.specs.Prelude.{MatchOption}
@@ -9,7 +9,7 @@ use Rattle.droid_frame.specs.Streams.{BeginsNoFrame, Frames, IsReadable, why}
 use Rattle.droid_frame.specs.declared.stream.fault.FrameFault.{FrameFault}
 use Rattle.droid_frame.specs.declared.stream.fault.FrameFault.TheVariants.{Truncated, BadVersion, TooLong, Memory, Read}
 use Rattle.droid_frame.specs.types.frame.Frame.{Frame}
-use Rattle.droid_frame_feed.specs.Feeding.{Brings, Feeds, IsFaulty, ReadsOn, Refuses, Waits}
+use Rattle.droid_frame_feed.specs.Feeding.{Brings, Feeds, ReadsOn, Refuses, Waits}
 use Rattle.droid_frame_feed.specs.declared.fed.Fed.{Fed}
 use Rattle.droid_frame_feed.proofs.Taking.{take_whole}
 

@@ -1,15 +1,14 @@
 -- What a file may be after a crash, and the records that are read from it.
-use Rattle.std.proofs.Common.{◌≡◌, ℕ, ◌+◌, ◌-◌, ◌≤◌, List, [], ◌∷◌, ◌++◌, length, take, drop, Option, Some, None, refl, sym, ap, subst, ◌∙◌, append_assoc, arith}
+use Rattle.std.proofs.Common.{◌≡◌, ℕ, ◌+◌, ◌-◌, ◌≤◌, true, List, [], ◌∷◌, ◌++◌, length, take, drop, refl, sym, ap, subst, ◌∙◌, append_assoc, arith}
 use Rattle.std.proofs.lemmas.List.{append-nil, length-append}
 use Rattle.std.proofs.Math.Seq.{take-append-add}
 use Rattle.md5.specs.Md5.{md5}
 use Rattle.droid_journal_chain.specs.Fronts.{IsFront}
 use Rattle.droid_journal_chain.specs.Records.{Record, Fits, AllFit, next_check, record_bytes}
-use Rattle.droid_journal_chain.specs.Chains.{chain_bytes, check_after, journal_bytes, last_check, BeginsNoRecord, Chain, NotByChance}
+use Rattle.droid_journal_chain.specs.Chains.{chain_bytes, check_after, journal_bytes, last_check, BeginsNoRecord, Chain, IsLater, NotByChance}
 use Rattle.droid_journal_chain.specs.Reading.{record_at}
 use Rattle.droid_journal_chain.proofs.Bytes.{some_is}
-use Rattle.droid_journal_chain.proofs.Fronts.{front_refl, front_trans}
-use Rattle.droid_journal_chain.proofs.RecordLaws.{length-record, record_again}
+use Rattle.droid_journal_chain.proofs.RecordLaws.{check_sealed, length-check, length-record, record_again}
 
 module _ (start : List ℕ) where
   pub chain_append : (check : List ℕ) (xs ys : List Record) → chain_bytes start check (xs ++ ys) ≡ chain_bytes start check xs ++ chain_bytes start (check_after start check xs) ys
@@ -108,6 +107,21 @@ module _ (header : List ℕ) where
 
   pub read_is_written : (written : List Record) (file : List ℕ) (its : List Record) (rest : List ℕ) → NotByChance header written file → Chain header file its rest → IsFront its written
   read_is_written written file its rest chance chain = written_from written file [] its rest chance (written, refl) chain.fit chain.joined
+
+  pub turn_shows : (before : List Record) (last it : Record) (rest : List ℕ) → Fits it → it.first ≡ true
+      → IsLater (md5 header) (next_check (md5 header) (last_check header before) last ++ (record_bytes (md5 header) (last_check header (before ++ last ∷ [])) it ++ rest))
+  turn_shows before last it rest fit first =
+      let check : List ℕ = next_check (md5 header) (last_check header before) last in
+      record {
+        check = check;
+        it = it;
+        rest = rest;
+        size = length-check (md5 header) (last_check header before) last;
+        is_sealed = check_sealed (md5 header) (last_check header before) last;
+        fits = fit;
+        first = first;
+        there = ap (λ (k : List ℕ). check ++ (record_bytes (md5 header) k it ++ rest)) (last_one before last);
+      }
 
   -- ---- a file that lost an end, and has nothing in its place
 

@@ -1,19 +1,40 @@
 -- A record that is read is the one that was written, and what was written is read again.
-use Rattle.std.proofs.Common.{◌≡◌, ℕ, ◌+◌, ◌≤◌, ◌^◌, ◌<◌, Bool, true, false, cond, eqb, ltb, leb, List, [], ◌∷◌, ◌++◌, length, take, drop, Option, Some, None, refl, sym, ap, subst, ◌∙◌, append_assoc, arith}
+use Rattle.std.proofs.Common.{◌≡◌, ℕ, ◌+◌, ◌≤◌, Bool, true, false, cond, eqb, ltb, leb, List, [], ◌∷◌, ◌++◌, length, get_or, take, drop, Option, Some, None, refl, sym, ap, subst, ◌∙◌, append_assoc, arith}
 use Rattle.std.specs.Int.{w32, to_be_bytes}
 use Rattle.std.specs.Str.{bytes_eq}
 use Rattle.std.proofs.lemmas.Bool.{eqb-true, ltb-false, le-ltb, leb-true, le-leb}
-use Rattle.std.proofs.lemmas.List.{take_at, drop_at, take-append-drop, length-append, length-take}
+use Rattle.std.proofs.lemmas.List.{take_at, drop_at, take-append-drop, length-append, length-take, get_or-drop}
 use Rattle.std.proofs.lemmas.Slice.Eq.{bytes_eq-Decides}
+use Rattle.md5.specs.Md5.{md5}
 use Rattle.md5.proofs.StandardFacts.{length-md5}
-use Rattle.droid_journal_chain.specs.Records.{Record, made, Fits, first_byte, string, body, next_check, record_bytes}
+use Rattle.droid_journal_chain.specs.Records.{Record, made, Fits, digest, first_byte, string, body, next_check, record_bytes, sealed}
 use Rattle.droid_journal_chain.specs.Chains.{BeginsNoRecord, BeginsWith, IsLater}
 use Rattle.droid_journal_chain.specs.Reading.{◌>>=◌, first_at, string_at, fits, check_at, record_at}
-use Rattle.droid_journal_chain.proofs.Bytes.{IsBytes, IsBytes-drop, Takes, Takes-then, bind_some, guard_some, test_some, some_is, string_takes, string_again}
+use Rattle.droid_journal_chain.proofs.Bytes.{IsBytes, IsBytes-drop, Takes-then, bind_some, test_some, some_is, string_takes, string_again}
+
+length-digest : (start check : List ℕ) (it : Record) → length (digest start check it) ≡ 16
+unfolding digest
+length-digest start check it = length-md5 _
+
+length-sealed : (start bytes : List ℕ) → length (sealed start bytes) ≡ length bytes + 4
+length-sealed start bytes =
+    let seal : List ℕ = md5 (start ++ bytes) in
+    let long : length seal ≡ 16 = length-md5 (start ++ bytes) in
+    omega (arith, long, length-take 4 seal, length-append bytes (take 4 seal))
 
 pub length-check : (start check : List ℕ) (it : Record) → length (next_check start check it) ≡ 16
 unfolding next_check
-length-check start check it = length-md5 _
+length-check start check it =
+    let sum : List ℕ = digest start check it in
+    omega (arith, length-digest start check it, length-take 12 sum, length-sealed start (take 12 sum))
+
+-- a check value is sealed
+pub check_sealed : (start check : List ℕ) (it : Record) → next_check start check it ≡ sealed start (take 12 (next_check start check it))
+unfolding next_check
+check_sealed start check it =
+    let sum : List ℕ = take 12 (digest start check it) in
+    let long : length sum ≡ 12 = omega (arith, length-digest start check it, length-take 12 (digest start check it)) in
+    ap (λ (t : List ℕ). sealed start t) (sym (take_at sum (take 4 (md5 (start ++ sum))) 12 long))
 
 pub length-body : (it : Record) → length (body it) ≡ length it.request + length it.reply + 9
 length-body it =
@@ -142,6 +163,10 @@ begins_none start check bytes none it rest fit is =
 
 -- ---- a record that was written later
 
+byte_of : (start check : List ℕ) (it : Record) (rest : List ℕ) → get_or (record_bytes start check it ++ rest) 0 0 ≡ first_byte it.first
+unfolding record_bytes
+byte_of start check it rest = refl
+
 module _ (start bytes : List ℕ) where
   front_is : (later : IsLater start bytes) → take 16 bytes ≡ later.check
   front_is later = ap (λ (t : List ℕ). take 16 t) later.there ∙ take_at later.check (record_bytes start later.check later.it ++ later.rest) 16 later.size
@@ -153,14 +178,16 @@ module _ (start bytes : List ℕ) where
   is_read later =
       ap (λ (t : List ℕ). record_at start t (drop 16 bytes)) (front_is later) ∙ ap (record_at start later.check) (back_is later) ∙ record_again start later.check later.it later.rest later.fits
 
-  pub later_found : (x : Answer) → IsBytes bytes → 16 ≤ length bytes → record_at start (take 16 bytes) (drop 16 bytes) ≡ Some x → x.0.first ≡ true → IsLater start bytes
-  later_found x small long e first =
+  pub later_found : (x : Answer) → IsBytes bytes → 16 ≤ length bytes → take 16 bytes ≡ sealed start (take 12 (take 16 bytes)) → record_at start (take 16 bytes) (drop 16 bytes) ≡ Some x → x.0.first ≡ true
+      → IsLater start bytes
+  later_found x small long is_sealed e first =
       let taken = record_takes start (take 16 bytes) (drop 16 bytes) x (IsBytes-drop 16 bytes small) e in
       record {
         check = take 16 bytes;
         it = x.0;
         rest = x.2;
         size = omega (arith, length-take 16 bytes);
+        is_sealed = is_sealed;
         fits = taken.fits;
         first = first;
         there = sym (take-append-drop 16 bytes) ∙ ap (λ (t : List ℕ). take 16 bytes ++ t) taken.parts;
@@ -174,5 +201,14 @@ module _ (start bytes : List ℕ) where
   pub later_none : record_at start (take 16 bytes) (drop 16 bytes) ≡ None → IsLater start bytes → ⊥
   later_none none later = let some = is_read later in cc
 
-  pub later_short : length bytes < 16 → IsLater start bytes → ⊥
-  later_short short later = omega (arith, ap length later.there, length-append later.check (record_bytes start later.check later.it ++ later.rest), later.size)
+  pub later_short : length bytes ≤ 16 → IsLater start bytes → ⊥
+  later_short short later =
+      let one : List ℕ = record_bytes start later.check later.it in
+      omega (arith, ap length later.there, length-append later.check (one ++ later.rest), length-append one later.rest, length-record start later.check later.it, later.size)
+
+  pub later_sealed : IsLater start bytes → take 16 bytes ≡ sealed start (take 12 (take 16 bytes))
+  later_sealed later = front_is later ∙ later.is_sealed ∙ ap (λ (t : List ℕ). sealed start (take 12 t)) (sym (front_is later))
+
+  pub later_byte : IsLater start bytes → get_or bytes 16 0 ≡ 1
+  later_byte later =
+      sym (get_or-drop 16 bytes 0 0) ∙ ap (λ (t : List ℕ). get_or t 0 0) (back_is later) ∙ byte_of start later.check later.it later.rest ∙ ap first_byte later.first

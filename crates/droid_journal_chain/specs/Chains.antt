@@ -1,8 +1,8 @@
 -- The bytes of a journal, and what may stand behind its records (this project's own).
-use Rattle.std.specs.Prelude.{◌≡◌, ℕ, Bool, true, List, [], ◌∷◌, ◌++◌, length, drop}
+use Rattle.std.specs.Prelude.{◌≡◌, ℕ, ◌+◌, ◌≤◌, true, List, [], ◌∷◌, ◌++◌, length, take, drop}
 use Rattle.md5.specs.Md5.{md5}
 use Rattle.droid_journal_chain.specs.Fronts.{IsFront}
-use Rattle.droid_journal_chain.specs.Records.{Record, Fits, AllFit, next_check, record_bytes}
+use Rattle.droid_journal_chain.specs.Records.{Record, Fits, AllFit, next_check, record_bytes, sealed}
 
 -- the records behind one that has this check value
 abbrev pub chain_bytes : List ℕ → List ℕ → List Record → List ℕ
@@ -41,13 +41,14 @@ pub record Chain (header file : List ℕ) (its : List Record) (rest : List ℕ) 
   pub joined : file ≡ journal_bytes header its ++ rest
   pub ends : BeginsNoRecord (first_check header) (last_check header its) rest
 
--- at the front 16 bytes stand, and then a whole record, with a right check value behind these, that was written when all
--- before it was on the disk
+-- at the front a check value stands, and then a whole record, with a right check value behind it, that was written when
+-- all before it was on the disk
 pub record IsLater (start bytes : List ℕ) : Type 0 where
   pub check : List ℕ
   pub it : Record
   pub rest : List ℕ
   pub size : length check ≡ 16
+  pub is_sealed : check ≡ sealed start (take 12 check)
   pub fits : Fits it
   pub first : it.first ≡ true
   pub there : bytes ≡ check ++ (record_bytes start check it ++ rest)
@@ -56,8 +57,19 @@ pub record IsLater (start bytes : List ℕ) : Type 0 where
 abbrev pub HasLater : List ℕ → List ℕ → Type 0
 HasLater start bytes = (place : ℕ) × IsLater start (drop place bytes)
 
--- The premise. Where a whole record with a right check value stands behind records that were written, it is the next that
+-- A premise. Where a whole record with a right check value stands behind records that were written, it is the next that
 -- was written.
 abbrev pub NotByChance : List ℕ → List Record → List ℕ → Type 0
 NotByChance header written file = (before : List Record) (it : Record) (rest : List ℕ) → IsFront before written → Fits it
     → file ≡ journal_bytes header (before ++ it ∷ []) ++ rest → IsFront (before ++ it ∷ []) written
+
+-- the record stands in the file where it was written, with the check value before it from this place on
+pub record WasWritten (header : List ℕ) (written : List Record) (place : ℕ) (it : Record) : Type 0 where
+  pub before : List Record
+  pub after : List Record
+  pub parts : written ≡ before ++ it ∷ after
+  pub at : place + 16 ≡ length (journal_bytes header before)
+
+-- The other premise. Where a record of a later turn stands anywhere from a place on, it was written there.
+abbrev pub NoneLaterByChance : List ℕ → List Record → List ℕ → ℕ → Type 0
+NoneLaterByChance header written file from = (place : ℕ) (later : IsLater (first_check header) (drop place file)) → from ≤ place → WasWritten header written place later.it

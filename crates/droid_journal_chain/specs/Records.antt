@@ -1,6 +1,6 @@
 -- Records of a journal: an accepted request and its reply as frames, and a check value that chains the record to the one
 -- before it (this project's own).
-use Rattle.std.specs.Prelude.{ℕ, ◌+◌, ◌≤◌, if◌then◌else◌, Bool, List, [], ◌∷◌, ◌++◌, length, take, drop, slice_index}
+use Rattle.std.specs.Prelude.{ℕ, ◌+◌, ◌≤◌, if◌then◌else◌, Bool, List, ◌∷◌, ◌++◌, length, take, drop, slice_index}
 use Rattle.std.specs.Int.{w32, to_be_bytes}
 use Rattle.std.specs.List.{AllByRecursion}
 use Rattle.md5.specs.Md5.{md5}
@@ -37,9 +37,18 @@ body it = first_byte it.first ∷ (string it.request ++ string it.reply)
 abbrev pub mark_in : List ℕ → List ℕ
 mark_in request = md5 (slice_index request 1 ∷ drop 18 request)
 
--- the check value of a record in the journal of this start value, behind a record with this check value
+-- the MD5 of a record in the journal of this start value, behind a record with this check value
+unfoldable pub digest : List ℕ → List ℕ → Record → List ℕ
+digest start check it = md5 (start ++ (check ++ (first_byte it.first ∷ (take 18 it.request ++ (mark_in it.request ++ it.reply)))))
+
+-- twelve bytes and a seal of four: only who knows the start value can seal them
+abbrev pub sealed : List ℕ → List ℕ → List ℕ
+sealed start bytes = bytes ++ take 4 (md5 (start ++ bytes))
+
+-- the check value of that record. It is sealed, so that whoever searches for records need not hash what stands behind
+-- bytes that are no check value.
 unfoldable pub next_check : List ℕ → List ℕ → Record → List ℕ
-next_check start check it = md5 (start ++ (check ++ (first_byte it.first ∷ (take 18 it.request ++ (mark_in it.request ++ it.reply)))))
+next_check start check it = sealed start (take 12 (digest start check it))
 
 unfoldable pub record_bytes : List ℕ → List ℕ → Record → List ℕ
 record_bytes start check it = body it ++ next_check start check it

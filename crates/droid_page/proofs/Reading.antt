@@ -1,7 +1,7 @@
 -- What a browser reads from the text of a tree.
 use Rattle.std.proofs.Common.{◌≡◌, ◌∙◌, ◌==◌, decimal, ℕ, false, cond, List, [], ◌∷◌, ◌++◌, append_assoc, append-nil, codes, map, refl, sym, ap}
 use Rattle.droid_page.specs.Escapes.{shown}
-use Rattle.droid_page.specs.Readers.{Token, Start, End, Character, Fault, State, Data, Reference, TagOpen, StartTag, BeforeName, BeforeValue, InValue, ValueReference, AfterValue, Setting, Step, goes, says, step, read, characters, setting_of, tokens_of, value_of}
+use Rattle.droid_page.specs.Readers.{Token, Start, End, Character, Data, Reference, TagOpen, StartTag, BeforeName, BeforeValue, InValue, ValueReference, AfterValue, Setting, Step, goes, says, step, read, characters, setting_of, tokens_of, value_of}
 use Rattle.droid_page.specs.Trees.{Tree, Nothing, Text, Number, Element, Meta, Tag, Key, Attribute, Value, Words, Count, attributes_text, key_name, tag_name, text_of, value_text, Html, Head, Title, Style, Body, Main, Section, H1, H2, P, Table, Caption, Thead, Tbody, Tr, Th, Td, A, Bdi, Svg, Rect, Lang, Charset, Name, Content, HttpEquiv, Class, Href, Rel, Scope, AriaHidden, Viewbox, PreserveAspectRatio, Width, Height}
 use Rattle.droid_page.proofs.Escaping.{TakesText, number_taken, text_taken}
 

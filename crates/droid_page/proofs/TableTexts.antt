@@ -1,5 +1,5 @@
 -- The text of tables is that of their trees.
-use Rattle.std.proofs.Common.{◌≡◌, ◌∙◌, ℕ, List, [], ◌∷◌, ◌++◌, String, Vec, append-nil, append_assoc, codes, flat_map, refl, string_bytes, sym, ap}
+use Rattle.std.proofs.Common.{◌≡◌, ◌∙◌, ℕ, List, [], ◌∷◌, ◌++◌, String, Vec, append_assoc, codes, flat_map, refl, string_bytes, sym, ap}
 use Rattle.std.specs.declared.alloc.Global.{Global}
 use Rattle.droid_page.specs.Escapes.{escape}
 use Rattle.droid_page.specs.Tables.{body_text, body_tree, cell_text, cell_tree, each, head_text, head_tree, row_text, row_tree, rows_text, table_text, table_tree, then}

@@ -1,5 +1,5 @@
 -- For proofs: characters of a text in a page.
-use Rattle.std.specs.Prelude.{ℕ, ◌+◌, ◌==◌, nat_lt, List, [], ◌∷◌, codes, encode_utf8, if◌then◌else◌}
+use Rattle.std.specs.Prelude.{ℕ, ◌+◌, ◌==◌, nat_lt, List, codes, encode_utf8, if◌then◌else◌}
 
 -- the picture of a control character (U+2400 to U+241F, U+2421), or the character itself
 abbrev pub picture_of : ℕ → ℕ

@@ -49,35 +49,35 @@ module _ {O M : Type 0} (contents : O → Option (List ℕ)) (seen : O → Seen)
       (subst (λ (pending : List ℕ). ListBreaks list_contents list_seen list_room start.manifest new pending lines) begun.lines breaks)
 
   -- the CSV's writer stopped
-  pub fronts_csv : (stopped : WriteFault) (new : CsvRecipient O M) → BreaksCsv contents seen room list_contents list_seen start rows lines new → AreFronts contents seen room list_contents list_seen list_room options shown (faults.Csv stopped) start new
-  fronts_csv stopped new breaks = record {
+  pub fronts_csv : (new : CsvRecipient O M) → BreaksCsv contents seen room list_contents list_seen start rows lines new → AreFronts contents seen room list_contents list_seen list_room options shown faults.Csv start new
+  fronts_csv new breaks = record {
     csv = subst (λ (text : List ℕ). AppendsNotAll (contents start.csv) (contents new.csv) text) text_is (not_all_appended contents seen room start.csv new.csv start.rows rows breaks.csv);
     list = list_some new.lines.items new.manifest breaks.list;
     csv_reports = breaks.csv.stops;
-    list_reports = list_lasts list_contents list_seen list_room (Err (faults.Csv stopped)) start.manifest new.manifest start.lines.items new.lines.items lines breaks.list (λ old now left lasts. lasts);
+    list_reports = list_lasts list_contents list_seen list_room (Err faults.Csv) start.manifest new.manifest start.lines.items new.lines.items lines breaks.list (λ old now left lasts. lasts);
     registry = breaks.registry;
   }
 
   -- the list's writer stopped
-  pub fronts_list : (stopped : WriteFault) (new : CsvRecipient O M) → BreaksList contents seen list_contents list_seen list_room start rows lines new → AreFronts contents seen room list_contents list_seen list_room options shown (faults.Manifest stopped) start new
-  fronts_list stopped new breaks = record {
+  pub fronts_list : (new : CsvRecipient O M) → BreaksList contents seen list_contents list_seen list_room start rows lines new → AreFronts contents seen room list_contents list_seen list_room options shown faults.Manifest start new
+  fronts_list new breaks = record {
     csv = subst (λ (text : List ℕ). AppendsSome (contents start.csv) (contents new.csv) text) text_is (some_appended contents seen start.csv new.csv start.rows new.rows rows breaks.csv);
     list = list_not_all new.manifest breaks.list;
     csv_reports = breaks.csv.lasts;
-    list_reports = list_stops list_contents list_seen list_room stopped start.manifest new.manifest start.lines.items lines breaks.list;
+    list_reports = list_stops list_contents list_seen list_room start.manifest new.manifest start.lines.items lines breaks.list;
     registry = breaks.registry;
   }
 
   -- the writer stopped that was written to last
-  pub fronts_one : (stopped : WriteFault) (new : CsvRecipient O M) → BreaksOne contents seen room list_contents list_seen list_room start rows lines new
-      → AreFronts contents seen room list_contents list_seen list_room options shown (stopped_writer new.wrote_list stopped) start new
-  fronts_one stopped new breaks = by_flag new.wrote_list breaks
+  pub fronts_one : (new : CsvRecipient O M) → BreaksOne contents seen room list_contents list_seen list_room start rows lines new
+      → AreFronts contents seen room list_contents list_seen list_room options shown (stopped_writer new.wrote_list) start new
+  fronts_one new breaks = by_flag new.wrote_list breaks
     where
       by_flag : (flag : Bool)
           → MatchBool flag (BreaksList contents seen list_contents list_seen list_room start rows lines new) (BreaksCsv contents seen room list_contents list_seen start rows lines new)
-          → AreFronts contents seen room list_contents list_seen list_room options shown (stopped_writer flag stopped) start new
-      by_flag true breaks = fronts_list stopped new breaks
-      by_flag false breaks = fronts_csv stopped new breaks
+          → AreFronts contents seen room list_contents list_seen list_room options shown (stopped_writer flag) start new
+      by_flag true breaks = fronts_list new breaks
+      by_flag false breaks = fronts_csv new breaks
 
   -- the rest was written, or a writer stopped
   pub fronts_rest : (fault : CsvFault) (middle new : CsvRecipient O M) → GoesOn contents seen list_contents list_seen start rows lines middle
@@ -96,13 +96,13 @@ module _ {O M : Type 0} (contents : O → Option (List ℕ)) (seen : O → Seen)
     list_reports = list_lasts_on contents seen list_contents list_seen list_room (Err faults.Numbers) shown start middle new goes rest (λ old now left lasts. lasts);
     registry = rest.registry ∙ goes.registry;
   }
-  fronts_rest (faults.Csv stopped) middle new goes rest =
+  fronts_rest faults.Csv middle new goes rest =
       let joined = on-breaks_csv contents seen list_contents list_seen room start middle new rows lines [] [] goes rest in
-      fronts_csv stopped new (subst (λ (l : List ℕ). BreaksCsv contents seen room list_contents list_seen start l lines new) (append-nil rows)
+      fronts_csv new (subst (λ (l : List ℕ). BreaksCsv contents seen room list_contents list_seen start l lines new) (append-nil rows)
       (subst (λ (l : List ℕ). BreaksCsv contents seen room list_contents list_seen start (rows ++ []) l new) (append-nil lines) joined))
-  fronts_rest (faults.Manifest stopped) middle new goes rest =
+  fronts_rest faults.Manifest middle new goes rest =
       let joined = on-breaks_list contents seen list_contents list_seen list_room start middle new rows lines [] [] goes rest.breaks in
-      fronts_list stopped new (subst (λ (l : List ℕ). BreaksList contents seen list_contents list_seen list_room start l lines new) (append-nil rows)
+      fronts_list new (subst (λ (l : List ℕ). BreaksList contents seen list_contents list_seen list_room start l lines new) (append-nil rows)
       (subst (λ (l : List ℕ). BreaksList contents seen list_contents list_seen list_room start (rows ++ []) l new) (append-nil lines) joined))
 
   -- after the walk the rows are written before the lines
@@ -110,8 +110,8 @@ module _ {O M : Type 0} (contents : O → Option (List ℕ)) (seen : O → Seen)
       → EndsRest contents seen room list_contents list_seen list_room fault middle new → CsvAtEnd fault (contents start.csv) (contents new.csv) (csv_text start.registry.now options shown)
   csv_at_end faults.Memory middle new goes rest = csv_written contents seen list_contents list_seen options shown start middle new begun goes rest
   csv_at_end faults.Numbers middle new goes rest = csv_written contents seen list_contents list_seen options shown start middle new begun goes rest
-  csv_at_end (faults.Csv stopped) middle new goes rest = (fronts_rest (faults.Csv stopped) middle new goes rest).csv
-  csv_at_end (faults.Manifest stopped) middle new goes rest =
+  csv_at_end faults.Csv middle new goes rest = (fronts_rest faults.Csv middle new goes rest).csv
+  csv_at_end faults.Manifest middle new goes rest =
       rows_written contents seen options shown start middle new begun goes.csv
       (subst (λ (pending : List ℕ). Goes contents seen middle.csv new.csv middle.rows pending []) rest.emptied rest.breaks.csv)
 
@@ -119,18 +119,18 @@ module _ {O M : Type 0} (contents : O → Option (List ℕ)) (seen : O → Seen)
 
   -- what is done after a walk that ended early with this fault
   pub record EndsAfter (why : ProfileFault) (fault : CsvFault) (middle new : CsvRecipient O M) : Type 0 where
-    pub writer : (stopped : WriteFault) → why ≡ walk_faults.Recipient (recipient_faults.Write stopped) → (new ≡ middle) × (fault ≡ stopped_writer middle.wrote_list stopped)
+    pub writer : (stopped : WriteFault) → why ≡ walk_faults.Recipient (recipient_faults.Write stopped) → (new ≡ middle) × (fault ≡ stopped_writer middle.wrote_list)
     pub rest : ((stopped : WriteFault) → ¬ (why ≡ walk_faults.Recipient (recipient_faults.Write stopped))) → EndsRest contents seen room list_contents list_seen list_room fault middle new
 
-  stopped_at : (fault : CsvFault) (stopped : WriteFault) (middle new : CsvRecipient O M) → BreaksOne contents seen room list_contents list_seen list_room start rows lines middle
-      → (new ≡ middle) × (fault ≡ stopped_writer middle.wrote_list stopped) → AreFronts contents seen room list_contents list_seen list_room options shown fault start new
-  stopped_at fault stopped middle new breaks same =
+  stopped_at : (fault : CsvFault) (middle new : CsvRecipient O M) → BreaksOne contents seen room list_contents list_seen list_room start rows lines middle
+      → (new ≡ middle) × (fault ≡ stopped_writer middle.wrote_list) → AreFronts contents seen room list_contents list_seen list_room options shown fault start new
+  stopped_at fault middle new breaks same =
       subst (λ (it : CsvFault). AreFronts contents seen room list_contents list_seen list_room options shown it start new) (sym same.1)
-      (subst (λ (it : CsvRecipient O M). AreFronts contents seen room list_contents list_seen list_room options shown (stopped_writer middle.wrote_list stopped) start it) (sym same.0) (fronts_one stopped middle breaks))
+      (subst (λ (it : CsvRecipient O M). AreFronts contents seen room list_contents list_seen list_room options shown (stopped_writer middle.wrote_list) start it) (sym same.0) (fronts_one middle breaks))
 
   pub fronts_walk : (why : ProfileFault) (fault : CsvFault) (middle new : CsvRecipient O M) → Leaves contents seen room list_contents list_seen list_room start shown why middle → EndsAfter why fault middle new
       → AreFronts contents seen room list_contents list_seen list_room options shown fault start new
   fronts_walk walk_faults.Memory fault middle new leaves ends = fronts_rest fault middle new leaves (ends.rest (λ stopped same. cc))
   fronts_walk walk_faults.Numbers fault middle new leaves ends = fronts_rest fault middle new leaves (ends.rest (λ stopped same. cc))
   fronts_walk (walk_faults.Recipient recipient_faults.Memory) fault middle new leaves ends = fronts_rest fault middle new leaves (ends.rest (λ stopped same. cc))
-  fronts_walk (walk_faults.Recipient (recipient_faults.Write stopped)) fault middle new leaves ends = stopped_at fault stopped middle new leaves (ends.writer stopped refl)
+  fronts_walk (walk_faults.Recipient (recipient_faults.Write stopped)) fault middle new leaves ends = stopped_at fault middle new leaves (ends.writer stopped refl)

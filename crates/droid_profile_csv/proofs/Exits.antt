@@ -14,7 +14,7 @@ use Rattle.droid_profile_spec.specs.declared.fault.ProfileFault.TheVariants as w
 use Rattle.droid_profile_spec.specs.declared.options.Options.{Options}
 use Rattle.droid_profile_spec.specs.declared.recipient.RecipientFault.TheVariants as recipient_faults
 use Rattle.droid_profile_csv.specs.Taking.{EndsRest, Fails, TakesSoon, WritesRest, stopped_writer}
-use Rattle.droid_profile_csv.specs.WrittenTrees.{After, During, EndsWriting, Explains, IsOfWriter, KeepsStop, ReportsCsv, ReportsList, WritesTree}
+use Rattle.droid_profile_csv.specs.WrittenTrees.{After, During, EndsWriting, Explains, IsOfWriter, ReportsCsv, ReportsList, WritesTree}
 use Rattle.droid_profile_csv.specs.declared.csv_fault.CsvFault.{CsvFault}
 use Rattle.droid_profile_csv.specs.declared.csv_fault.CsvFault.TheVariants as faults
 use Rattle.droid_profile_csv.specs.declared.csv_recipient.CsvRecipient.{CsvRecipient}
@@ -22,15 +22,6 @@ use Rattle.droid_profile_csv.proofs.EarlyWritten.{csv_at_end, fronts_rest, front
 use Rattle.droid_profile_csv.proofs.Endings.{ends_listed, profiled_list}
 use Rattle.droid_profile_csv.proofs.Takings.{takes_all}
 use Rattle.droid_profile_csv.proofs.TreeWritten.{Begins, at_old, csv_lasts, list_lasts_on, writes_tree}
-
--- the fault of a writer that stopped in the walk
-keeps_stop : (why : ProfileFault) (fault : CsvFault) (flag : Bool) → ((stopped : WriteFault) → why ≡ walk_faults.Recipient (recipient_faults.Write stopped) → fault ≡ stopped_writer flag stopped) → KeepsStop why fault
-keeps_stop why faults.Memory flag writer = tt
-keeps_stop why faults.Numbers flag writer = tt
-keeps_stop why (faults.Csv fault) true writer = λ stopped is. let same = writer stopped is in absurd cc
-keeps_stop why (faults.Csv fault) false writer = λ stopped is. let same = writer stopped is in cc
-keeps_stop why (faults.Manifest fault) true writer = λ stopped is. let same = writer stopped is in cc
-keeps_stop why (faults.Manifest fault) false writer = λ stopped is. let same = writer stopped is in absurd cc
 
 module _ {T W O M : Type 0} (observes : T → Observation → T → Type 0) (hears : W → Heard → W → Type 0) (contents : O → Option (List ℕ)) (seen : O → Seen) (room : O → Option ℕ) (list_contents : M → Option (List ℕ)) (list_seen : M → Seen) (list_room : M → Option ℕ) where
   -- it was written
@@ -93,14 +84,14 @@ module _ {T W O M : Type 0} (observes : T → Observation → T → Type 0) (hea
   pub ends_during : (options : Options) (why : ProfileFault) (fault : CsvFault) (tree tree_after : T) (watcher watcher_after : W) (old start middle new : CsvRecipient O M) → Begins options old start
       → EndsEarly observes hears (TakesSoon contents seen list_contents list_seen) (Fails contents seen room list_contents list_seen list_room) start.registry.now options why tree tree_after watcher watcher_after start middle
       → Explains why fault
-      → ((stopped : WriteFault) → why ≡ walk_faults.Recipient (recipient_faults.Write stopped) → (new ≡ middle) × (fault ≡ stopped_writer middle.wrote_list stopped))
+      → ((stopped : WriteFault) → why ≡ walk_faults.Recipient (recipient_faults.Write stopped) → (new ≡ middle) × (fault ≡ stopped_writer middle.wrote_list))
       → (((stopped : WriteFault) → ¬ (why ≡ walk_faults.Recipient (recipient_faults.Write stopped))) → EndsRest contents seen room list_contents list_seen list_room fault middle new)
       → EndsBadly options fault tree tree_after watcher watcher_after old new
   ends_during options why fault tree tree_after watcher watcher_after old start middle new begins walk explains writer rest =
       let listed = ends_listed contents seen room list_contents list_seen list_room observes hears start.registry.now options why tree tree_after watcher watcher_after start middle walk in
       let fronts = fronts_walk contents seen room list_contents list_seen list_room options listed.shown start begins.begun why fault middle new listed.leaves (record { writer = writer; rest = rest }) in
       from_start options fault tree tree_after watcher watcher_after old start new begins (record {
-        ended = During listed.shown why listed.ended (explains, keeps_stop why fault middle.wrote_list (λ stopped is. (writer stopped is).1)) fronts.csv fronts.list;
+        ended = During listed.shown why listed.ended explains fronts.csv fronts.list;
         csv_stopped = fronts.csv_reports;
         manifest_stopped = fronts.list_reports;
         registry = fronts.registry;

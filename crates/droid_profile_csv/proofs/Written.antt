@@ -2,7 +2,6 @@
 use Rattle.std.proofs.Common.{◌≡◌, ℕ, Bool, List, [], ◌++◌, Option, Some, None, Result, Err, refl, sym, ◌∙◌, subst, append-nil}
 use Rattle.std.specs.List.{flat_map}
 use Rattle.std.specs.Io.KnownBytes.{Appends}
-use Rattle.droid_frame.specs.stream_types.fault.WriteFault.{WriteFault}
 use Rattle.droid_frame.specs.stream_types.seen.Seen.{Seen}
 use Rattle.droid_frame.specs.types.record.Record.{Record}
 use Rattle.droid_export.proofs.Records.{text_by_records}
@@ -64,8 +63,8 @@ module _ {O : Type 0} (contents : O → Option (List ℕ)) (seen : O → Seen) w
   list_lasts room result (Some a) None pending after added goes lasting = absurd goes
   list_lasts room result (Some a) (Some b) pending after added goes lasting = λ sound. lasting (seen a) (seen b) (room b) (goes.lasts sound)
 
-  pub list_stops : (room : O → Option ℕ) (stopped : WriteFault) (a b : Option O) (pending added : List ℕ) → ListBreaks contents seen room a b pending added
-      → ReportsList seen room a b (Err (faults.Manifest stopped))
-  list_stops room stopped None b pending added breaks = absurd breaks
-  list_stops room stopped (Some a) None pending added breaks = absurd breaks
-  list_stops room stopped (Some a) (Some b) pending added breaks = breaks.stops
+  pub list_stops : (room : O → Option ℕ) (a b : Option O) (pending added : List ℕ) → ListBreaks contents seen room a b pending added
+      → ReportsList seen room a b (Err faults.Manifest)
+  list_stops room None b pending added breaks = absurd breaks
+  list_stops room (Some a) None pending added breaks = absurd breaks
+  list_stops room (Some a) (Some b) pending added breaks = breaks.stops

@@ -2,7 +2,6 @@
 use Rattle.std.specs.Prelude.{◌≡◌, ℕ, ◌<◌, Bool, true, false, MatchBool, List, [], ◌++◌, length, Option, Some, None}
 use Rattle.std.specs.Io.KnownBytes.{Appends}
 use Rattle.droid_frame.specs.Seen.{IsSound}
-use Rattle.droid_frame.specs.stream_types.fault.WriteFault.{WriteFault}
 use Rattle.droid_frame.specs.stream_types.seen.Seen.{Seen}
 use Rattle.droid_frame.specs.types.record.Record.{Record}
 use Rattle.droid_export.specs.Text.{record_text}
@@ -124,11 +123,11 @@ pub record StopsList {O M : Type 0} (contents : O → Option (List ℕ)) (seen :
 
 -- all was written, or a writer stopped, and this fault was returned
 abbrev pub EndsRest : {O M : Type 0} → (O → Option (List ℕ)) → (O → Seen) → (O → Option ℕ) → (M → Option (List ℕ)) → (M → Seen) → (M → Option ℕ) → CsvFault → CsvRecipient O M → CsvRecipient O M → Type 0
-EndsRest contents seen room list_contents list_seen list_room (faults.Csv fault) old new = BreaksCsv contents seen room list_contents list_seen old [] [] new
-EndsRest contents seen room list_contents list_seen list_room (faults.Manifest fault) old new = StopsList contents seen list_contents list_seen list_room old new
+EndsRest contents seen room list_contents list_seen list_room faults.Csv old new = BreaksCsv contents seen room list_contents list_seen old [] [] new
+EndsRest contents seen room list_contents list_seen list_room faults.Manifest old new = StopsList contents seen list_contents list_seen list_room old new
 EndsRest contents seen room list_contents list_seen list_room _ old new = WritesRest contents seen list_contents list_seen old new
 
 -- the fault of the writer that was written to last
-abbrev pub stopped_writer : Bool → WriteFault → CsvFault
-stopped_writer true fault = faults.Manifest fault
-stopped_writer false fault = faults.Csv fault
+abbrev pub stopped_writer : Bool → CsvFault
+stopped_writer true = faults.Manifest
+stopped_writer false = faults.Csv

@@ -5,7 +5,6 @@ use Rattle.droid_core_spec.specs.Records.{records}
 use Rattle.droid_core_spec.specs.Setting.{Setting}
 use Rattle.droid_core_spec.specs.World.{Node}
 use Rattle.droid_frame.specs.Seen.{IsSound}
-use Rattle.droid_frame.specs.stream_types.fault.WriteFault.{WriteFault}
 use Rattle.droid_frame.specs.stream_types.seen.Seen.{Seen}
 use Rattle.droid_frame.specs.types.record.Record.{Record}
 use Rattle.droid_pronom.specs.Registry.{Contents}
@@ -56,36 +55,27 @@ Explains why faults.Memory = (why ≡ walk_faults.Memory) ⊎ (why ≡ walk_faul
 Explains why faults.Numbers = why ≡ walk_faults.Numbers
 Explains why _ = Unit {0}
 
--- if a writer stopped in the walk, its fault is returned as it was
-abbrev pub IsOfStop : ProfileFault → WriteFault → Type 0
-IsOfStop why fault = (stopped : WriteFault) → why ≡ walk_faults.Recipient (recipient_faults.Write stopped) → fault ≡ stopped
-
-abbrev pub KeepsStop : ProfileFault → CsvFault → Type 0
-KeepsStop why (faults.Csv fault) = IsOfStop why fault
-KeepsStop why (faults.Manifest fault) = IsOfStop why fault
-KeepsStop why _ = Unit {0}
-
 -- a writer stopped
 abbrev pub IsOfWriter : CsvFault → Type 0
-IsOfWriter (faults.Csv fault) = Unit {0}
-IsOfWriter (faults.Manifest fault) = Unit {0}
+IsOfWriter faults.Csv = Unit {0}
+IsOfWriter faults.Manifest = Unit {0}
 IsOfWriter _ = ⊥
 
 -- What was written of the CSV: all of it, or its first bytes if a writer stopped; if its own did, not all of them.
 abbrev pub CsvIsFront : CsvFault → Option (List ℕ) → Option (List ℕ) → List ℕ → Type 0
-CsvIsFront (faults.Csv fault) old new text = AppendsNotAll old new text
-CsvIsFront (faults.Manifest fault) old new text = AppendsSome old new text
+CsvIsFront faults.Csv old new text = AppendsNotAll old new text
+CsvIsFront faults.Manifest old new text = AppendsSome old new text
 CsvIsFront _ old new text = Appends old new text
 
 -- After the walk the CSV is written before the list: all of it, unless its own writer stopped.
 abbrev pub CsvAtEnd : CsvFault → Option (List ℕ) → Option (List ℕ) → List ℕ → Type 0
-CsvAtEnd (faults.Csv fault) old new text = AppendsNotAll old new text
+CsvAtEnd faults.Csv old new text = AppendsNotAll old new text
 CsvAtEnd _ old new text = Appends old new text
 
 -- what was written of the list
 abbrev pub ListIsFront : {M : Type 0} → (M → Option (List ℕ)) → CsvFault → Option M → Option M → List ℕ → Type 0
-ListIsFront contents (faults.Csv fault) old new text = ListsSome contents old new text
-ListIsFront contents (faults.Manifest fault) old new text = ListsNotAll contents old new text
+ListIsFront contents faults.Csv old new text = ListsSome contents old new text
+ListIsFront contents faults.Manifest old new text = ListsNotAll contents old new text
 ListIsFront contents _ old new text = Lists contents old new text
 
 -- How it ended with this fault: before the walk began, for memory, and with nothing written; in the walk, at some entry;
@@ -94,7 +84,7 @@ pub data EndsWriting {T W M : Type 0} (observes : T → Observation → T → Ty
     (tree tree_after : T) (watcher watcher_after : W) (csv csv_after : Option (List ℕ)) (manifest manifest_after : Option M) : Type 0 where
   Before : fault ≡ faults.Memory → tree_after ≡ tree → watcher_after ≡ watcher → csv_after ≡ csv → manifest_after ≡ manifest
       → EndsWriting observes hears list_contents registry options fault tree tree_after watcher watcher_after csv csv_after manifest manifest_after
-  During : (shown : List Record) (why : ProfileFault) → EndsEarly observes hears Adds AddsPart registry options why tree tree_after watcher watcher_after [] shown → Explains why fault × KeepsStop why fault
+  During : (shown : List Record) (why : ProfileFault) → EndsEarly observes hears Adds AddsPart registry options why tree tree_after watcher watcher_after [] shown → Explains why fault
       → CsvIsFront fault csv csv_after (csv_text registry options shown) → ListIsFront list_contents fault manifest manifest_after (list_text shown)
       → EndsWriting observes hears list_contents registry options fault tree tree_after watcher watcher_after csv csv_after manifest manifest_after
   After : (shown : List Record) (whole : Bool) → ProfilesTree observes hears Adds registry options whole tree tree_after watcher watcher_after [] shown → IsOfWriter fault
@@ -113,12 +103,12 @@ heard_in (After shown whole profiled is text list) = profiled.heard
 
 -- the fault `Csv` is returned exactly if the CSV's writer stopped
 abbrev pub ReportsCsv : Seen → Seen → Option ℕ → Result Bool CsvFault → Type 0
-ReportsCsv old new room (Err (faults.Csv fault)) = Stops old new room
+ReportsCsv old new room (Err faults.Csv) = Stops old new room
 ReportsCsv old new room _ = LastsOn old new
 
 -- the fault `Manifest` is returned exactly if the list's writer stopped
 abbrev pub ReportsManifest : Seen → Seen → Option ℕ → Result Bool CsvFault → Type 0
-ReportsManifest old new room (Err (faults.Manifest fault)) = Stops old new room
+ReportsManifest old new room (Err faults.Manifest) = Stops old new room
 ReportsManifest old new room _ = LastsOn old new
 
 abbrev pub ReportsList : {M : Type 0} → (M → Seen) → (M → Option ℕ) → Option M → Option M → Result Bool CsvFault → Type 0

@@ -2,7 +2,6 @@
 
 ghost use Rattle.std.specs.Prelude.{◌≡◌};
 
-use droid_frame::WriteFault;
 use std::alloc::AllocError;
 use thiserror::Error;
 
@@ -17,12 +16,12 @@ pub enum CsvFault {
     /// There are more than 4,294,967,295 folders and files.
     #[error("there are too many folders and files")]
     Numbers,
-    /// The CSV could not be written. The fault counts the bytes of the last write.
+    /// The CSV could not be written: its writer stopped.
     #[error("the CSV could not be written")]
-    Csv(WriteFault),
-    /// The list of checksums could not be written. The fault counts the bytes of the last write.
+    Csv,
+    /// The list of checksums could not be written: its writer stopped.
     #[error("the list of checksums could not be written")]
-    Manifest(WriteFault),
+    Manifest,
 }
 
 impl From<AllocError> for CsvFault {

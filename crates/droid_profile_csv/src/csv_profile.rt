@@ -10,7 +10,7 @@ ghost use Rattle.droid_profile_csv.specs.WrittenTrees.{EndsWriting, Explains, Re
 
 use crate::csv_fault::CsvFault;
 use crate::csv_recipient::CsvRecipient;
-use droid_frame::{SteadyWrite, WriteFault};
+use droid_frame::SteadyWrite;
 use droid_profile::{Options, ProfileFault, Profiler, RecipientFault, profile};
 use droid_tree::{Tree, Watcher};
 
@@ -58,7 +58,7 @@ fn end_early<O: SteadyWrite, M: SteadyWrite>(
     fault: ProfileFault,
 ) -> CsvFault
     ensures explains { Explains fault result }
-    ensures writer { (stopped : WriteFault) → fault ≡ walk_faults.Recipient (recipient_faults.Write stopped) → (recipient.new ≡ recipient.old) × (result ≡ stopped_writer recipient.old.wrote_list stopped) }
+    ensures writer { (stopped : WriteFault) → fault ≡ walk_faults.Recipient (recipient_faults.Write stopped) → (recipient.new ≡ recipient.old) × (result ≡ stopped_writer recipient.old.wrote_list) }
     ensures rest { ((stopped : WriteFault) → ¬ (fault ≡ walk_faults.Recipient (recipient_faults.Write stopped)))
         → EndsRest O.contents O.seen O.room M.contents M.seen M.room result recipient.old recipient.new }
 {
@@ -66,9 +66,7 @@ fn end_early<O: SteadyWrite, M: SteadyWrite>(
         ProfileFault::Memory => CsvFault::Memory,
         ProfileFault::Numbers => CsvFault::Numbers,
         ProfileFault::Recipient(RecipientFault::Memory) => CsvFault::Memory,
-        ProfileFault::Recipient(RecipientFault::Write(stopped)) => {
-            return fault_of(recipient.wrote_list, stopped);
-        }
+        ProfileFault::Recipient(RecipientFault::Write(_)) => return fault_of(recipient.wrote_list),
     };
     match recipient.write_rest() {
         Ok(()) => fault,
@@ -76,13 +74,13 @@ fn end_early<O: SteadyWrite, M: SteadyWrite>(
     }
 }
 
-/// Returns the fault of a writer that stopped.
-fn fault_of(wrote_list: bool, stopped: WriteFault) -> CsvFault
-    ensures { result ≡ stopped_writer wrote_list stopped }
+/// Returns the fault of the writer that was written to last.
+fn fault_of(wrote_list: bool) -> CsvFault
+    ensures { result ≡ stopped_writer wrote_list }
 {
     if wrote_list {
-        CsvFault::Manifest(stopped)
+        CsvFault::Manifest
     } else {
-        CsvFault::Csv(stopped)
+        CsvFault::Csv
     }
 }

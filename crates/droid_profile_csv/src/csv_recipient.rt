@@ -177,11 +177,11 @@ impl<O: SteadyWrite, M: SteadyWrite> CsvRecipient<'_, O, M> {
     {
         match self.write_rows() {
             Ok(()) => {}
-            Err(fault) => return Err(CsvFault::Csv(fault)),
+            Err(_) => return Err(CsvFault::Csv),
         }
         match self.write_list() {
             Ok(()) => Ok(()),
-            Err(fault) => Err(CsvFault::Manifest(fault)),
+            Err(_) => Err(CsvFault::Manifest),
         }
     }
 }

@@ -1,6 +1,5 @@
 //! The texts of the errors of trees, walks and profiles.
 
-use droid_frame::WriteFault;
 use droid_profile_csv::CsvFault;
 use droid_tree::{TreeFault, WalkFault};
 use std::alloc::Global;
@@ -27,12 +26,9 @@ const WALK_FAULTS: [(WalkFault, &str); 7] = [
 const CSV_FAULTS: [(CsvFault, &str); 4] = [
     (CsvFault::Memory, "out of memory"),
     (CsvFault::Numbers, "there are too many folders and files"),
+    (CsvFault::Csv, "the CSV could not be written"),
     (
-        CsvFault::Csv(WriteFault { written: 7 }),
-        "the CSV could not be written",
-    ),
-    (
-        CsvFault::Manifest(WriteFault { written: 7 }),
+        CsvFault::Manifest,
         "the list of checksums could not be written",
     ),
 ];

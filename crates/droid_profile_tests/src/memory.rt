@@ -51,10 +51,8 @@ fn is_front(got: &WrittenProfile<Memory, Memory>) -> bool {
         Err(CsvFault::Memory) => {
             text.is_empty() && list.is_empty() || text.len() >= HEADER && text.ends_with(b"\n")
         }
-        Err(CsvFault::Csv(fault)) => fault.written == text.len() && list.is_empty(),
-        Err(CsvFault::Manifest(fault)) => {
-            fault.written == list.len() && text.len() == TEXT.len()
-        }
+        Err(CsvFault::Csv) => list.is_empty(),
+        Err(CsvFault::Manifest) => text.len() == TEXT.len(),
         Err(CsvFault::Numbers) => false,
     }
 }

@@ -1,6 +1,6 @@
 -- What the flags of the steps say, put together.
-use Rattle.std.proofs.Common.{◌≡◌, ◌≢◌, ◌⊎◌, ◌↔◌, ℕ, zero, suc, ◌≤◌, Bool, true, false, IsTrue, List, [], ◌∷◌, length, refl, ap, inl, inr, arith}
-use Rattle.std.specs.List.{AllByRecursion}
+use Rattle.std.proofs.Common.{◌≡◌, ◌≢◌, ◌⊎◌, ◌↔◌, ℕ, zero, suc, ◌≤◌, Bool, true, false, IsTrue, List, [], ◌∷◌, length, refl, ap, sym, ◌∙◌, inl, inr, arith}
+use Rattle.std.specs.List.{AllByRecursion, list_any}
 use Rattle.std.specs.Str.{str_to_ascii_lowercase}
 use Rattle.droid_pronom_formats.specs.RegistryFields.{is_puid}
 use Rattle.droid_pronom_formats.specs.Registry.{Contents, AnyOf, IsSigned, IsRegistry}
@@ -49,6 +49,18 @@ report_left H registry hit beaten e hits beats k = (
       without_from hit beaten k e ((hits k).1 l.0)
       (λ s. l.1 (any_more (λ (row : Priority). Stands hit row.place × (row.over ≡ k)) (λ (row : Priority). IsHit H registry row.place × (row.over ≡ k)) (λ row p. ((hits row.place).0 p.0, p.1)) registry.priorities ((beats k).0 s))),
 )
+
+-- no flag is set
+unset : (flags : List Bool) (k : ℕ) → list_any (λ (flag : Bool). flag) flags ≡ false → Stands flags k → ⊥
+unset [] k none stands = cc
+unset (true ∷ flags) k none stands = cc
+unset (false ∷ flags) zero none stands = cc
+unset (false ∷ flags) (suc k) none stands = unset flags k none stands
+
+-- if no format hits, none is left
+pub none_left : (H : ByteSequence → Type 0) (registry : Contents) (hit : List Bool) → list_any (λ (flag : Bool). flag) hit ≡ false
+    → AreFlagsOf hit (IsHit H registry) → AreFlagsOf hit (IsLeft H registry)
+none_left H registry hit none hits k = (λ s. absurd (unset hit k none s), λ l. (hits k).1 l.0)
 
 -- ---- the formats that the extension names
 
@@ -108,6 +120,17 @@ chosen_same P Q k formats puids same end = end
 chosen_same P Q k formats puids same (chosen p more) = chosen ((same _).0 p) (chosen_same P Q _ _ _ same more)
 chosen_same P Q k formats puids same (passed n more) = passed (λ q. n ((same _).1 q)) (chosen_same P Q _ _ _ same more)
 
+-- there are none
+chosen_none : (P : ℕ → Type 0) (k : ℕ) (formats : List Format) → ((j : ℕ) → P j → ⊥) → Chosen P k formats []
+chosen_none P k [] none = end
+chosen_none P k (format ∷ formats) none = passed (none k) (chosen_none P (suc k) formats none)
+
+-- an empty extension names no format
+pub unnamed : (registry : Contents) (extension wanted : List ℕ) (match_all : Bool) → wanted ≡ str_to_ascii_lowercase extension → wanted ≡ []
+    → Chosen (IsNamed registry extension match_all) 0 registry.formats []
+unnamed registry extension wanted match_all same empty =
+    chosen_none (IsNamed registry extension match_all) 0 registry.formats (λ j n. some_lower extension n.some (sym same ∙ empty))
+
 -- there are at most as many as formats
 pub chosen_few : (P : ℕ → Type 0) (k : ℕ) (formats : List Format) (puids : List (List ℕ)) → Chosen P k formats puids → length puids ≤ length formats
 chosen_few P k formats puids end = omega arith
@@ -135,23 +158,23 @@ module _ (H : ByteSequence → Type 0) (registry : Contents) (name : List ℕ) (
     mismatch = report_mismatch H registry (extension_of name) wanted left mismatch e reports says;
   })
 
-  pub found_extension : (left named : List Bool) (puids : List (List ℕ)) → AreFlagsOf left (IsLeft H registry) → Chosen (Stands left) 0 registry.formats []
-      → AreFlagsOf named (IsNamed registry (extension_of name) match_all) → Chosen (Stands named) 0 registry.formats puids → puids ≢ []
+  pub found_extension : (left : List Bool) (puids : List (List ℕ)) → AreFlagsOf left (IsLeft H registry) → Chosen (Stands left) 0 registry.formats []
+      → Chosen (IsNamed registry (extension_of name) match_all) 0 registry.formats puids → puids ≢ []
       → IsFoundBy H registry name match_all (record { method = methods.Extension; mismatch = false; puids = puids })
-  found_extension left named puids reports none names are some = inr (inl (record {
+  found_extension left puids reports none named some = inr (inl (record {
     left = chosen_same (Stands left) (IsLeft H registry) 0 registry.formats [] reports none;
-    named = chosen_same (Stands named) (IsNamed registry (extension_of name) match_all) 0 registry.formats puids names are;
+    named = named;
     some = some;
     method = refl;
     mismatch = refl;
   }))
 
-  pub found_nothing : (left named : List Bool) (puids : List (List ℕ)) → AreFlagsOf left (IsLeft H registry) → Chosen (Stands left) 0 registry.formats []
-      → AreFlagsOf named (IsNamed registry (extension_of name) match_all) → Chosen (Stands named) 0 registry.formats puids → puids ≡ []
+  pub found_nothing : (left : List Bool) (puids : List (List ℕ)) → AreFlagsOf left (IsLeft H registry) → Chosen (Stands left) 0 registry.formats []
+      → Chosen (IsNamed registry (extension_of name) match_all) 0 registry.formats puids → puids ≡ []
       → IsFoundBy H registry name match_all (record { method = methods.Unidentified; mismatch = false; puids = puids })
-  found_nothing left named puids reports none names are e = inr (inr (record {
+  found_nothing left puids reports none named e = inr (inr (record {
     left = chosen_same (Stands left) (IsLeft H registry) 0 registry.formats [] reports none;
-    named = chosen_same (Stands named) (IsNamed registry (extension_of name) match_all) 0 registry.formats [] names (rw e at are);
+    named = rw e at named;
     none = e;
     method = refl;
     mismatch = refl;

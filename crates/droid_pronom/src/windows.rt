@@ -1,11 +1,13 @@
 //! Identifies a file by its windows, the first and the last bytes, and by its name.
 
-ghost use Rattle.std.specs.Prelude.{◌≡◌, IfOk, length};
-ghost use Rattle.droid_pronom_formats.specs.Found.{IsLeft, IsFoundBy};
+ghost use Rattle.std.specs.Prelude.{◌≡◌, ℕ, List, IfOk, length};
+ghost use Rattle.std.specs.List.{list_any};
+ghost use Rattle.std.specs.Str.{str_to_ascii_lowercase};
+ghost use Rattle.droid_pronom_formats.specs.Found.{Chosen, IsLeft, IsFoundBy, IsNamed};
 ghost use Rattle.droid_pronom_formats.specs.FoundWindows.{HitsWindows, AreFlagsOf};
 
 use crate::registry::Registry;
-use droid_frame::Method;
+use droid_frame::{Method, Texts};
 use droid_pronom_formats::{
     Found, beaten_formats, extension, hit_formats, is_mismatch, lower_case, named_formats,
     puids_of, unbeaten,
@@ -24,8 +26,41 @@ fn left_formats(
 {
     let count = registry.len();
     let hit = hit_formats(alloc, count, registry.signatures(), first, last)?;
+    let none = !is_any_set(hit.as_slice());
+    if none {
+        return Ok(hit);
+    }
     let beaten = beaten_formats(alloc, hit.as_slice(), registry.priorities())?;
     unbeaten(alloc, hit.as_slice(), beaten.as_slice())
+}
+
+/// Returns whether a flag is set.
+fn is_any_set(flags: &[bool]) -> bool
+    ensures { result ≡ list_any (λ flag. flag) flags.now }
+{
+    flags.iter().any(|flag| *flag)
+}
+
+/// Returns the PUIDs of the formats that the extension names. `wanted` is the extension in lower case.
+fn named_puids(
+    alloc: Global,
+    registry: &Registry,
+    wanted: &str,
+    match_all: bool,
+) -> Result<Texts, AllocError>
+    ensures { (extension : List ℕ) → wanted.now ≡ str_to_ascii_lowercase extension → IfOk result (Chosen (IsNamed registry.now extension match_all) 0 registry.now.formats) }
+{
+    if wanted.is_empty() {
+        return Ok(Texts::new(alloc));
+    }
+    let named = named_formats(
+        alloc,
+        registry.extensions(),
+        wanted,
+        registry.signed(),
+        match_all,
+    )?;
+    puids_of(alloc, registry.formats(), named.as_slice())
 }
 
 /// Identifies a file: by the signatures that hit in its first and last bytes, or else by the extension of its name.
@@ -51,15 +86,7 @@ pub(crate) fn identify_windows(
             puids,
         });
     }
-    let signed = registry.signed();
-    let named = named_formats(
-        alloc,
-        registry.extensions(),
-        wanted.as_str(),
-        signed,
-        match_all,
-    )?;
-    let puids = puids_of(alloc, registry.formats(), named.as_slice())?;
+    let puids = named_puids(alloc, registry, wanted.as_str(), match_all)?;
     let method = if puids.is_empty() {
         Method::Unidentified
     } else {

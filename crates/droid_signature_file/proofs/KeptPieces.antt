@@ -1,6 +1,6 @@
 -- The pieces that are kept of those read so far.
 use Rattle.std.proofs.Common.{◌≡◌, ◌≤◌, ◌+◌, ◌++◌, ℕ, zero, suc, Bool, true, false, List, [], ◌∷◌, refl, sym, ap, ◌∙◌, append_assoc, append-nil, arith}
-use Rattle.std.specs.Prelude.{Option, Some, None, Result, Ok, Err, if◌then◌else◌}
+use Rattle.std.specs.Prelude.{Some, None, Result, Ok, if◌then◌else◌}
 use Rattle.droid_xml.specs.Documents.{IsDocument, Place, next_at, start_of}
 use Rattle.droid_xml.specs.Pieces.{Part, Start, End, Text, Data, Reference, Comment, Instruction}
 use Rattle.droid_xml.proofs.Reading.{HasRead, begun, read_more, read_whole}

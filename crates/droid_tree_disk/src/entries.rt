@@ -103,6 +103,10 @@ fn look_below<D: Disk>(
 fn path_below(alloc: Global, folder: &str, name: &str) -> Result<Text, AllocError>
     ensures { IfOk result (λ text. text ≡ below folder.now name.now) }
 {
-    let joined = format!(in alloc; "{folder}/{name}")?;
-    Ok(Text::from(joined))
+    let room = folder.len().saturating_add(1).saturating_add(name.len());
+    let mut path = String::with_capacity(alloc, room)?;
+    path.push_str(folder)?;
+    path.push_str("/")?;
+    path.push_str(name)?;
+    Ok(Text::from(path))
 }

@@ -94,8 +94,11 @@ fn kept(path: Result<Text, AllocError>) -> Result<Text, TreeFault>
 pub(crate) fn place_of(alloc: Global, top: &str, path: &str) -> Result<Text, AllocError>
     ensures { IfOk result (λ text. text ≡ top.now ++ path.now) }
 {
-    let joined = format!(in alloc; "{top}{path}")?;
-    Ok(Text::from(joined))
+    let room = top.len().saturating_add(path.len());
+    let mut place = String::with_capacity(alloc, room)?;
+    place.push_str(top)?;
+    place.push_str(path)?;
+    Ok(Text::from(place))
 }
 
 /// Returns the path by which a folder is listed. That of the top ends in `/`, so that the top may be a link.

@@ -10,7 +10,7 @@ use Rattle.droid_core.specs.declared.service.Service.{Service}
 use Rattle.droid_wire_turns.specs.Chains.{GoesOver}
 use Rattle.droid_wire_turns.specs.Events.{Event}
 use Rattle.droid_wire_turns.specs.Turns.{ServesAll}
-use Rattle.droid_wire_turns.specs.Steps.{Handles, Happens, Step, all_handled}
+use Rattle.droid_wire_turns.specs.Steps.{Handles, Happens, Settles, Step, all_handled}
 use Rattle.droid_wire_turns.specs.declared.rules.Rules.{Rules}
 use Rattle.droid_wire_turns.specs.declared.served.Served.{Served}
 
@@ -25,6 +25,7 @@ replies_of steps = map (λ (one : Frame × Reply). one.1) (all_handled steps)
 abbrev pub event_of : Step → List Event
 event_of (Happens event) = event ∷ []
 event_of (Handles id frame reply) = []
+event_of (Settles done) = []
 
 abbrev pub events_of : List Step → List Event
 events_of steps = flat_map event_of steps

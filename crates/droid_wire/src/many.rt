@@ -1,6 +1,6 @@
 //! Many connections, served by one service.
 
-ghost use Rattle.std.specs.Prelude.{◌≡◌};
+ghost use Rattle.std.specs.Prelude.{◌≡◌, ◌≢◌};
 ghost use Rattle.droid_core.specs.Histories.{History};
 ghost use Rattle.droid_core.specs.Setting.{Setting};
 ghost use Rattle.droid_core.specs.Standing.{StandsFor, limits_of, registry_of};
@@ -24,6 +24,8 @@ pub fn serve_many<C: Connections>(
     // first of their replies. So each frame gets the one reply that the service gives it where it came.
     ensures many { (setting : Setting) (history : History) → StandsFor setting handler.old.service history →
         ServesMany C.does rules setting history connections.old connections.new handler.new.service result }
+    // A service has nothing to settle, so that never fails.
+    ensures settled { result ≢ Served.Unsettled }
     ensures limits { limits_of handler.new.service ≡ limits_of handler.old.service }
     ensures registry { registry_of handler.new.service ≡ registry_of handler.old.service }
 {

@@ -4,7 +4,8 @@ use droid_core::Service;
 use droid_frame::{Frame, Reply};
 use droid_wire_turns::Handler;
 
-/// A service that handles the frames of all connections, one after another.
+/// A service that handles the frames of all connections, one after another. It keeps everything in memory, so there is
+/// nothing to settle.
 #[derive(Drop)]
 pub struct ServiceHandler {
     /// The service.
@@ -12,11 +13,18 @@ pub struct ServiceHandler {
 }
 
 impl Handler for ServiceHandler {
+    ghost use Rattle.std.specs.Prelude.{◌≡◌, true};
     ghost use Rattle.droid_wire.specs.OneAnswer.{IsAnswered};
 
     ghost handles = { λ old frame reply new. IsAnswered old.service frame reply new.service };
 
+    ghost settles = { λ old done new. (new ≡ old) × (done ≡ true) };
+
     fn handle(&mut self, frame: Frame) -> Reply {
         self.service.handle(frame)
+    }
+
+    fn settle(&mut self) -> bool {
+        true
     }
 }

@@ -19,10 +19,12 @@ pub(crate) struct Guest {
     pub(crate) id: u64,
     pub(crate) stream: TcpStream,
     pub(crate) address: SocketAddr,
-    /// Whether a read may give something: since the last read that gave nothing, the system said so.
+    /// Whether a read may give something: since the last read that gave all there was, the system said so.
     pub(crate) readable: bool,
     /// The same for a write.
     pub(crate) writable: bool,
+    /// Whether the system said that the input has ended or failed. Only a further read tells so.
+    pub(crate) ending: bool,
     /// How many bytes came.
     pub(crate) came: u64,
     /// How many bytes it took.
@@ -42,6 +44,8 @@ impl Guest {
                 Ok(0) => return Came::End,
                 Ok(size) => {
                     self.came = count(self.came, size);
+                    // A read that leaves room gave all there was. The system reports what comes later.
+                    self.readable = size == buffer.len() || self.ending;
                     return Came::Bytes(size);
                 }
                 Err(error) => match error.kind() {

@@ -50,5 +50,6 @@ fn reason_of(why: Departure) -> &'static str {
         Departure::Write => "write",
         Departure::Idle => "idle",
         Departure::Stopped => "stopped",
+        Departure::Unsettled => "not settled",
     }
 }

@@ -248,6 +248,7 @@ fn take_in(
             address,
             readable: true,
             writable: true,
+            ending: false,
             came: 0,
             went: 0,
         })
@@ -262,20 +263,22 @@ fn note_ready(events: &Events, guests: &mut Vec<Guest>) -> bool {
         if token == DOOR {
             knocks = true;
         } else {
-            let readable = event.is_readable() || event.is_read_closed() || event.is_error();
+            let ending = event.is_read_closed() || event.is_error();
+            let readable = event.is_readable() || ending;
             let writable = event.is_writable() || event.is_write_closed() || event.is_error();
-            note_one(guests, token as u64, readable, writable);
+            note_one(guests, token as u64, readable, writable, ending);
         }
     }
     knocks
 }
 
-/// Notes that a connection can be read or written.
-fn note_one(guests: &mut Vec<Guest>, id: u64, readable: bool, writable: bool) {
+/// Notes that a connection can be read or written, or that its input has ended or failed.
+fn note_one(guests: &mut Vec<Guest>, id: u64, readable: bool, writable: bool, ending: bool) {
     if let Some(place) = place_of(guests, id) {
         let guest = &mut guests[place];
         guest.readable = guest.readable || readable;
         guest.writable = guest.writable || writable;
+        guest.ending = guest.ending || ending;
     }
 }
 

@@ -1,11 +1,9 @@
 -- The bytes of chunks, after each change of them.
-use Rattle.std.proofs.Common.{◌≡◌, ◌≢◌, ℕ, zero, suc, ◌+◌, ◌-◌, ◌<◌, ◌≤◌, List, [], ◌∷◌, ◌++◌, length, take, drop, refl, sym, ap, subst, ◌∙◌, arith, append_assoc}
-use Rattle.std.proofs.Math.Seq.{take-append_seam}
-use Rattle.std.proofs.lemmas.List.{append-nil, drop-append-le, length-append, length-drop}
+use Rattle.std.proofs.Common.{◌≡◌, ℕ, ◌+◌, ◌-◌, List, ◌++◌, drop, sym, ap, ◌∙◌, append_assoc}
 use Rattle.std.specs.List.{flat_map}
 use Rattle.std.specs.declared.alloc.Global.{Global}
 use Rattle.std.specs.declared.vec.Vec.{Vec}
-use Rattle.droid_wire_queue.specs.Chunks.{AreFilled, IsSettled, bytes_of, waiting}
+use Rattle.droid_wire_queue.specs.Chunks.{bytes_of, waiting}
 use Rattle.droid_wire_queue.specs.declared.chunks.Chunks.{Chunks}
 
 -- bytes more at the end of the last chunk

@@ -9,7 +9,7 @@ use Rattle.droid_wire_turns.specs.Departures.{Explains, IsServed, Serves}
 use Rattle.droid_wire_turns.specs.Events.{Event, Opened, NoneOpened, Read, Ended, Unread, Wrote, Unwritten, Closed, Told, Waited, Unwaited}
 use Rattle.droid_wire_turns.specs.Halls.{IsCalm, IsWithin, Keeps, one_at}
 use Rattle.droid_wire_turns.specs.Turns.{HasLeft, IsFair, IsOpenAfter, IsSeated}
-use Rattle.droid_wire_turns.specs.Steps.{Always, AreOfOthers, Happened, Handles, Happens, IsOf, IsOfOther, IsTraffic, Step, bytes_read, bytes_written, came, closed, closed_by, handled, handled_in, numbers, opened, opened_by, turn_behind, turn_of}
+use Rattle.droid_wire_turns.specs.Steps.{Always, AreOfOthers, Happened, Handles, Happens, IsOf, IsOfOther, IsTraffic, Settles, Step, bytes_read, bytes_written, came, closed, closed_by, handled, handled_in, numbers, opened, opened_by, turn_behind, turn_of}
 use Rattle.droid_wire_turns.specs.declared.departure.Departure.{Departure}
 use Rattle.droid_wire_turns.specs.declared.rules.Rules.{Rules}
 use Rattle.droid_wire_turns.proofs.OwnSteps.{Elsewhere, all_elsewhere, calm, came_elsewhere, handled_elsewhere, none_gathered, none_more, one_more, turn_more, turn_waited}
@@ -131,6 +131,7 @@ other_traffic who id (Happens (Opened one)) is other own = absurd is
 other_traffic who id (Happens NoneOpened) is other own = absurd is
 other_traffic who id (Happens (Closed one why)) is other own = absurd is
 other_traffic who id (Handles one frame reply) is other own = other (sym is ∙ own)
+other_traffic who id (Settles done) is other own = absurd is
 
 others_traffic : (who id : ℕ) (more : List Step) → AllByRecursion (IsTraffic who) more → (who ≡ id → ⊥) → AreOfOthers id more
 others_traffic who id [] all other = tt
@@ -155,6 +156,7 @@ none_traffic who (Happens (Opened one)) is = absurd is
 none_traffic who (Happens NoneOpened) is = absurd is
 none_traffic who (Happens (Closed one why)) is = absurd is
 none_traffic who (Handles one frame reply) is = record { opens = refl; closes = refl; free = λ rules before. tt }
+none_traffic who (Settles done) is = absurd is
 
 all_none : (who : ℕ) (more : List Step) → AllByRecursion (IsTraffic who) more → AllByRecursion IsPlain more
 all_none who [] all = tt
@@ -266,6 +268,9 @@ nobody_none = record { away = λ id. (refl, refl, refl); of_none = λ id own. ow
 nobody_unwaited : IsNobody (Happens Unwaited)
 nobody_unwaited = record { away = λ id. (refl, refl, refl); of_none = λ id own. own; opens = refl; closes = refl }
 
+nobody_settled : (done : Bool) → IsNobody (Settles done)
+nobody_settled done = record { away = λ id. (refl, refl, refl); of_none = λ id own. own; opens = refl; closes = refl }
+
 nobody_waited : (limit : ℕ) → IsNobody (Happens (Waited limit))
 nobody_waited limit = record { away = λ id. (refl, refl, refl); of_none = λ id own. own; opens = refl; closes = refl }
 
@@ -293,6 +298,10 @@ keeps_none rules count open_as places steps keeps =
 pub keeps_unwaited : (rules : Rules) (count : ℕ) (open_as : ℕ → ℕ) (places : ℕ) (steps : List Step) → Keeps rules count open_as places steps → Keeps rules count open_as places (steps ++ Happens Unwaited ∷ [])
 keeps_unwaited rules count open_as places steps keeps =
     keeps_nobody rules count open_as places steps (Happens Unwaited) keeps nobody_unwaited tt (λ id. within_quiet id steps (Happens Unwaited) (goes_on_turn steps (Happens Unwaited) (λ turn. refl)) refl refl (keeps.within id))
+
+pub keeps_settled : (rules : Rules) (count : ℕ) (open_as : ℕ → ℕ) (places : ℕ) (done : Bool) (steps : List Step) → Keeps rules count open_as places steps → Keeps rules count open_as places (steps ++ Settles done ∷ [])
+keeps_settled rules count open_as places done steps keeps =
+    keeps_nobody rules count open_as places steps (Settles done) keeps (nobody_settled done) tt (λ id. within_quiet id steps (Settles done) (goes_on_turn steps (Settles done) (λ turn. refl)) refl refl (keeps.within id))
 
 pub keeps_waited : (rules : Rules) (count : ℕ) (open_as : ℕ → ℕ) (places limit : ℕ) (steps : List Step) → Keeps rules count open_as places steps → IsFair rules steps (Happens (Waited limit)) → Keeps rules count open_as places (steps ++ Happens (Waited limit) ∷ [])
 keeps_waited rules count open_as places limit steps keeps fair =

@@ -6,7 +6,7 @@ use Rattle.droid_frame.specs.types.frame.Frame.{Frame}
 use Rattle.droid_frame.specs.types.reply.Reply.{Reply}
 use Rattle.droid_wire_turns.specs.Departures.{IsServed}
 use Rattle.droid_wire_turns.specs.Events.{Read}
-use Rattle.droid_wire_turns.specs.Peers.{Advances, InTurn, IsQuiet, IsRoom, Kept, Lends, Lending, Stands, Taking, Turns}
+use Rattle.droid_wire_turns.specs.Peers.{Advances, InTurn, IsHearing, IsQuiet, IsRoom, Kept, Lends, Lending, Stands, Taking, Turns}
 use Rattle.droid_wire_turns.specs.Steps.{Handles, Happens, IsTraffic, Step, bytes_read, came, handled, handled_in}
 use Rattle.droid_wire_turns.proofs.OwnSteps.{gathered, handled_here, none_more, one_more, read_here}
 use Rattle.droid_wire_turns.proofs.Moments.{all_both, always_both, always_one}
@@ -67,18 +67,27 @@ turn_as : (id room count also : ℕ) (turn other : List Step) → count ≡ also
 turn_as id room count also turn other is same in_turn = subst (λ (n : ℕ). InTurn id room n other) is (subst (InTurn id room count) same in_turn)
 
 pub turns_both : (id room middle left one other : ℕ) (first later : List Step) → Turns id room middle one first → Turns id middle left other later → Turns id room left (one + other) (first ++ later)
-turns_both id room middle left one other first later goes further count turn in_turn =
-    let sum : (count + one) + other ≡ count + (one + other) = omega arith in
-    turn_as id left ((count + one) + other) (count + (one + other)) ((turn ++ first) ++ later) (turn ++ (first ++ later)) sum (append_assoc turn first later) (further (count + one) (turn ++ first) (goes count turn in_turn))
+turns_both id room middle left one other first later goes further = record {
+  goes = λ count turn in_turn.
+      let sum : (count + one) + other ≡ count + (one + other) = omega arith in
+      turn_as id left ((count + one) + other) (count + (one + other)) ((turn ++ first) ++ later) (turn ++ (first ++ later)) sum (append_assoc turn first later) (further.goes (count + one) (turn ++ first) (goes.goes count turn in_turn));
+  hearing = all_both IsHearing first later goes.hearing further.hearing;
+}
 
 pub turns_none : (id room : ℕ) → Turns id room room 0 []
-turns_none id room count turn in_turn = let same : count ≡ count + 0 = omega arith in turn_as id room count (count + 0) turn (turn ++ []) same (sym (append-nil turn)) in_turn
+turns_none id room = record {
+  goes = λ count turn in_turn. let same : count ≡ count + 0 = omega arith in turn_as id room count (count + 0) turn (turn ++ []) same (sym (append-nil turn)) in_turn;
+  hearing = tt;
+}
 
 -- neither was anything read nor a frame handled
-pub turns_still : (id room : ℕ) (step : Step) → bytes_read id step ≡ [] → handled_in id step ≡ [] → Turns id room room 0 (step ∷ [])
-turns_still id room step no_bytes no_frame count turn in_turn = record {
-  frames = ap length (none_more (handled_in id) turn step no_frame) ∙ (in_turn.frames ∙ (let same : count ≡ count + 0 = omega arith in same));
-  bytes = subst (λ (l : List ℕ). IsRoom room (length l)) (sym (none_more (bytes_read id) turn step no_bytes)) in_turn.bytes;
+pub turns_still : (id room : ℕ) (step : Step) → bytes_read id step ≡ [] → handled_in id step ≡ [] → IsHearing step → Turns id room room 0 (step ∷ [])
+turns_still id room step no_bytes no_frame hears = record {
+  goes = λ count turn in_turn. record {
+    frames = ap length (none_more (handled_in id) turn step no_frame) ∙ (in_turn.frames ∙ (let same : count ≡ count + 0 = omega arith in same));
+    bytes = subst (λ (l : List ℕ). IsRoom room (length l)) (sym (none_more (bytes_read id) turn step no_bytes)) in_turn.bytes;
+  };
+  hearing = (hears, tt);
 }
 
 room_less : (room read size : ℕ) → IsRoom room read → 0 < room → size ≤ 65536 → IsRoom (room - size) (read + size)
@@ -87,22 +96,30 @@ room_less room read size is some few =
     record { all = λ more. omega (arith, all, more); over = λ none. omega (arith, all, none); within = omega (arith, all, some, few) }
 
 pub turns_read : (id room : ℕ) (bytes : List ℕ) → 0 < room → length bytes ≤ 65536 → Turns id room (room - length bytes) 0 (Happens (Read id bytes) ∷ [])
-turns_read id room bytes some few count turn in_turn =
+turns_read id room bytes some few =
     let step : Step = Happens (Read id bytes) in
-    let all : came id (turn ++ step ∷ []) ≡ came id turn ++ bytes = one_more (bytes_read id) turn step ∙ ap (λ (l : List ℕ). came id turn ++ l) (read_here id bytes) in
-    let size : length (came id turn) + length bytes ≡ length (came id (turn ++ step ∷ [])) = omega (arith, length-append (came id turn) bytes, ap length all) in
     record {
-      frames = ap length (none_more (handled_in id) turn step refl) ∙ (in_turn.frames ∙ (let same : count ≡ count + 0 = omega arith in same));
-      bytes = subst (IsRoom (room - length bytes)) size (room_less room (length (came id turn)) (length bytes) in_turn.bytes some few);
+      goes = λ count turn in_turn.
+          let all : came id (turn ++ step ∷ []) ≡ came id turn ++ bytes = one_more (bytes_read id) turn step ∙ ap (λ (l : List ℕ). came id turn ++ l) (read_here id bytes) in
+          let size : length (came id turn) + length bytes ≡ length (came id (turn ++ step ∷ [])) = omega (arith, length-append (came id turn) bytes, ap length all) in
+          record {
+            frames = ap length (none_more (handled_in id) turn step refl) ∙ (in_turn.frames ∙ (let same : count ≡ count + 0 = omega arith in same));
+            bytes = subst (IsRoom (room - length bytes)) size (room_less room (length (came id turn)) (length bytes) in_turn.bytes some few);
+          };
+      hearing = (tt, tt);
     }
 
 pub turns_handled : (id room : ℕ) (frame : Frame) (reply : Reply) → Turns id room room 1 (Handles id frame reply ∷ [])
-turns_handled id room frame reply count turn in_turn =
+turns_handled id room frame reply =
     let step : Step = Handles id frame reply in
-    let all : handled id (turn ++ step ∷ []) ≡ handled id turn ++ (frame, reply) ∷ [] = one_more (handled_in id) turn step ∙ ap (λ (l : List (Frame × Reply)). handled id turn ++ l) (handled_here id frame reply) in
     record {
-      frames = omega (arith, ap length all, length-append (handled id turn) ((frame, reply) ∷ []), in_turn.frames);
-      bytes = subst (λ (l : List ℕ). IsRoom room (length l)) (sym (none_more (bytes_read id) turn step refl)) in_turn.bytes;
+      goes = λ count turn in_turn.
+          let all : handled id (turn ++ step ∷ []) ≡ handled id turn ++ (frame, reply) ∷ [] = one_more (handled_in id) turn step ∙ ap (λ (l : List (Frame × Reply)). handled id turn ++ l) (handled_here id frame reply) in
+          record {
+            frames = omega (arith, ap length all, length-append (handled id turn) ((frame, reply) ∷ []), in_turn.frames);
+            bytes = subst (λ (l : List ℕ). IsRoom room (length l)) (sym (none_more (bytes_read id) turn step refl)) in_turn.bytes;
+          };
+      hearing = (tt, tt);
     }
 
 -- ---- nothing of either

@@ -1,5 +1,5 @@
 -- All open connections, after one of them had its part of a turn, after one came, and after one left.
-use Rattle.std.proofs.Common.{◌≡◌, ℕ, ◌+◌, ◌-◌, ◌<◌, ◌≤◌, Bool, true, cond, count_by, get_or, take, List, [], ◌∷◌, ◌++◌, length, Option, Some, None, fold, refl, sym, ap, subst, ◌∙◌, append_assoc, arith, inl, inr, ◌⊎◌}
+use Rattle.std.proofs.Common.{◌≡◌, ◌≢◌, ℕ, ◌+◌, ◌-◌, ◌<◌, ◌≤◌, Bool, true, false, cond, count_by, get_or, take, List, [], ◌∷◌, ◌++◌, length, Option, Some, None, fold, refl, sym, ap, subst, ◌∙◌, append_assoc, arith, inl, inr, ◌⊎◌}
 use Rattle.std.specs.List.{AllByRecursion}
 use Rattle.std.proofs.lemmas.List.{append-nil, length-append, take_more}
 use Rattle.std.proofs.lemmas.List.Sums.{fold-append, sum_by-append}
@@ -9,12 +9,12 @@ use Rattle.droid_frame.specs.Streams.{IsReadable}
 use Rattle.droid_frame.specs.types.frame.Frame.{Frame}
 use Rattle.droid_frame.specs.types.reply.Reply.{Reply}
 use Rattle.std.proofs.lemmas.Bool.Decides.{eqb_tells}
-use Rattle.droid_wire_turns.specs.Departures.{IsServed, IsStopped, Serves, is_wait}
+use Rattle.droid_wire_turns.specs.Departures.{Explains, IsServed, IsStopped, Serves, is_wait}
 use Rattle.droid_wire_turns.specs.Events.{Event, Opened, NoneOpened, Read, Ended, Unread, Wrote, Unwritten, Closed, Told, Waited, Unwaited}
-use Rattle.droid_wire_turns.specs.Halls.{Admits, Heard, Holds, IsAtRest, IsCalm, IsPatient, IsWithin, Keeps, LeadsInTurn, LeadsOn, NoPeer, Served, TakesTurn, Unheard, one_at, times_among, times_in}
-use Rattle.droid_wire_turns.specs.Peers.{Departs, Hears, IsNew, IsQuiet, Kept, Stands, Stays, is_hungry, keep, kept_of}
-use Rattle.droid_wire_turns.specs.Turns.{AreAll, EndsBy, HasAdmitted, HasBegun, HasEnough, HasLeft, IsAll, IsFair, IsOpenAfter, IsReady, IsSettled, ServesAll, WereTaken}
-use Rattle.droid_wire_turns.specs.Steps.{AreOfOthers, Goes, Happened, Handles, Happens, IsOf, IsOfOther, IsTraffic, Moves, Step, Times, bytes_read, bytes_written, came, clock_behind, clock_of, handled, handled_in, numbers, opened, opened_by, spelled_frames, spelled_replies, times_of, turn_behind, turn_of, went}
+use Rattle.droid_wire_turns.specs.Halls.{Admits, ClosesSome, EndsFor, GivesUp, Heard, Holds, IsAtRest, IsCalm, IsClosing, IsPatient, IsTelling, IsWithin, Keeps, LeadsInTurn, LeadsOn, NoPeer, Served, Stops, TakesTurn, Unheard, one_at, times_among, times_in}
+use Rattle.droid_wire_turns.specs.Peers.{Departs, Hears, IsHearing, IsNew, IsQuiet, Kept, Stands, Stays, is_hungry, keep, kept_of}
+use Rattle.droid_wire_turns.specs.Turns.{AreAll, EndsBy, HasAdmitted, HasBegun, HasEnough, HasLeft, IsAll, IsFair, IsOpenAfter, IsReady, IsSettled, ServesAll, SettledOnce, SettlesFirst, WereTaken}
+use Rattle.droid_wire_turns.specs.Steps.{AllSettled, AreOfOthers, AtEach, FailedToSettle, Goes, Happened, Handles, Happens, IsOf, IsOfOther, IsTraffic, Moves, Settles, Step, Times, bytes_read, bytes_written, came, clock_behind, clock_of, handled, handled_in, numbers, opened, opened_by, spelled_frames, spelled_replies, times_of, turn_behind, turn_of, went}
 use Rattle.droid_wire_turns.specs.declared.departure.Departure.{Departure}
 use Rattle.droid_wire_turns.specs.declared.departure.Departure.TheVariants as departures
 use Rattle.droid_wire_turns.specs.declared.hall.Hall.{Hall}
@@ -22,11 +22,12 @@ use Rattle.droid_wire_turns.specs.declared.peer.Peer.{Peer}
 use Rattle.droid_wire_turns.specs.declared.rules.Rules.{Rules}
 use Rattle.droid_wire_turns.specs.declared.served.Served.{Served as Ending}
 use Rattle.droid_wire_turns.specs.declared.served.Served.TheVariants as ways
-use Rattle.droid_wire_turns.proofs.OwnSteps.{Elsewhere, all_elsewhere, at_once, calm, clock_more, clock_told, closed_elsewhere, gathered, none_elsewhere, none_gathered, none_more, opened_elsewhere, times_now, times_one, times_opened, turn_more}
-use Rattle.droid_wire_turns.proofs.AllConnections.{Leaves, cases_zero, keeps_as, keeps_closed, keeps_none, keeps_opened, keeps_start, keeps_told, keeps_traffic, keeps_unwaited, keeps_waited, lt_self, numbers_size, one_here, one_other}
-use Rattle.droid_wire_turns.proofs.Moments.{all_as, all_both, all_first, all_last, always_end, goes_as, goes_both, goes_moving, moves_both, moves_event}
+use Rattle.droid_wire_turns.proofs.OwnSteps.{Elsewhere, all_elsewhere, at_once, calm, clock_more, clock_told, closed_elsewhere, gathered, none_elsewhere, none_gathered, none_more, opened_elsewhere, settling_elsewhere, times_now, times_one, times_opened, turn_more}
+use Rattle.droid_wire_turns.proofs.AllConnections.{Leaves, cases_zero, keeps_as, keeps_closed, keeps_none, keeps_opened, keeps_settled, keeps_start, keeps_told, keeps_traffic, keeps_unwaited, keeps_waited, lt_self, numbers_size, one_here, one_other}
+use Rattle.droid_wire_turns.proofs.Moments.{all_as, all_both, all_first, all_last, always_end, goes_both, goes_moving, goes_settling, moves_both, moves_event}
 use Rattle.droid_wire_turns.proofs.PeerSteps.{happened_here, happened_then, stands_told}
 use Rattle.droid_wire_turns.proofs.ServesMore.{serves_as}
+use Rattle.droid_wire_turns.proofs.Settling.{IsOnce, IsOrdered, failed_there, once_turn, order_failed, ordered_none, ordered_on, ordered_turn, settled_last, settled_then, telling}
 use Rattle.droid_wire_turns.proofs.PeerTurns.{IsAsBefore, heard_by, heard_elsewhere, served_by, served_elsewhere, settled_as, unheard_elsewhere, unheard_waited}
 
 -- ---- which are open
@@ -189,6 +190,7 @@ nothing_of id (Happens (Opened one)) other = record { reads = refl; writes = ref
 nothing_of id (Happens NoneOpened) other = record { reads = refl; writes = refl; handles = refl }
 nothing_of id (Happens (Closed one why)) other = record { reads = refl; writes = refl; handles = refl }
 nothing_of id (Handles one frame reply) other = record { reads = refl; writes = refl; handles = ap (λ (b : Bool). cond b ((frame, reply) ∷ []) []) (ne_eqb one id other) }
+nothing_of id (Settles done) other = record { reads = refl; writes = refl; handles = refl }
 
 others_elsewhere : (id : ℕ) (steps : List Step) → AreOfOthers id steps → (came id steps ≡ []) × (went id steps ≡ []) × (handled id steps ≡ [])
 others_elsewhere id [] others = (refl, refl, refl)
@@ -220,6 +222,7 @@ others_behind id turn (Happens (Opened one)) so_far other = all_both (IsOfOther 
 others_behind id turn (Happens NoneOpened) so_far other = all_both (IsOfOther id) turn (Happens NoneOpened ∷ []) so_far (other, tt)
 others_behind id turn (Happens (Closed one why)) so_far other = all_both (IsOfOther id) turn (Happens (Closed one why) ∷ []) so_far (other, tt)
 others_behind id turn (Handles one frame reply) so_far other = all_both (IsOfOther id) turn (Handles one frame reply ∷ []) so_far (other, tt)
+others_behind id turn (Settles done) so_far other = all_both (IsOfOther id) turn (Settles done ∷ []) so_far (other, tt)
 
 quiet_more : (id : ℕ) (turn : List Step) (step : Step) → bytes_read id step ≡ [] → handled_in id step ≡ [] → IsQuiet id turn → IsQuiet id (turn ++ step ∷ [])
 quiet_more id turn step no_bytes no_frame quiet = record { nothing_came = none_more (bytes_read id) turn step no_bytes ∙ quiet.nothing_came; nothing_handled = none_more (handled_in id) turn step no_frame ∙ quiet.nothing_handled }
@@ -412,20 +415,73 @@ stopped_more : (steps more : List Step) → IsStopped steps → IsStopped (steps
 stopped_more steps more (inl failed) = inl (happened_then Unwaited steps more failed)
 stopped_more steps more (inr many) = inr (omega (arith, many, sum_by-append (λ (s : Step). cond (is_wait s) 1 0) steps more))
 
+ends_explain : (why : Departure) (idle id : ℕ) (steps : List Step) (held queued : List ℕ) → EndsFor why steps → Explains idle id steps held queued why
+ends_explain departures.Stopped idle id steps held queued ends = ends
+ends_explain departures.Unsettled idle id steps held queued ends = ends
+ends_explain departures.Closed idle id steps held queued ends = absurd ends
+ends_explain (departures.Frame fault) idle id steps held queued ends = absurd ends
+ends_explain departures.Memory idle id steps held queued ends = absurd ends
+ends_explain departures.Write idle id steps held queued ends = absurd ends
+ends_explain departures.Idle idle id steps held queued ends = absurd ends
+
+ends_more : (why : Departure) (steps more : List Step) → EndsFor why steps → EndsFor why (steps ++ more)
+ends_more departures.Stopped steps more ends = stopped_more steps more ends
+ends_more departures.Unsettled steps more ends = settled_then false steps more ends
+ends_more departures.Closed steps more ends = absurd ends
+ends_more (departures.Frame fault) steps more ends = absurd ends
+ends_more departures.Memory steps more ends = absurd ends
+ends_more departures.Write steps more ends = absurd ends
+ends_more departures.Idle steps more ends = absurd ends
+
 -- one is closed since the loop ends
-pub stop_one : (rules : Rules) (count : ℕ) (rest served : List Peer) (peer : Peer) (steps : List Step) → Keeps rules count (times_among (rest ++ peer ∷ []) served) (length (rest ++ peer ∷ []) + length served) steps → IsStopped steps
-    → IsStopped (steps ++ Happens (Closed peer.id departures.Stopped) ∷ []) × Keeps rules count (times_among rest served) (length rest + length served) (steps ++ Happens (Closed peer.id departures.Stopped) ∷ [])
-stop_one rules count rest served peer steps keeps stopped =
+close_last : (rules : Rules) (count places : ℕ) (others : ℕ → ℕ) (rest : List Peer) (peer : Peer) (why : Departure) (steps : List Step) → EndsFor why steps
+    → Keeps rules count (λ id. times_in id (rest ++ peer ∷ []) + others id) (length (rest ++ peer ∷ []) + places) steps
+    → EndsFor why (steps ++ Happens (Closed peer.id why) ∷ []) × Keeps rules count (λ id. times_in id rest + others id) (length rest + places) (steps ++ Happens (Closed peer.id why) ∷ [])
+close_last rules count places others rest peer why steps ends keeps =
     let now : IsServed peer.id steps = always_end (IsServed peer.id) [] steps (keeps.each peer.id) in (
-      stopped_more steps (Happens (Closed peer.id departures.Stopped) ∷ []) stopped,
-      keeps_closed rules count (times_among (rest ++ peer ∷ []) served) (times_among rest served) (length (rest ++ peer ∷ []) + length served) (length rest + length served) peer.id departures.Stopped steps keeps
-          (record { held = now.held; queued = now.queued; serves = now.serves; explained = stopped }) (λ id. omega (arith, times_push id rest peer)) (omega (arith, size_push rest peer)),
+      ends_more why steps (Happens (Closed peer.id why) ∷ []) ends,
+      keeps_closed rules count (λ id. times_in id (rest ++ peer ∷ []) + others id) (λ id. times_in id rest + others id) (length (rest ++ peer ∷ []) + places) (length rest + places) peer.id why steps keeps
+          (record { held = now.held; queued = now.queued; serves = now.serves; explained = ends_explain why rules.idle peer.id steps now.held now.queued ends })
+          (λ id. omega (arith, times_push id rest peer)) (omega (arith, size_push rest peer)),
     )
 
--- all are closed, one after the other
-abbrev pub Stopping : Rules → Hall → Hall → List Step → Type 0
-Stopping rules old new steps = (before : List Step) → IsStopped before → Keeps rules old.opened (times_among old.waiting.items old.served.items) (length old.waiting.items + length old.served.items) before
-    → IsStopped (before ++ steps) × Keeps rules new.opened (times_among new.waiting.items new.served.items) (length new.waiting.items + length new.served.items) (before ++ steps)
+pub closes_none : (why : Departure) (peers : List Peer) → ClosesSome why peers peers []
+closes_none why peers = record {
+  closing = tt;
+  keeps = λ rules count others places before ends keeps.
+      (subst (EndsFor why) (sym (append-nil before)) ends, subst (Keeps rules count (λ id. times_in id peers + others id) (length peers + places)) (sym (append-nil before)) keeps);
+}
+
+pub closes_more : (why : Departure) (start old rest : List Peer) (peer : Peer) (first : List Step) → ClosesSome why start old first → old ≡ rest ++ peer ∷ [] → ClosesSome why start rest (first ++ Happens (Closed peer.id why) ∷ [])
+closes_more why start old rest peer first so was =
+    let step : Step = Happens (Closed peer.id why) in
+    record {
+      closing = all_both (IsClosing why) first (step ∷ []) so.closing ((peer.id, refl), tt);
+      keeps = λ rules count others places before ends keeps.
+          let so_far = so.keeps rules count others places before ends keeps in
+          let here : Keeps rules count (λ id. times_in id (rest ++ peer ∷ []) + others id) (length (rest ++ peer ∷ []) + places) (before ++ first) =
+          subst (λ (l : List Peer). Keeps rules count (λ id. times_in id l + others id) (length l + places) (before ++ first)) was so_far.1 in
+          let closed = close_last rules count places others rest peer why (before ++ first) so_far.0 here in
+          let same : (before ++ first) ++ step ∷ [] ≡ before ++ (first ++ step ∷ []) = append_assoc before first (step ∷ []) in
+          (subst (EndsFor why) same closed.0, subst (Keeps rules count (λ id. times_in id rest + others id) (length rest + places)) same closed.1);
+    }
+
+closing_told : (why : Departure) (step : Step) → IsClosing why step → IsTelling step
+closing_told why step is = subst IsTelling (sym is.1) tt
+
+-- all are closed, since the loop could not wait any longer
+pub stops_all : (rules : Rules) (old new : Hall) (steps : List Step) → old.served.items ≡ [] → new.waiting.items ≡ [] → new.opened ≡ old.opened → ClosesSome departures.Stopped old.waiting.items new.waiting.items steps → Stops rules old new steps
+stops_all rules old new steps none is same closes = record {
+  telling = all_as (IsClosing departures.Stopped) IsTelling steps (closing_told departures.Stopped) closes.closing;
+  keeps = λ before stopped rest.
+      let here : Keeps rules old.opened (λ id. times_in id old.waiting.items + times_in id old.served.items) (length old.waiting.items + length old.served.items) before =
+      keeps_as rules old.opened (times_among old.waiting.items old.served.items) (λ id. times_in id old.waiting.items + times_in id old.served.items) (length old.waiting.items + length old.served.items) (length old.waiting.items + length old.served.items) before (λ id. refl) refl rest.keeps in
+      let closed = closes.keeps rules old.opened (λ id. times_in id old.served.items) (length old.served.items) before stopped here in
+      let over : Keeps rules old.opened (λ id. 0) 0 (before ++ steps) =
+      keeps_as rules old.opened (λ id. times_in id new.waiting.items + times_in id old.served.items) (λ id. 0) (length new.waiting.items + length old.served.items) 0 (before ++ steps)
+      (λ id. omega (arith, ap (times_in id) is, ap (times_in id) none)) (omega (arith, ap length is, ap length none)) closed.1 in
+      (closed.0, subst (λ (n : ℕ). Keeps rules n (λ id. 0) 0 (before ++ steps)) (sym same) over);
+}
 
 -- ---- from one hall to the next
 
@@ -591,8 +647,10 @@ begun_more rules steps more still begun =
     subst (HasBegun rules (steps ++ more)) (sym (turn_more steps more still))
     (record { time = begun.time; told = happened_then (Told begun.time) (turn_of steps) more begun.told; admitted = admitted_more rules steps (turn_of steps) more begun.admitted })
 
-pub leads_in_turn : (rules : Rules) (P Q R S T U : List Step → Peer → Type 0) (old middle new : Hall) (first later : List Step) → LeadsInTurn rules P Q R S old middle first → LeadsInTurn rules R S T U middle new later → LeadsInTurn rules P Q T U old new (first ++ later)
-leads_in_turn rules P Q R S T U old middle new first later one other = (leads_both rules P Q R S T U old middle new first later one.0 other.0, all_both IsCalm first later one.1 other.1)
+pub leads_in_turn : (rules : Rules) (K : Step → Type 0) (P Q R S T U : List Step → Peer → Type 0) (old middle new : Hall) (first later : List Step) → LeadsInTurn rules K P Q R S old middle first → LeadsInTurn rules K R S T U middle new later
+    → LeadsInTurn rules K P Q T U old new (first ++ later)
+leads_in_turn rules K P Q R S T U old middle new first later one other =
+    (leads_both rules P Q R S T U old middle new first later one.0 other.0, all_both IsCalm first later one.1 other.1, all_both K first later one.2 other.2)
 
 pub calm_nobody : AllByRecursion IsCalm (Happens NoneOpened ∷ [])
 calm_nobody = none_calm
@@ -604,22 +662,24 @@ pub calm_failed : (id : ℕ) → AllByRecursion IsCalm (Happens (Opened id) ∷ 
 calm_failed id = (opened_calm id, (closed_calm id departures.Memory, tt))
 
 -- nobody waits any more
-pub admits_nobody : (rules : Rules) (old new : Hall) (first : List Step) → new.time ≡ old.time → LeadsInTurn rules (Unheard old.time) NoPeer (Unheard old.time) NoPeer old new first → Admits rules old new (first ++ Happens NoneOpened ∷ [])
+pub admits_nobody : (rules : Rules) (old new : Hall) (first : List Step) → new.time ≡ old.time → LeadsInTurn rules IsHearing (Unheard old.time) NoPeer (Unheard old.time) NoPeer old new first → Admits rules old new (first ++ Happens NoneOpened ∷ [])
 admits_nobody rules old new first same so =
     let step : List Step = Happens NoneOpened ∷ [] in
-    let all = leads_in_turn rules (Unheard old.time) NoPeer (Unheard old.time) NoPeer (Unheard old.time) NoPeer old new new first step so (leads_nobody rules old.time new (sym same), none_calm) in
+    let all = leads_in_turn rules IsHearing (Unheard old.time) NoPeer (Unheard old.time) NoPeer (Unheard old.time) NoPeer old new new first step so (leads_nobody rules old.time new (sym same), none_calm, (tt, tt)) in
     record {
       leads = all.0;
       calm = all.1;
+      hearing = all.2;
       admitted = λ before holds. inl (subst (λ (l : List Step). Happened NoneOpened (turn_of l)) (append_assoc before first step)
           (subst (Happened NoneOpened) (sym (turn_more (before ++ first) step none_calm)) (happened_here NoneOpened (turn_of (before ++ first)))));
     }
 
 -- or there is no seat, or enough came
-pub admits_enough : (rules : Rules) (old new : Hall) (steps : List Step) → LeadsInTurn rules (Unheard old.time) NoPeer (Unheard old.time) NoPeer old new steps → (rules.seats ≤ length new.waiting.items) ⊎ HasEnough rules.total new.opened → Admits rules old new steps
+pub admits_enough : (rules : Rules) (old new : Hall) (steps : List Step) → LeadsInTurn rules IsHearing (Unheard old.time) NoPeer (Unheard old.time) NoPeer old new steps → (rules.seats ≤ length new.waiting.items) ⊎ HasEnough rules.total new.opened → Admits rules old new steps
 admits_enough rules old new steps so why = record {
   leads = so.0;
   calm = so.1;
+  hearing = so.2;
   admitted = λ before holds. elim why [
     | inl full ↦ inr (inl (record {
       early = before ++ steps;
@@ -632,42 +692,6 @@ admits_enough rules old new steps so why = record {
     | inr enough ↦ inr (inr (subst (HasEnough rules.total) (sym (ap length holds.keeps.numbered ∙ numbers_size new.opened)) enough))
   ];
 }
-
--- ---- all are closed
-
-pub stopping_none : (rules : Rules) (hall : Hall) → Stopping rules hall hall []
-stopping_none rules hall before stopped keeps = (
-  subst IsStopped (sym (append-nil before)) stopped,
-  subst (Keeps rules hall.opened (times_among hall.waiting.items hall.served.items) (length hall.waiting.items + length hall.served.items)) (sym (append-nil before)) keeps,
-)
-
-pub stopping_more : (rules : Rules) (start old new : Hall) (peer : Peer) (rest : List Peer) (first : List Step) → Stopping rules start old first → old.waiting.items ≡ rest ++ peer ∷ [] → new.waiting.items ≡ rest → new.served.items ≡ old.served.items → new.opened ≡ old.opened
-    → Stopping rules start new (first ++ Happens (Closed peer.id departures.Stopped) ∷ [])
-stopping_more rules start old new peer rest first stopping was waits serves opened before stopped keeps =
-    let step : Step = Happens (Closed peer.id departures.Stopped) in
-    let so_far = stopping before stopped keeps in
-    let here : Keeps rules old.opened (times_among (rest ++ peer ∷ []) old.served.items) (length (rest ++ peer ∷ []) + length old.served.items) (before ++ first) =
-    subst (λ (l : List Peer). Keeps rules old.opened (times_among l old.served.items) (length l + length old.served.items) (before ++ first)) was so_far.1 in
-    let closed = stop_one rules old.opened rest old.served.items peer (before ++ first) here so_far.0 in
-    let same : (before ++ first) ++ step ∷ [] ≡ before ++ (first ++ step ∷ []) = append_assoc before first (step ∷ []) in
-    let lists : Keeps rules new.opened (times_among new.waiting.items new.served.items) (length new.waiting.items + length new.served.items) ((before ++ first) ++ step ∷ []) =
-    subst (λ (n : ℕ). Keeps rules n (times_among new.waiting.items new.served.items) (length new.waiting.items + length new.served.items) ((before ++ first) ++ step ∷ [])) (sym opened)
-    (subst (λ (l : List Peer). Keeps rules old.opened (times_among l new.served.items) (length l + length new.served.items) ((before ++ first) ++ step ∷ [])) (sym waits)
-    (subst (λ (l : List Peer). Keeps rules old.opened (times_among rest l) (length rest + length l) ((before ++ first) ++ step ∷ [])) (sym serves) closed.1)) in
-    (subst IsStopped same closed.0, subst (Keeps rules new.opened (times_among new.waiting.items new.served.items) (length new.waiting.items + length new.served.items)) same lists)
-
--- none is open any more
-pub stopping_all : (rules : Rules) (start old : Hall) (opened : ℕ) (first : List Step) → Stopping rules start old first → old.waiting.items ≡ [] → old.served.items ≡ [] → opened ≡ old.opened
-    → (before : List Step) → IsStopped before → IsAtRest rules start before → IsStopped (before ++ first) × Keeps rules opened (λ (id : ℕ). 0) 0 (before ++ first)
-stopping_all rules start old opened first stopping waits serves same before stopped rest =
-    let so_far = stopping before stopped rest.keeps in
-    let here : Keeps rules old.opened (times_among [] []) (0 + 0) (before ++ first) =
-    subst (λ (l : List Peer). Keeps rules old.opened (times_among l []) (length l + 0) (before ++ first)) waits
-    (subst (λ (l : List Peer). Keeps rules old.opened (times_among old.waiting.items l) (length old.waiting.items + length l) (before ++ first)) serves so_far.1) in (
-      so_far.0,
-      keeps_as rules opened (times_among [] []) (λ (id : ℕ). 0) (0 + 0) 0 (before ++ first) (λ id. omega arith) (omega arith)
-          (subst (λ (n : ℕ). Keeps rules n (times_among [] []) (0 + 0) (before ++ first)) (sym same) here),
-    )
 
 -- ---- how long may be waited
 
@@ -688,14 +712,14 @@ no_peer : {P : Type 0} (steps : List Step) (peer : Peer) → NoPeer steps peer �
 no_peer steps peer none = absurd none
 
 -- what a turn led to so far
-record Began (rules : Rules) (R S : List Step → Peer → Type 0) (old new : Hall) (steps : List Step) : Type 0 where
-  leads : LeadsOn rules (Unheard old.time) NoPeer R S old new steps
-  begins : (before : List Step) → Holds rules (Unheard old.time) NoPeer old.time old.opened old.waiting.items old.served.items before → HasBegun rules (before ++ steps) (turn_of (before ++ steps))
+pub record Began (rules : Rules) (R S : List Step → Peer → Type 0) (old new : Hall) (steps : List Step) : Type 0 where
+  pub leads : LeadsOn rules (Unheard old.time) NoPeer R S old new steps
+  pub begins : (before : List Step) → Holds rules (Unheard old.time) NoPeer old.time old.opened old.waiting.items old.served.items before → HasBegun rules (before ++ steps) (turn_of (before ++ steps))
 
-began_on : (rules : Rules) (R S T U : List Step → Peer → Type 0) (old middle new : Hall) (first later : List Step) → Began rules R S old middle first → LeadsInTurn rules R S T U middle new later → Began rules T U old new (first ++ later)
-began_on rules R S T U old middle new first later began more = record {
-  leads = leads_both rules (Unheard old.time) NoPeer R S T U old middle new first later began.leads more.0;
-  begins = λ before holds. subst (λ (l : List Step). HasBegun rules l (turn_of l)) (append_assoc before first later) (begun_more rules (before ++ first) later more.1 (began.begins before holds));
+began_on : (rules : Rules) (R S T U : List Step → Peer → Type 0) (old middle new : Hall) (first later : List Step) → Began rules R S old middle first → LeadsOn rules R S T U middle new later → AllByRecursion IsCalm later → Began rules T U old new (first ++ later)
+began_on rules R S T U old middle new first later began leads still = record {
+  leads = leads_both rules (Unheard old.time) NoPeer R S T U old middle new first later began.leads leads;
+  begins = λ before holds. subst (λ (l : List Step). HasBegun rules l (turn_of l)) (append_assoc before first later) (begun_more rules (before ++ first) later still (began.begins before holds));
 }
 
 -- the clock was read, and those that waited were accepted
@@ -714,47 +738,136 @@ began_by rules old one two later told admits =
           (record { time = one.time; told = now; admitted = admits.admitted (before ++ step) there });
     }
 
-pub whole_turn : {C H : Type 0} (does : C → Event → C → Type 0) (handles : H → Frame → Reply → H → Type 0) (rules : Rules) (old one two three four : Hall) (c c1 c2 c3 c4 : C) (h h1 : H)
+-- each connection was heard, and nothing was written
+pub record HasHeard (rules : Rules) (now : ℕ) (old new : Hall) (steps : List Step) : Type 0 where
+  pub began : Began rules NoPeer (Heard now) old new steps
+  pub hearing : AllByRecursion IsHearing steps
+
+pub heard_turn : {C H : Type 0} (does : C → Event → C → Type 0) (handles : H → Frame → Reply → H → Type 0) (settles : H → Bool → H → Type 0) (rules : Rules) (old one two three : Hall) (c c1 c2 c3 : C) (h h1 : H)
     → Moves does c c1 (λ (steps : List Step). steps ≡ Happens (Told one.time) ∷ []) → LeadsOn rules (Unheard old.time) NoPeer (Unheard one.time) NoPeer old one (Happens (Told one.time) ∷ [])
     → Moves does c1 c2 (Admits rules one two)
-    → Goes does handles c2 h c3 h1 (LeadsInTurn rules (Unheard two.time) (Heard two.time) NoPeer (Heard two.time) two three)
-    → Moves does c3 c4 (LeadsInTurn rules (Served rules.idle three.time) (Heard three.time) (Served rules.idle three.time) NoPeer three four)
-    → two.time ≡ one.time → three.time ≡ two.time → four.time ≡ three.time
-    → Goes does handles c h c4 h1 (TakesTurn rules old four)
-whole_turn does handles rules old one two three four c c1 c2 c3 c4 h h1 read told admitted heard written second third fourth =
+    → Goes does handles settles c2 h c3 h1 (LeadsInTurn rules IsHearing (Unheard two.time) (Heard two.time) NoPeer (Heard two.time) two three)
+    → two.time ≡ one.time
+    → Goes does handles settles c h c3 h1 (HasHeard rules one.time old three)
+heard_turn does handles settles rules old one two three c c1 c2 c3 h h1 read told admitted heard second =
     let now : ℕ = one.time in
-    let last : three.time ≡ now = third ∙ second in
-    let hearing : Goes does handles c2 h c3 h1 (LeadsInTurn rules (Unheard now) (Heard now) NoPeer (Heard now) two three) =
-    subst (λ (n : ℕ). Goes does handles c2 h c3 h1 (LeadsInTurn rules (Unheard n) (Heard n) NoPeer (Heard n) two three)) second heard in
-    let telling : Moves does c3 c4 (LeadsInTurn rules (Served rules.idle now) (Heard now) (Served rules.idle now) NoPeer three four) =
-    subst (λ (n : ℕ). Moves does c3 c4 (LeadsInTurn rules (Served rules.idle n) (Heard n) (Served rules.idle n) NoPeer three four)) last written in
-    let begins : Moves does c c2 (Began rules (Unheard now) NoPeer old two) =
-    moves_both does c c1 c2 (λ (steps : List Step). steps ≡ Happens (Told now) ∷ []) (Admits rules one two) (Began rules (Unheard now) NoPeer old two)
-    (λ first later is admits. subst (λ (l : List Step). Began rules (Unheard now) NoPeer old two (l ++ later)) (sym is) (began_by rules old one two later told admits)) read admitted in
-    let middle : Goes does handles c h c3 h1 (Began rules NoPeer (Heard now) old three) =
-    goes_both does handles c c2 c3 h h h1 (Began rules (Unheard now) NoPeer old two) (LeadsInTurn rules (Unheard now) (Heard now) NoPeer (Heard now) two three) (Began rules NoPeer (Heard now) old three)
-    (λ first later so more. began_on rules (Unheard now) NoPeer NoPeer (Heard now) old two three first later so
-    (leads_as rules (Unheard now) (Heard now) NoPeer (Heard now) (Unheard now) NoPeer NoPeer (Heard now) two three later (λ before peer it. it) (λ before peer it. no_peer before peer it) (λ before peer it. it) (λ before peer it. it) more.0, more.1))
-    (goes_moving does handles c c2 h (Began rules (Unheard now) NoPeer old two) begins) hearing in
-    let whole : Goes does handles c h c4 h1 (Began rules (Served rules.idle now) NoPeer old four) =
-    goes_both does handles c c3 c4 h h1 h1 (Began rules NoPeer (Heard now) old three) (LeadsInTurn rules (Served rules.idle now) (Heard now) (Served rules.idle now) NoPeer three four) (Began rules (Served rules.idle now) NoPeer old four)
-    (λ first later so more. began_on rules NoPeer (Heard now) (Served rules.idle now) NoPeer old three four first later so
-    (leads_as rules (Served rules.idle now) (Heard now) (Served rules.idle now) NoPeer NoPeer (Heard now) (Served rules.idle now) NoPeer three four later (λ before peer it. no_peer before peer it) (λ before peer it. it) (λ before peer it. it) (λ before peer it. it) more.0, more.1))
-    middle (goes_moving does handles c3 c4 h1 (LeadsInTurn rules (Served rules.idle now) (Heard now) (Served rules.idle now) NoPeer three four) telling) in
-    goes_as does handles c c4 h h1 (Began rules (Served rules.idle now) NoPeer old four) (TakesTurn rules old four)
-    (λ steps so. record { leads = subst (λ (n : ℕ). LeadsOn rules (Unheard old.time) NoPeer (Served rules.idle n) NoPeer old four steps) (sym (fourth ∙ last)) so.leads; begins = so.begins }) whole
+    let hearing : Goes does handles settles c2 h c3 h1 (LeadsInTurn rules IsHearing (Unheard now) (Heard now) NoPeer (Heard now) two three) =
+    subst (λ (n : ℕ). Goes does handles settles c2 h c3 h1 (LeadsInTurn rules IsHearing (Unheard n) (Heard n) NoPeer (Heard n) two three)) second heard in
+    let begins : Moves does c c2 (λ (steps : List Step). Began rules (Unheard now) NoPeer old two steps × AllByRecursion IsHearing steps) =
+    moves_both does c c1 c2 (λ (steps : List Step). steps ≡ Happens (Told now) ∷ []) (Admits rules one two) (λ (steps : List Step). Began rules (Unheard now) NoPeer old two steps × AllByRecursion IsHearing steps)
+    (λ first later is admits. subst (λ (l : List Step). Began rules (Unheard now) NoPeer old two (l ++ later) × AllByRecursion IsHearing (l ++ later)) (sym is) (began_by rules old one two later told admits, (tt, admits.hearing))) read admitted in
+    goes_both does handles settles c c2 c3 h h h1 (λ (steps : List Step). Began rules (Unheard now) NoPeer old two steps × AllByRecursion IsHearing steps) (LeadsInTurn rules IsHearing (Unheard now) (Heard now) NoPeer (Heard now) two three) (HasHeard rules now old three)
+    (λ first later so more. record {
+      began = began_on rules (Unheard now) NoPeer NoPeer (Heard now) old two three first later so.0
+          (leads_as rules (Unheard now) (Heard now) NoPeer (Heard now) (Unheard now) NoPeer NoPeer (Heard now) two three later (λ before peer it. it) (λ before peer it. no_peer before peer it) (λ before peer it. it) (λ before peer it. it) more.0) more.1;
+      hearing = all_both IsHearing first later so.1 more.2;
+    })
+    (goes_moving does handles settles c c2 h (λ (steps : List Step). Began rules (Unheard now) NoPeer old two steps × AllByRecursion IsHearing steps) begins) hearing
+
+-- ---- the handler settles
+
+settling_calm : (done : Bool) → AllByRecursion IsCalm (Settles done ∷ [])
+settling_calm done = (record { turn = λ turn. refl; clock = λ now. refl }, tt)
+
+settle_heard : (rules : Rules) (now count : ℕ) (waiting served : List Peer) (done : Bool) (steps : List Step) → Holds rules NoPeer (Heard now) now count waiting served steps → Holds rules NoPeer (Heard now) now count waiting served (steps ++ Settles done ∷ [])
+settle_heard rules now count waiting served done steps holds = record {
+  keeps = keeps_settled rules count (times_among waiting served) (length waiting + length served) done steps holds.keeps;
+  clock = clock_more steps (Settles done ∷ []) (settling_calm done) ∙ holds.clock;
+  all_waiting = holds.all_waiting;
+  all_served = all_as (Heard now steps) (Heard now (steps ++ Settles done ∷ [])) served (λ peer it. heard_elsewhere now steps (Settles done ∷ []) peer (settling_elsewhere peer.id done, tt) (settling_calm done) it) holds.all_served;
+}
+
+leads_settling : (rules : Rules) (now : ℕ) (hall : Hall) (done : Bool) → now ≡ hall.time → LeadsOn rules NoPeer (Heard now) NoPeer (Heard now) hall hall (Settles done ∷ [])
+leads_settling rules now hall done same before holds =
+    let start : Holds rules NoPeer (Heard now) now hall.opened hall.waiting.items hall.served.items before =
+    subst (λ (n : ℕ). Holds rules NoPeer (Heard now) n hall.opened hall.waiting.items hall.served.items before) (sym same) holds in
+    subst (λ (n : ℕ). Holds rules NoPeer (Heard now) n hall.opened hall.waiting.items hall.served.items (before ++ Settles done ∷ [])) same (settle_heard rules now hall.opened hall.waiting.items hall.served.items done before start)
+
+-- each connection was heard, and the handler was to settle
+record HasAsked (rules : Rules) (done : Bool) (now : ℕ) (old new : Hall) (steps : List Step) : Type 0 where
+  first : List Step
+  parts : steps ≡ first ++ Settles done ∷ []
+  hearing : AllByRecursion IsHearing first
+  began : Began rules NoPeer (Heard now) old new steps
+
+asked_turn : {C H : Type 0} (does : C → Event → C → Type 0) (handles : H → Frame → Reply → H → Type 0) (settles : H → Bool → H → Type 0) (rules : Rules) (done : Bool) (now : ℕ) (old three : Hall) (c c3 : C) (h h1 h2 : H)
+    → three.time ≡ now → Goes does handles settles c h c3 h1 (HasHeard rules now old three) → settles h1 done h2 → Goes does handles settles c h c3 h2 (HasAsked rules done now old three)
+asked_turn does handles settles rules done now old three c c3 h h1 h2 last heard settled =
+    goes_both does handles settles c c3 c3 h h1 h2 (HasHeard rules now old three) (λ (steps : List Step). steps ≡ Settles done ∷ []) (HasAsked rules done now old three)
+    (λ first later so is. record {
+      first = first;
+      parts = ap (λ (l : List Step). first ++ l) is;
+      hearing = so.hearing;
+      began = subst (λ (l : List Step). Began rules NoPeer (Heard now) old three (first ++ l)) (sym is)
+          (began_on rules NoPeer (Heard now) NoPeer (Heard now) old three three first (Settles done ∷ []) so.began (leads_settling rules now three done (sym last)) (settling_calm done));
+    })
+    heard (goes_settling does handles settles c3 h1 h2 done (λ (steps : List Step). steps ≡ Settles done ∷ []) settled refl)
+
+-- it settled, and what waited was written
+pub settled_turn : {C H : Type 0} (does : C → Event → C → Type 0) (handles : H → Frame → Reply → H → Type 0) (settles : H → Bool → H → Type 0) (rules : Rules) (now : ℕ) (old three four : Hall) (c c3 c4 : C) (h h1 h2 : H)
+    → three.time ≡ now → four.time ≡ three.time → Goes does handles settles c h c3 h1 (HasHeard rules now old three) → settles h1 true h2
+    → Moves does c3 c4 (LeadsInTurn rules IsTelling (Served rules.idle three.time) (Heard three.time) (Served rules.idle three.time) NoPeer three four)
+    → Goes does handles settles c h c4 h2 (TakesTurn rules old four)
+settled_turn does handles settles rules now old three four c c3 c4 h h1 h2 last fourth heard settled written =
+    let told : Moves does c3 c4 (LeadsInTurn rules IsTelling (Served rules.idle now) (Heard now) (Served rules.idle now) NoPeer three four) =
+    subst (λ (n : ℕ). Moves does c3 c4 (LeadsInTurn rules IsTelling (Served rules.idle n) (Heard n) (Served rules.idle n) NoPeer three four)) last written in
+    goes_both does handles settles c c3 c4 h h2 h2 (HasAsked rules true now old three) (LeadsInTurn rules IsTelling (Served rules.idle now) (Heard now) (Served rules.idle now) NoPeer three four) (TakesTurn rules old four)
+    (λ first later so more.
+    let all : Began rules (Served rules.idle now) NoPeer old four (first ++ later) =
+    began_on rules NoPeer (Heard now) (Served rules.idle now) NoPeer old three four first later so.began
+    (leads_as rules (Served rules.idle now) (Heard now) (Served rules.idle now) NoPeer NoPeer (Heard now) (Served rules.idle now) NoPeer three four later (λ before peer it. no_peer before peer it) (λ before peer it. it) (λ before peer it. it) (λ before peer it. it) more.0) more.1 in
+    record {
+      leads = subst (λ (n : ℕ). LeadsOn rules (Unheard old.time) NoPeer (Served rules.idle n) NoPeer old four (first ++ later)) (sym (fourth ∙ last)) all.leads;
+      begins = all.begins;
+      settles = record { first = so.first; later = later; parts = ap (λ (l : List Step). l ++ later) so.parts ∙ append_assoc so.first (Settles true ∷ []) later; hearing = so.hearing; rest = more.2 };
+    })
+    (asked_turn does handles settles rules true now old three c c3 h h1 h2 last heard settled)
+    (goes_moving does handles settles c3 c4 h2 (LeadsInTurn rules IsTelling (Served rules.idle now) (Heard now) (Served rules.idle now) NoPeer three four) told)
+
+-- it failed to, and all connections were closed
+closed_all : (rules : Rules) (now opened : ℕ) (three : Hall) (served : List Peer) (steps later : List Step) → Holds rules NoPeer (Heard now) three.time three.opened three.waiting.items three.served.items steps → FailedToSettle steps
+    → ClosesSome departures.Unsettled three.served.items served later → served ≡ [] → opened ≡ three.opened → Keeps rules opened (λ (id : ℕ). 0) 0 (steps ++ later)
+closed_all rules now opened three served steps later holds failed closes none same =
+    let nobody = no_peers steps three.waiting.items holds.all_waiting in
+    let here : Keeps rules three.opened (λ id. times_in id three.served.items + 0) (length three.served.items + 0) steps =
+    keeps_as rules three.opened (times_among three.waiting.items three.served.items) (λ id. times_in id three.served.items + 0) (length three.waiting.items + length three.served.items) (length three.served.items + 0) steps
+    (λ id. omega (arith, ap (times_in id) nobody)) (omega (arith, ap length nobody)) holds.keeps in
+    let closed = closes.keeps rules three.opened (λ id. 0) 0 steps failed here in
+    let over : Keeps rules three.opened (λ id. 0) 0 (steps ++ later) =
+    keeps_as rules three.opened (λ id. times_in id served + 0) (λ id. 0) (length served + 0) 0 (steps ++ later) (λ id. omega (arith, ap (times_in id) none)) (omega (arith, ap length none)) closed.1 in
+    subst (λ (n : ℕ). Keeps rules n (λ id. 0) 0 (steps ++ later)) (sym same) over
+
+failed_in : (before steps first : List Step) → steps ≡ first ++ Settles false ∷ [] → FailedToSettle (before ++ steps)
+failed_in before steps first is = settled_last false before steps (subst FailedToSettle (sym is) (settled_last false first (Settles false ∷ []) (inl refl)))
+
+pub failed_turn : {C H : Type 0} (does : C → Event → C → Type 0) (handles : H → Frame → Reply → H → Type 0) (settles : H → Bool → H → Type 0) (rules : Rules) (now : ℕ) (old three four : Hall) (c c3 c4 : C) (h h1 h2 : H)
+    → three.time ≡ now → four.served.items ≡ [] → four.opened ≡ three.opened → Goes does handles settles c h c3 h1 (HasHeard rules now old three) → settles h1 false h2
+    → Moves does c3 c4 (ClosesSome departures.Unsettled three.served.items four.served.items) → Goes does handles settles c h c4 h2 (GivesUp rules old four)
+failed_turn does handles settles rules now old three four c c3 c4 h h1 h2 last none opened heard failed closed =
+    goes_both does handles settles c c3 c4 h h2 h2 (HasAsked rules false now old three) (ClosesSome departures.Unsettled three.served.items four.served.items) (GivesUp rules old four)
+    (λ first later so closes. record {
+      keeps = λ before holds. subst (Keeps rules four.opened (λ (id : ℕ). 0) 0) (append_assoc before first later)
+          (closed_all rules now four.opened three four.served.items (before ++ first) later (so.began.leads before holds) (failed_in before first so.first so.parts) closes none opened);
+      settles = record { first = so.first; later = later; parts = ap (λ (l : List Step). l ++ later) so.parts ∙ append_assoc so.first (Settles false ∷ []) later; hearing = so.hearing; rest = closes.closing };
+    })
+    (asked_turn does handles settles rules false now old three c c3 h h1 h2 last heard failed)
+    (goes_moving does handles settles c3 c4 h2 (ClosesSome departures.Unsettled three.served.items four.served.items) closed)
 
 -- one connection is told, and then closed
 pub closing_moves : {C : Type 0} (does : C → Event → C → Type 0) (rules : Rules) (now : ℕ) (start old new : Hall) (before_it it : Peer) (why : Departure) (rest : List Peer) (c c1 c2 c3 : C)
-    → Moves does c c1 (LeadsInTurn rules (Served rules.idle now) (Heard now) (Served rules.idle now) (Heard now) start old) → Moves does c1 c2 (λ (steps : List Step). Departs rules.idle old.time before_it it why steps × IsQuiet before_it.id steps)
+    → Moves does c c1 (LeadsInTurn rules IsTelling (Served rules.idle now) (Heard now) (Served rules.idle now) (Heard now) start old) → Moves does c1 c2 (λ (steps : List Step). Departs rules.idle old.time before_it it why steps × IsQuiet before_it.id steps)
     → does c2 (Closed before_it.id why) c3 → now ≡ old.time → old.served.items ≡ rest ++ before_it ∷ [] → new.served.items ≡ rest → new.waiting.items ≡ old.waiting.items → new.time ≡ old.time → new.opened ≡ old.opened
-    → Moves does c c3 (LeadsInTurn rules (Served rules.idle now) (Heard now) (Served rules.idle now) (Heard now) start new)
+    → Moves does c c3 (LeadsInTurn rules IsTelling (Served rules.idle now) (Heard now) (Served rules.idle now) (Heard now) start new)
 closing_moves does rules now start old new before_it it why rest c c1 c2 c3 so_far tells done same was serves waits time opened =
     let P : List Step → Peer → Type 0 = Served rules.idle now in
-    moves_both does c c1 c3 (LeadsInTurn rules P (Heard now) P (Heard now) start old) (LeadsInTurn rules P (Heard now) P (Heard now) old new) (LeadsInTurn rules P (Heard now) P (Heard now) start new)
-    (λ first later one other. leads_in_turn rules P (Heard now) P (Heard now) P (Heard now) start old new first later one other) so_far
-    (moves_event does c1 c2 c3 (Closed before_it.id why) (λ (steps : List Step). Departs rules.idle old.time before_it it why steps × IsQuiet before_it.id steps) (LeadsInTurn rules P (Heard now) P (Heard now) old new)
-    (λ later both. (leads_closing rules now old new before_it it why rest later same was serves waits time opened both.0 both.1, all_both IsCalm later (Happens (Closed before_it.id why) ∷ []) (calm before_it.id later both.0.own) (closed_calm before_it.id why, tt))) tells done)
+    moves_both does c c1 c3 (LeadsInTurn rules IsTelling P (Heard now) P (Heard now) start old) (LeadsInTurn rules IsTelling P (Heard now) P (Heard now) old new) (LeadsInTurn rules IsTelling P (Heard now) P (Heard now) start new)
+    (λ first later one other. leads_in_turn rules IsTelling P (Heard now) P (Heard now) P (Heard now) start old new first later one other) so_far
+    (moves_event does c1 c2 c3 (Closed before_it.id why) (λ (steps : List Step). Departs rules.idle old.time before_it it why steps × IsQuiet before_it.id steps) (LeadsInTurn rules IsTelling P (Heard now) P (Heard now) old new)
+    (λ later both. (
+      leads_closing rules now old new before_it it why rest later same was serves waits time opened both.0 both.1,
+      all_both IsCalm later (Happens (Closed before_it.id why) ∷ []) (calm before_it.id later both.0.own) (closed_calm before_it.id why, tt),
+      all_both IsTelling later (Happens (Closed before_it.id why) ∷ []) (telling before_it.id later both.0.own both.1.nothing_handled) (tt, tt),
+    )) tells done)
 
 -- ---- the loop
 
@@ -797,23 +910,36 @@ one_wait steps more limit count many =
     subst (λ (l : List Step). count + 1 ≤ count_by is_wait l) (append_assoc steps step more) (omega (arith, many, with_one, all))
 
 -- all that is promised, where none is open any more
-pub serves_all : (rules : Rules) (count : ℕ) (result : Ending) (steps : List Step) → Keeps rules count (λ (id : ℕ). 0) 0 steps → EndsBy rules.total result steps → ServesAll rules result steps
-serves_all rules count result steps keeps ended = record { each = keeps.each; seated = keeps.seated; numbered = keeps.numbered ∙ ap numbers (sym (ap length keeps.numbered ∙ numbers_size count)); fair = keeps.fair; left = have_left rules count steps keeps; ended = ended }
+pub serves_all : (rules : Rules) (count : ℕ) (result : Ending) (steps : List Step) → Keeps rules count (λ (id : ℕ). 0) 0 steps → AtEach SettlesFirst [] steps → (result ≢ ways.Unsettled → AllSettled steps) → EndsBy rules.total result steps → ServesAll rules result steps
+serves_all rules count result steps keeps order settled ended = record {
+  each = keeps.each;
+  seated = keeps.seated;
+  numbered = keeps.numbered ∙ ap numbers (sym (ap length keeps.numbered ∙ numbers_size count));
+  fair = keeps.fair;
+  settled = order;
+  all_settled = settled;
+  left = have_left rules count steps keeps;
+  ended = ended;
+}
 
 all_of : (wanted : Option ℕ) (count : ℕ) → ((total : ℕ) → wanted ≡ Some total → count ≤ total) → HasEnough wanted count → IsAll wanted count
 all_of None count few enough = enough
 all_of (Some total) count few enough = omega (arith, few total refl, enough)
 
-pub ended_all : (rules : Rules) (hall : Hall) (steps : List Step) → IsAtRest rules hall steps → hall.waiting.items ≡ [] → HasEnough rules.total hall.opened → ServesAll rules ways.All steps
-ended_all rules hall steps rest none enough =
+pub ended_all : (rules : Rules) (hall : Hall) (steps : List Step) → IsAtRest rules hall steps → IsOrdered steps → hall.waiting.items ≡ [] → HasEnough rules.total hall.opened → ServesAll rules ways.All steps
+ended_all rules hall steps rest so none enough =
     let keeps = none_open rules hall.time hall.opened hall.waiting.items hall.served.items steps rest none in
-    serves_all rules hall.opened ways.All steps keeps (hall.opened, are_all rules hall.opened steps keeps, all_of rules.total hall.opened keeps.wanted enough)
+    serves_all rules hall.opened ways.All steps keeps so.order (λ other. so.settled) (hall.opened, are_all rules hall.opened steps keeps, all_of rules.total hall.opened keeps.wanted enough)
 
-pub ended_stopped : (rules : Rules) (count : ℕ) (steps : List Step) → IsStopped steps → Keeps rules count (λ (id : ℕ). 0) 0 steps → ServesAll rules ways.Stopped steps
-ended_stopped rules count steps stopped keeps = serves_all rules count ways.Stopped steps keeps stopped
+-- waiting failed, or there were 2^64 - 1 turns; and then every connection was closed
+pub ended_stopped : (rules : Rules) (old new : Hall) (first later : List Step) → IsStopped first → IsAtRest rules old first → IsOrdered first → Stops rules old new later → ServesAll rules ways.Stopped (first ++ later)
+ended_stopped rules old new first later stopped rest so stops =
+    let both = stops.keeps first stopped rest in
+    let ordered = ordered_on first later stops.telling so in
+    serves_all rules new.opened ways.Stopped (first ++ later) both.1 ordered.order (λ other. ordered.settled) both.0
 
 pub ended_at_once : (rules : Rules) → ServesAll rules ways.Memory []
-ended_at_once rules = serves_all rules 0 ways.Memory [] (keeps_start rules) refl
+ended_at_once rules = serves_all rules 0 ways.Memory [] (keeps_start rules) ordered_none.order (λ other. ordered_none.settled) refl
 
 -- the loop waited, and then every connection had its turn
 pub record WaitsAndGoes (rules : Rules) (old new : Hall) (limit : ℕ) (steps : List Step) : Type 0 where
@@ -826,6 +952,8 @@ pub record IsBetween (rules : Rules) (hall : Hall) (count : ℕ) (steps : List S
   pub rest : IsAtRest rules hall steps
   pub begun : (steps ≡ []) ⊎ HasBegun rules steps (turn_of steps)
   pub many : count ≤ count_by is_wait steps
+  pub ordered : IsOrdered steps
+  pub once : IsOnce steps
 
 pub turned : (rules : Rules) (old new : Hall) (limit count : ℕ) (first later : List Step) → IsBetween rules old count first → AllByRecursion (IsPatient rules.idle old.time limit) old.waiting.items → WaitsAndGoes rules old new limit later → IsBetween rules new (count + 1) (first ++ later)
 turned rules old new limit count first later so patient waits =
@@ -836,17 +964,34 @@ turned rules old new limit count first later so patient waits =
       rest = subst (Holds rules (Served rules.idle new.time) NoPeer new.time new.opened new.waiting.items new.served.items) same (waits.turn.leads (first ++ step) waited);
       begun = inr (subst (λ (l : List Step). HasBegun rules l (turn_of l)) same (waits.turn.begins (first ++ step) waited));
       many = subst (λ (l : List Step). count + 1 ≤ count_by is_wait (first ++ l)) (sym waits.parts) (one_wait first waits.more limit count so.many);
+      ordered = subst (λ (l : List Step). IsOrdered (first ++ l)) (sym waits.parts) (ordered_turn first waits.more limit so.ordered so.once waits.turn.settles);
+      once = inr (subst (λ (l : List Step). SettledOnce (turn_of (first ++ l))) (sym waits.parts) (once_turn first waits.more limit waits.turn.settles));
     }
+
+-- the loop waited, and then the handler failed to settle
+pub record WaitsAndFails (rules : Rules) (old new : Hall) (limit : ℕ) (steps : List Step) : Type 0 where
+  pub more : List Step
+  pub parts : steps ≡ Happens (Waited limit) ∷ more
+  pub turn : GivesUp rules old new more
+
+pub unsettled : (rules : Rules) (old new : Hall) (limit count : ℕ) (first later : List Step) → IsBetween rules old count first → AllByRecursion (IsPatient rules.idle old.time limit) old.waiting.items → WaitsAndFails rules old new limit later → ServesAll rules ways.Unsettled (first ++ later)
+unsettled rules old new limit count first later so patient fails =
+    let step : List Step = Happens (Waited limit) ∷ [] in
+    let waited = wait_over rules old.time old.opened limit old.waiting.items old.served.items first so.rest patient so.begun in
+    let keeps : Keeps rules new.opened (λ (id : ℕ). 0) 0 (first ++ Happens (Waited limit) ∷ fails.more) =
+    subst (Keeps rules new.opened (λ (id : ℕ). 0) 0) (append_assoc first step fails.more) (fails.turn.keeps (first ++ step) waited) in
+    subst (λ (l : List Step). ServesAll rules ways.Unsettled (first ++ l)) (sym fails.parts)
+    (serves_all rules new.opened ways.Unsettled (first ++ Happens (Waited limit) ∷ fails.more) keeps (order_failed first fails.more limit so.ordered so.once fails.turn.settles) (λ other. absurd (other refl)) (failed_there first fails.more limit fails.turn.settles))
 
 -- waiting failed, and then every connection was closed
 pub record FailsAndStops (rules : Rules) (old new : Hall) (steps : List Step) : Type 0 where
   pub more : List Step
   pub parts : steps ≡ Happens Unwaited ∷ more
-  pub stops : (before : List Step) → IsStopped before → IsAtRest rules old before → IsStopped (before ++ more) × Keeps rules new.opened (λ (id : ℕ). 0) 0 (before ++ more)
+  pub stops : Stops rules old new more
 
-pub failed : (rules : Rules) (old new : Hall) (first later : List Step) → IsAtRest rules old first → FailsAndStops rules old new later → ServesAll rules ways.Stopped (first ++ later)
-failed rules old new first later rest stops =
+pub failed : (rules : Rules) (old new : Hall) (first later : List Step) → IsAtRest rules old first → IsOrdered first → FailsAndStops rules old new later → ServesAll rules ways.Stopped (first ++ later)
+failed rules old new first later rest so stops =
     let step : List Step = Happens Unwaited ∷ [] in
-    let both = stops.stops (first ++ step) (inl (happened_here Unwaited first)) (rest_unwaited rules old first rest) in
     let same : (first ++ step) ++ stops.more ≡ first ++ later = append_assoc first step stops.more ∙ ap (λ (l : List Step). first ++ l) (sym stops.parts) in
-    subst (ServesAll rules ways.Stopped) same (ended_stopped rules new.opened ((first ++ step) ++ stops.more) both.0 both.1)
+    subst (ServesAll rules ways.Stopped) same
+    (ended_stopped rules old new (first ++ step) stops.more (inl (happened_here Unwaited first)) (rest_unwaited rules old first rest) (ordered_on first step (tt, tt) so) stops.stops)

@@ -7,4 +7,5 @@ pub mod PeerSteps
 pub mod PeerTurns
 pub mod ReadSteps
 pub mod ServesMore
+pub mod Settling
 pub mod WriteSteps

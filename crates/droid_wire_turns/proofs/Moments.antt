@@ -1,12 +1,12 @@
 -- What holds at each moment of some steps, and of those that follow.
-use Rattle.std.proofs.Common.{◌≡◌, ℕ, List, [], ◌∷◌, ◌++◌, map, refl, sym, ap, subst, append_assoc}
+use Rattle.std.proofs.Common.{◌≡◌, ℕ, Bool, List, [], ◌∷◌, ◌++◌, map, refl, sym, ap, subst, append_assoc}
 use Rattle.std.proofs.lemmas.List.{append-nil}
 use Rattle.std.specs.List.{AllByRecursion}
 use Rattle.droid_frame.specs.types.frame.Frame.{Frame}
 use Rattle.droid_frame.specs.types.reply.Reply.{Reply}
 use Rattle.droid_wire_turns.specs.Chains.{GoesOver}
 use Rattle.droid_wire_turns.specs.Events.{Event}
-use Rattle.droid_wire_turns.specs.Steps.{Always, AtEach, Does, Goes, Handles, Happens, Moves, Step}
+use Rattle.droid_wire_turns.specs.Steps.{Always, AtEach, Does, Goes, Handles, Happens, Moves, Settles, Step}
 
 -- it held in the end
 pub always_end : (P : List Step → Type 0) (before steps : List Step) → Always P before steps → P (before ++ steps)
@@ -84,29 +84,32 @@ moves_as does old new P Q f moves = record { events = moves.events; done = moves
 
 -- ---- the same with a handler
 
-pub goes_none : {C H : Type 0} (does : C → Event → C → Type 0) (handles : H → Frame → Reply → H → Type 0) (connections : C) (handler : H) (P : List Step → Type 0) → P [] → Goes does handles connections handler connections handler P
-goes_none does handles connections handler P holds = record { steps = []; done = refl; holds = holds }
+pub goes_none : {C H : Type 0} (does : C → Event → C → Type 0) (handles : H → Frame → Reply → H → Type 0) (settles : H → Bool → H → Type 0) (connections : C) (handler : H) (P : List Step → Type 0) → P [] → Goes does handles settles connections handler connections handler P
+goes_none does handles settles connections handler P holds = record { steps = []; done = refl; holds = holds }
 
-over_events : {C H : Type 0} (does : C → Event → C → Type 0) (handles : H → Frame → Reply → H → Type 0) (old new : C) (handler : H) (events : List Event) → GoesOver does old events new → GoesOver (Does does handles) (old, handler) (map Happens events) (new, handler)
-over_events {C} {H} does handles old new handler [] over = ap (λ (c : C). (c, handler)) over
-over_events {C} {H} does handles old new handler (event ∷ events) over = ((over.0, handler), (over.1, refl), over_events does handles over.0 new handler events over.2)
+over_events : {C H : Type 0} (does : C → Event → C → Type 0) (handles : H → Frame → Reply → H → Type 0) (settles : H → Bool → H → Type 0) (old new : C) (handler : H) (events : List Event) → GoesOver does old events new → GoesOver (Does does handles settles) (old, handler) (map Happens events) (new, handler)
+over_events {C} {H} does handles settles old new handler [] over = ap (λ (c : C). (c, handler)) over
+over_events {C} {H} does handles settles old new handler (event ∷ events) over = ((over.0, handler), (over.1, refl), over_events does handles settles over.0 new handler events over.2)
 
-pub goes_moving : {C H : Type 0} (does : C → Event → C → Type 0) (handles : H → Frame → Reply → H → Type 0) (old new : C) (handler : H) (P : List Step → Type 0) → Moves does old new P → Goes does handles old handler new handler P
-goes_moving does handles old new handler P moves = record { steps = map Happens moves.events; done = over_events does handles old new handler moves.events moves.done; holds = moves.holds }
+pub goes_moving : {C H : Type 0} (does : C → Event → C → Type 0) (handles : H → Frame → Reply → H → Type 0) (settles : H → Bool → H → Type 0) (old new : C) (handler : H) (P : List Step → Type 0) → Moves does old new P → Goes does handles settles old handler new handler P
+goes_moving does handles settles old new handler P moves = record { steps = map Happens moves.events; done = over_events does handles settles old new handler moves.events moves.done; holds = moves.holds }
 
-pub goes_handling : {C H : Type 0} (does : C → Event → C → Type 0) (handles : H → Frame → Reply → H → Type 0) (connections : C) (old new : H) (id : ℕ) (frame : Frame) (reply : Reply) (P : List Step → Type 0) → handles old frame reply new → P (Handles id frame reply ∷ []) → Goes does handles connections old connections new P
-goes_handling does handles connections old new id frame reply P done holds = record { steps = Handles id frame reply ∷ []; done = ((connections, new), (refl, done), refl); holds = holds }
+pub goes_handling : {C H : Type 0} (does : C → Event → C → Type 0) (handles : H → Frame → Reply → H → Type 0) (settles : H → Bool → H → Type 0) (connections : C) (old new : H) (id : ℕ) (frame : Frame) (reply : Reply) (P : List Step → Type 0) → handles old frame reply new → P (Handles id frame reply ∷ []) → Goes does handles settles connections old connections new P
+goes_handling does handles settles connections old new id frame reply P done holds = record { steps = Handles id frame reply ∷ []; done = ((connections, new), (refl, done), refl); holds = holds }
 
-pub goes_both : {C H : Type 0} (does : C → Event → C → Type 0) (handles : H → Frame → Reply → H → Type 0) (c c1 c2 : C) (h h1 h2 : H) (P Q R : List Step → Type 0) → ((first later : List Step) → P first → Q later → R (first ++ later))
-    → Goes does handles c h c1 h1 P → Goes does handles c1 h1 c2 h2 Q → Goes does handles c h c2 h2 R
-goes_both does handles c c1 c2 h h1 h2 P Q R both first later = record {
+pub goes_settling : {C H : Type 0} (does : C → Event → C → Type 0) (handles : H → Frame → Reply → H → Type 0) (settles : H → Bool → H → Type 0) (connections : C) (old new : H) (ok : Bool) (P : List Step → Type 0) → settles old ok new → P (Settles ok ∷ []) → Goes does handles settles connections old connections new P
+goes_settling does handles settles connections old new ok P done holds = record { steps = Settles ok ∷ []; done = ((connections, new), (refl, done), refl); holds = holds }
+
+pub goes_both : {C H : Type 0} (does : C → Event → C → Type 0) (handles : H → Frame → Reply → H → Type 0) (settles : H → Bool → H → Type 0) (c c1 c2 : C) (h h1 h2 : H) (P Q R : List Step → Type 0) → ((first later : List Step) → P first → Q later → R (first ++ later))
+    → Goes does handles settles c h c1 h1 P → Goes does handles settles c1 h1 c2 h2 Q → Goes does handles settles c h c2 h2 R
+goes_both does handles settles c c1 c2 h h1 h2 P Q R both first later = record {
   steps = first.steps ++ later.steps;
-  done = over_both (Does does handles) (c, h) (c1, h1) (c2, h2) first.steps later.steps first.done later.done;
+  done = over_both (Does does handles settles) (c, h) (c1, h1) (c2, h2) first.steps later.steps first.done later.done;
   holds = both first.steps later.steps first.holds later.holds;
 }
 
-pub goes_as : {C H : Type 0} (does : C → Event → C → Type 0) (handles : H → Frame → Reply → H → Type 0) (c c1 : C) (h h1 : H) (P Q : List Step → Type 0) → ((steps : List Step) → P steps → Q steps) → Goes does handles c h c1 h1 P → Goes does handles c h c1 h1 Q
-goes_as does handles c c1 h h1 P Q f goes = record { steps = goes.steps; done = goes.done; holds = f goes.steps goes.holds }
+pub goes_as : {C H : Type 0} (does : C → Event → C → Type 0) (handles : H → Frame → Reply → H → Type 0) (settles : H → Bool → H → Type 0) (c c1 : C) (h h1 : H) (P Q : List Step → Type 0) → ((steps : List Step) → P steps → Q steps) → Goes does handles settles c h c1 h1 P → Goes does handles settles c h c1 h1 Q
+goes_as does handles settles c c1 h h1 P Q f goes = record { steps = goes.steps; done = goes.done; holds = f goes.steps goes.holds }
 
 -- ---- one event more
 

@@ -8,7 +8,7 @@ use Rattle.droid_frame.specs.types.frame.Frame.{Frame}
 use Rattle.droid_frame.specs.types.reply.Reply.{Reply}
 use Rattle.droid_wire_turns.specs.Events.{Opened, NoneOpened, Read, Ended, Unread, Wrote, Unwritten, Closed, Told, Waited, Unwaited}
 use Rattle.droid_wire_turns.specs.Halls.{IsCalm}
-use Rattle.droid_wire_turns.specs.Steps.{Handles, Happens, IsTraffic, Step, Times, bytes_read, bytes_written, came, clock_behind, clock_of, handled, handled_in, moves, times_behind, times_of, turn_behind, turn_of, went}
+use Rattle.droid_wire_turns.specs.Steps.{Handles, Happens, IsTraffic, Settles, Step, Times, bytes_read, bytes_written, came, clock_behind, clock_of, handled, handled_in, moves, times_behind, times_of, turn_behind, turn_of, went}
 use Rattle.droid_wire_turns.specs.declared.departure.Departure.{Departure}
 
 -- what is gathered of steps is what is gathered of the first and of the others
@@ -84,6 +84,7 @@ traffic_elsewhere who id (Happens (Closed one why)) is other = absurd is
 traffic_elsewhere who id (Handles one frame reply) is other =
     let no : eqb one id ≡ false = ne_eqb one id (λ e. other (sym is ∙ e)) in
     record { reads = refl; writes = refl; handles = ap (λ (b : Bool). cond b ((frame, reply) ∷ []) []) no; times = λ times. refl }
+traffic_elsewhere who id (Settles done) is other = absurd is
 
 pub opened_elsewhere : (who id : ℕ) → (who ≡ id → ⊥) → Elsewhere id (Happens (Opened who))
 opened_elsewhere who id other = record {
@@ -98,6 +99,9 @@ closed_elsewhere who why id = record { reads = refl; writes = refl; handles = re
 
 pub none_elsewhere : (id : ℕ) → Elsewhere id (Happens NoneOpened)
 none_elsewhere id = record { reads = refl; writes = refl; handles = refl; times = λ times. refl }
+
+pub settling_elsewhere : (id : ℕ) (done : Bool) → Elsewhere id (Settles done)
+settling_elsewhere id done = record { reads = refl; writes = refl; handles = refl; times = λ times. refl }
 
 -- ---- and many of them
 
@@ -167,6 +171,7 @@ now_behind id times (Happens (Unread who)) = refl
 now_behind id times (Happens (Unwritten who)) = refl
 now_behind id times (Happens (Closed who why)) = refl
 now_behind id times (Handles who frame reply) = refl
+now_behind id times (Settles done) = refl
 
 now_go : (id : ℕ) (times : Times) (now : ℕ) (steps : List Step) → times.now ≡ now → (fold (times_behind id) times steps).now ≡ fold clock_behind now steps
 now_go id times now [] is = is
@@ -189,6 +194,7 @@ calm_traffic id (Happens (Opened one)) is = absurd is
 calm_traffic id (Happens NoneOpened) is = absurd is
 calm_traffic id (Happens (Closed one why)) is = absurd is
 calm_traffic id (Handles one frame reply) is = record { turn = λ turn. refl; clock = λ now. refl }
+calm_traffic id (Settles done) is = absurd is
 
 pub calm : (id : ℕ) (more : List Step) → AllByRecursion (IsTraffic id) more → AllByRecursion IsCalm more
 calm id [] all = tt

@@ -50,6 +50,7 @@ left_then id steps more kept held queued (Some departures.Memory) left = left
 left_then id steps more kept held queued (Some departures.Write) left = left
 left_then id steps more kept held queued (Some departures.Idle) left = left
 left_then id steps more kept held queued (Some departures.Stopped) left = left
+left_then id steps more kept held queued (Some departures.Unsettled) left = left
 
 moved : (times : Times) (bytes : List ℕ) → 0 < length bytes → moves times bytes ≡ record { now = times.now; active = times.now }
 moved times [] some = absurd (omega (arith, some))
@@ -121,6 +122,7 @@ left_ended id steps held queued any active departures.Memory ends = absurd ends
 left_ended id steps held queued any active departures.Write ends = absurd ends
 left_ended id steps held queued any active departures.Idle ends = absurd ends
 left_ended id steps held queued any active departures.Stopped ends = absurd ends
+left_ended id steps held queued any active departures.Unsettled ends = absurd ends
 
 pub stands_ended : (id : ℕ) (held queued any : List ℕ) (active now : ℕ) (steps : List Step) (why : Departure) → Stands id (keep held queued None active) now steps → EndsAs held why
     → Stands id (keep any queued (Some why) active) now (steps ++ Happens (Ended id) ∷ [])
@@ -142,6 +144,7 @@ left_short id steps kept held queued out rest now (Some departures.Memory) is le
 left_short id steps kept held queued out rest now (Some departures.Write) is left = absurd left
 left_short id steps kept held queued out rest now (Some departures.Idle) is left = absurd left
 left_short id steps kept held queued out rest now (Some departures.Stopped) is left = absurd left
+left_short id steps kept held queued out rest now (Some departures.Unsettled) is left = absurd left
 
 -- it took some bytes
 pub stands_wrote : (id : ℕ) (kept : Kept) (now : ℕ) (steps : List Step) (out rest : List ℕ) → Stands id kept now steps → 0 < length out → kept.queued ≡ out ++ rest

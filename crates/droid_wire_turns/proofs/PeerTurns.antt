@@ -138,6 +138,7 @@ left_at_least id steps kept held queued (Some departures.Memory) left = omega (a
 left_at_least id steps kept held queued (Some departures.Write) left = absurd left
 left_at_least id steps kept held queued (Some departures.Idle) left = absurd left
 left_at_least id steps kept held queued (Some departures.Stopped) left = absurd left
+left_at_least id steps kept held queued (Some departures.Unsettled) left = absurd left
 
 rested_by : (peer : Peer) (now count : ℕ) (steps : List Step) → Stands peer.id (kept_of peer) now steps → Rests peer count → Rested peer count steps
 rested_by peer now count steps stands (ByLeaving is) = SinceLeaving is
@@ -168,7 +169,7 @@ heard_by now old new steps more unheard same hears =
         within = omega (arith, ap length unheard.quiet.nothing_came);
       };
     } in
-    let so_far : InTurn old.id new.room (0 + hears.count) (turn_of steps ++ more) = hears.turns 0 (turn_of steps) fresh in
+    let so_far : InTurn old.id new.room (0 + hears.count) (turn_of steps ++ more) = hears.turns.goes 0 (turn_of steps) fresh in
     let sum : 0 + hears.count ≡ hears.count = omega arith in
     record {
       stands = stands;
@@ -202,6 +203,7 @@ settled_leaving goes_on id waiting steps turn kept held queued departures.Memory
 settled_leaving goes_on id waiting steps turn kept held queued departures.Write is serves over written left = absurd left
 settled_leaving goes_on id waiting steps turn kept held queued departures.Idle is serves over written left = absurd left
 settled_leaving goes_on id waiting steps turn kept held queued departures.Stopped is serves over written left = absurd left
+settled_leaving goes_on id waiting steps turn kept held queued departures.Unsettled is serves over written left = absurd left
 
 hungry_by : (peer : Peer) → peer.leaving ≡ None → peer.drained ≡ false → leb (length peer.queue.bytes) 8388608 ≡ true → is_hungry peer ≡ true
 hungry_by peer stays dry fits = rw (stays, dry, fits) refl

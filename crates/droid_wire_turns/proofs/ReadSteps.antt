@@ -1,5 +1,5 @@
 -- A connection is read, and its frames are handled.
-use Rattle.std.proofs.Common.{◌≡◌, ℕ, zero, suc, ◌+◌, ◌-◌, ◌<◌, ◌≤◌, true, List, [], ◌∷◌, ◌++◌, length, take, drop, MatchOption, Option, Some, None, IfNone, refl, sym, ap, subst, ◌∙◌, append_assoc, arith, inl}
+use Rattle.std.proofs.Common.{◌≡◌, ℕ, zero, suc, ◌+◌, ◌-◌, ◌<◌, ◌≤◌, Bool, true, List, [], ◌∷◌, ◌++◌, length, take, drop, MatchOption, Option, Some, None, IfNone, refl, sym, ap, subst, ◌∙◌, append_assoc, arith, inl}
 use Rattle.std.proofs.lemmas.List.{append-nil, drop-take, length-append, length-drop, length-take, take-append-drop}
 use Rattle.std.specs.declared.alloc.Global.{Global}
 use Rattle.std.specs.declared.vec.Vec.{Vec}
@@ -275,13 +275,13 @@ pub record AnswersOne (now : ℕ) (start old middle : Peer) (frame : Frame) (rep
   pub lending : Lending old.id now (kept_of old) (kept_of middle) frame came
   pub turns : Turns old.id old.room middle.room 0 came
 
-pub answers_after : {C H : Type 0} (does : C → Event → C → Type 0) (handles : H → Frame → Reply → H → Type 0) (now : ℕ) (start old middle : Peer) (frame : Frame) (reply : Reply) (c c1 : C) (h h1 : H) → Moves does c c1 (CameOne now old middle frame)
-    → handles h frame reply h1 → Goes does handles c h c1 h1 (AnswersOne now start old middle frame reply)
-answers_after does handles now start old middle frame reply c c1 h h1 moves done =
-    goes_both does handles c c1 c1 h h h1 (CameOne now old middle frame) (λ (steps : List Step). steps ≡ Handles start.id frame reply ∷ []) (AnswersOne now start old middle frame reply)
+pub answers_after : {C H : Type 0} (does : C → Event → C → Type 0) (handles : H → Frame → Reply → H → Type 0) (settles : H → Bool → H → Type 0) (now : ℕ) (start old middle : Peer) (frame : Frame) (reply : Reply) (c c1 : C) (h h1 : H) → Moves does c c1 (CameOne now old middle frame)
+    → handles h frame reply h1 → Goes does handles settles c h c1 h1 (AnswersOne now start old middle frame reply)
+answers_after does handles settles now start old middle frame reply c c1 h h1 moves done =
+    goes_both does handles settles c c1 c1 h h h1 (CameOne now old middle frame) (λ (steps : List Step). steps ≡ Handles start.id frame reply ∷ []) (AnswersOne now start old middle frame reply)
     (λ first later one is. record { came = first; parts = ap (λ (l : List Step). first ++ l) is; lending = one.lending; turns = one.turns })
-    (goes_moving does handles c c1 h (CameOne now old middle frame) moves)
-    (goes_handling does handles c1 h h1 start.id frame reply (λ (steps : List Step). steps ≡ Handles start.id frame reply ∷ []) done refl)
+    (goes_moving does handles settles c c1 h (CameOne now old middle frame) moves)
+    (goes_handling does handles settles c1 h h1 start.id frame reply (λ (steps : List Step). steps ≡ Handles start.id frame reply ∷ []) done refl)
 
 -- ---- until a frame is whole
 
@@ -317,7 +317,7 @@ pub nothing_read : (old : Peer) (buffer : Vec ℕ Global) (now : ℕ) → IsWhol
     × (true ≡ true → RanDry (record old { buffer = buffer; drained = true }) (Happens (Read old.id []) ∷ []))
 nothing_read old buffer now whole none = (
   reads_none old buffer now whole none,
-  turns_still old.id old.room (Happens (Read old.id [])) (read_here old.id []) refl,
+  turns_still old.id old.room (Happens (Read old.id [])) (read_here old.id []) refl tt,
   λ is. ran_dry old (record old { buffer = buffer; drained = true }) refl refl (none_in old buffer whole none) whole.no_frame,
 )
 

@@ -98,6 +98,7 @@ over_explains idle id now kept steps leaving held queued departures.Memory is ov
 over_explains idle id now kept steps leaving held queued departures.Write is over left = absurd left
 over_explains idle id now kept steps leaving held queued departures.Idle is over left = absurd left
 over_explains idle id now kept steps leaving held queued departures.Stopped is over left = absurd left
+over_explains idle id now kept steps leaving held queued departures.Unsettled is over left = absurd left
 
 tells_over : (idle now : ℕ) (old new : Peer) (leaving : Option Departure) (steps : List Step) → new.leaving ≡ leaving → Advances old.id now (kept_of old) (kept_of new) steps → is_over_for (length new.queue.bytes) leaving ≡ true → Tells idle now old new leaving steps
 tells_over idle now old new None steps is goes over = absurd (false≢true over)

@@ -7,7 +7,7 @@ use Rattle.droid_frame.specs.Streams.{BeginsNoFrame, IsReadable, why}
 use Rattle.droid_frame.specs.declared.stream.fault.FrameFault.{FrameFault}
 use Rattle.droid_frame.specs.declared.stream.fault.FrameFault.TheVariants as faults
 use Rattle.droid_wire_turns.specs.Events.{Waited, Unwaited, Ended, Unread, Unwritten}
-use Rattle.droid_wire_turns.specs.Steps.{Step, Happens, Happened, Times, came, handled, spelled_frames, spelled_replies, times_of, went}
+use Rattle.droid_wire_turns.specs.Steps.{Step, FailedToSettle, Happens, Happened, Times, came, handled, spelled_frames, spelled_replies, times_of, went}
 use Rattle.droid_wire_turns.specs.declared.departure.Departure.{Departure}
 use Rattle.droid_wire_turns.specs.declared.departure.Departure.TheVariants as departures
 
@@ -67,7 +67,8 @@ abbrev pub IsStopped : List Step → Type 0
 IsStopped steps = Happened Unwaited steps ⊎ (18446744073709551615 ≤ count_by is_wait steps)
 
 -- What each reason says: of what was held, of what was left to be written, and of what happened. Where it isn't that
--- writing failed, that memory ran out for a reply, that it was idle or that waiting failed, every reply was written.
+-- writing failed, that memory ran out for a reply, that it was idle, that waiting failed or that settling failed, every
+-- reply was written.
 abbrev pub Explains : ℕ → ℕ → List Step → List ℕ → List ℕ → Departure → Type 0
 Explains idle id steps held queued departures.Closed = Happened (Ended id) steps × (held ≡ []) × (queued ≡ [])
 Explains idle id steps held queued (departures.Frame fault) = StopsBy id steps held fault × (queued ≡ [])
@@ -75,3 +76,4 @@ Explains idle id steps held queued departures.Memory = Unit {0}
 Explains idle id steps held queued departures.Write = Happened (Unwritten id) steps
 Explains idle id steps held queued departures.Idle = IsIdle idle (times_of id steps)
 Explains idle id steps held queued departures.Stopped = IsStopped steps
+Explains idle id steps held queued departures.Unsettled = FailedToSettle steps

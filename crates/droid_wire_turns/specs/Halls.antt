@@ -1,12 +1,13 @@
 -- For proofs only: what the loop keeps of all connections, after the steps so far.
-use Rattle.std.specs.Prelude.{◌≡◌, ℕ, ◌+◌, ◌-◌, ◌<◌, ◌≤◌, ◌==◌, if◌then◌else◌, true, List, [], ◌∷◌, ◌++◌, Some, IsSome, length, vec_capacity}
+use Rattle.std.specs.Prelude.{◌≡◌, ℕ, ◌+◌, ◌-◌, ◌<◌, ◌≤◌, ◌==◌, if◌then◌else◌, Bool, true, false, List, [], ◌∷◌, ◌++◌, Some, IsSome, length, vec_capacity}
 use Rattle.std.specs.List.{AllByRecursion}
-use Rattle.droid_wire_turns.specs.Departures.{IsServed}
-use Rattle.droid_wire_turns.specs.Events.{Closed, Opened}
-use Rattle.droid_wire_turns.specs.Peers.{InTurn, IsQuiet, IsWhole, RanDry, Stands, is_hungry, kept_of}
+use Rattle.droid_wire_turns.specs.Departures.{IsServed, IsStopped}
+use Rattle.droid_wire_turns.specs.Events.{Closed, Opened, Waited}
+use Rattle.droid_wire_turns.specs.Peers.{InTurn, IsHearing, IsQuiet, IsWhole, RanDry, Stands, is_hungry, kept_of}
 use Rattle.droid_wire_turns.specs.Turns.{HasAdmitted, HasBegun, HasLeft, IsFair, IsSeated, IsSettled, WasFull}
-use Rattle.droid_wire_turns.specs.Steps.{Always, AreOfOthers, AtEach, Happened, Step, came, clock_behind, clock_of, closed, handled, numbers, opened, turn_behind, turn_of}
+use Rattle.droid_wire_turns.specs.Steps.{Always, AreOfOthers, AtEach, FailedToSettle, Handles, Happened, Happens, Settles, Step, came, clock_behind, clock_of, closed, handled, numbers, opened, turn_behind, turn_of}
 use Rattle.droid_wire_turns.specs.declared.departure.Departure.{Departure}
+use Rattle.droid_wire_turns.specs.declared.departure.Departure.TheVariants as departures
 use Rattle.droid_wire_turns.specs.declared.hall.Hall.{Hall}
 use Rattle.droid_wire_turns.specs.declared.peer.Peer.{Peer}
 use Rattle.droid_wire_turns.specs.declared.rules.Rules.{Rules}
@@ -31,6 +32,25 @@ times_among waiting served id = times_in id waiting + times_in id served
 pub record IsCalm (step : Step) : Type 0 where
   pub turn : (turn : List Step) → turn_behind turn step ≡ turn ++ step ∷ []
   pub clock : (now : ℕ) → clock_behind now step ≡ now
+
+-- no frame is handled, the handler does not settle, and the loop does not wait
+abbrev pub IsTelling : Step → Type 0
+IsTelling (Happens (Waited limit)) = ⊥
+IsTelling (Happens event) = Unit {0}
+IsTelling (Handles id frame reply) = ⊥
+IsTelling (Settles done) = ⊥
+
+-- a connection is closed for this reason
+abbrev pub IsClosing : Departure → Step → Type 0
+IsClosing why step = (id : ℕ) × (step ≡ Happens (Closed id why))
+
+-- the handler was to settle, with this outcome, behind what was heard; P holds of each step after that
+pub record SettlesBetween (done : Bool) (P : Step → Type 0) (steps : List Step) : Type 0 where
+  pub first : List Step
+  pub later : List Step
+  pub parts : steps ≡ first ++ Settles done ∷ later
+  pub hearing : AllByRecursion IsHearing first
+  pub rest : AllByRecursion P later
 
 -- no more than a share
 pub record IsWithin (id : ℕ) (turn : List Step) : Type 0 where
@@ -106,20 +126,54 @@ IsAtRest rules hall steps = Holds rules (Served rules.idle hall.time) NoPeer hal
 abbrev pub LeadsOn : Rules → (List Step → Peer → Type 0) → (List Step → Peer → Type 0) → (List Step → Peer → Type 0) → (List Step → Peer → Type 0) → Hall → Hall → List Step → Type 0
 LeadsOn rules P Q R S old new steps = (before : List Step) → Holds rules P Q old.time old.opened old.waiting.items old.served.items before → Holds rules R S new.time new.opened new.waiting.items new.served.items (before ++ steps)
 
--- and they end no turn
-abbrev pub LeadsInTurn : Rules → (List Step → Peer → Type 0) → (List Step → Peer → Type 0) → (List Step → Peer → Type 0) → (List Step → Peer → Type 0) → Hall → Hall → List Step → Type 0
-LeadsInTurn rules P Q R S old new steps = LeadsOn rules P Q R S old new steps × AllByRecursion IsCalm steps
+-- and they end no turn; K holds of each
+abbrev pub LeadsInTurn : Rules → (Step → Type 0) → (List Step → Peer → Type 0) → (List Step → Peer → Type 0) → (List Step → Peer → Type 0) → (List Step → Peer → Type 0) → Hall → Hall → List Step → Type 0
+LeadsInTurn rules K P Q R S old new steps = LeadsOn rules P Q R S old new steps × AllByRecursion IsCalm steps × AllByRecursion K steps
 
 -- those that waited were accepted
 pub record Admits (rules : Rules) (old new : Hall) (steps : List Step) : Type 0 where
   pub leads : LeadsOn rules (Unheard old.time) NoPeer (Unheard old.time) NoPeer old new steps
   pub calm : AllByRecursion IsCalm steps
+  pub hearing : AllByRecursion IsHearing steps
   pub admitted : (before : List Step) → Holds rules (Unheard old.time) NoPeer new.time new.opened new.waiting.items new.served.items (before ++ steps) → HasAdmitted rules (before ++ steps) (turn_of (before ++ steps))
 
--- a turn
+-- a turn in which the handler settled
 pub record TakesTurn (rules : Rules) (old new : Hall) (steps : List Step) : Type 0 where
   pub leads : LeadsOn rules (Unheard old.time) NoPeer (Served rules.idle new.time) NoPeer old new steps
   pub begins : (before : List Step) → Holds rules (Unheard old.time) NoPeer old.time old.opened old.waiting.items old.served.items before → HasBegun rules (before ++ steps) (turn_of (before ++ steps))
+  pub settles : SettlesBetween true IsTelling steps
+
+-- a turn in which it failed to: every connection was closed
+pub record GivesUp (rules : Rules) (old new : Hall) (steps : List Step) : Type 0 where
+  pub keeps : (before : List Step) → Holds rules (Unheard old.time) NoPeer old.time old.opened old.waiting.items old.served.items before → Keeps rules new.opened (λ _. 0) 0 (before ++ steps)
+  pub settles : SettlesBetween false (IsClosing departures.Unsettled) steps
+
+-- either, by whether it settled
+abbrev pub Turned : Bool → Rules → Hall → Hall → List Step → Type 0
+Turned true = TakesTurn
+Turned false = GivesUp
+
+-- ---- the end
+
+-- why the loop ends early
+abbrev pub EndsFor : Departure → List Step → Type 0
+EndsFor departures.Stopped steps = IsStopped steps
+EndsFor departures.Unsettled steps = FailedToSettle steps
+EndsFor _ steps = ⊥
+
+-- of these connections some were closed for this reason, whichever others are open
+pub record ClosesSome (why : Departure) (old new : List Peer) (steps : List Step) : Type 0 where
+  pub closing : AllByRecursion (IsClosing why) steps
+  pub keeps : (rules : Rules) (count : ℕ) (others : ℕ → ℕ) (places : ℕ) (before : List Step) → EndsFor why before
+      → Keeps rules count (λ id. times_in id old + others id) (length old + places) before
+      → EndsFor why (before ++ steps) × Keeps rules count (λ id. times_in id new + others id) (length new + places) (before ++ steps)
+
+-- every connection was closed, since the loop could not wait any longer
+pub record Stops (rules : Rules) (old new : Hall) (steps : List Step) : Type 0 where
+  pub telling : AllByRecursion IsTelling steps
+  pub keeps : (before : List Step) → IsStopped before → IsAtRest rules old before → IsStopped (before ++ steps) × Keeps rules new.opened (λ _. 0) 0 (before ++ steps)
+
+-- ---- the seats
 
 -- there is room for so many connections, wherever each stands, and what is kept of each is whole
 pub record HasRooms (seats : ℕ) (hall : Hall) : Type 0 where

@@ -6,8 +6,8 @@ use Rattle.droid_frame.specs.Streams.{BeginsNoFrame, IsReadable, why}
 use Rattle.droid_frame_feed.specs.Feeding.{IsOfBytes}
 use Rattle.droid_frame.specs.types.frame.Frame.{Frame}
 use Rattle.droid_wire_turns.specs.Departures.{Explains, IsServed, Serves, StopsBy}
-use Rattle.droid_wire_turns.specs.Events.{Ended, Read, Unwritten, Wrote}
-use Rattle.droid_wire_turns.specs.Steps.{Always, Happened, IsTraffic, Step, came, handled, times_of}
+use Rattle.droid_wire_turns.specs.Events.{Ended, Read, Unwritten, Waited, Wrote}
+use Rattle.droid_wire_turns.specs.Steps.{Always, Happened, Happens, IsTraffic, Settles, Step, came, handled, times_of}
 use Rattle.droid_wire_turns.specs.declared.departure.Departure.{Departure}
 use Rattle.droid_wire_turns.specs.declared.departure.Departure.TheVariants as departures
 use Rattle.droid_wire_turns.specs.declared.peer.Peer.{Peer}
@@ -41,6 +41,7 @@ IsLeft id steps kept held queued (Some departures.Memory) = (lost : List ℕ) ×
 IsLeft id steps kept held queued (Some departures.Write) = ⊥
 IsLeft id steps kept held queued (Some departures.Idle) = ⊥
 IsLeft id steps kept held queued (Some departures.Stopped) = ⊥
+IsLeft id steps kept held queued (Some departures.Unsettled) = ⊥
 
 -- what is kept of the connection is what the steps so far left of it
 pub record Stands (id : ℕ) (kept : Kept) (now : ℕ) (steps : List Step) : Type 0 where
@@ -101,9 +102,18 @@ pub record InTurn (id room count : ℕ) (turn : List Step) : Type 0 where
   pub frames : length (handled id turn) ≡ count
   pub bytes : IsRoom room (length (came id turn))
 
--- with these steps so many frames more were handled
-abbrev pub Turns : ℕ → ℕ → ℕ → ℕ → List Step → Type 0
-Turns id room left more steps = (count : ℕ) (turn : List Step) → InTurn id room count turn → InTurn id left (count + more) (turn ++ steps)
+-- nothing is written, the handler does not settle, and the loop does not wait
+abbrev pub IsHearing : Step → Type 0
+IsHearing (Happens (Waited limit)) = ⊥
+IsHearing (Happens (Wrote id bytes)) = ⊥
+IsHearing (Happens (Unwritten id)) = ⊥
+IsHearing (Settles done) = ⊥
+IsHearing _ = Unit {0}
+
+-- with these steps so many frames more were handled, and nothing was written
+pub record Turns (id room left more : ℕ) (steps : List Step) : Type 0 where
+  pub goes : (count : ℕ) (turn : List Step) → InTurn id room count turn → InTurn id left (count + more) (turn ++ steps)
+  pub hearing : AllByRecursion IsHearing steps
 
 -- a read gave nothing, and all that was read is fed
 pub record RanDry (peer : Peer) (steps : List Step) : Type 0 where
@@ -183,3 +193,4 @@ EndsAs bytes departures.Memory = ⊥
 EndsAs bytes departures.Write = ⊥
 EndsAs bytes departures.Idle = ⊥
 EndsAs bytes departures.Stopped = ⊥
+EndsAs bytes departures.Unsettled = ⊥

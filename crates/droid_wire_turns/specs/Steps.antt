@@ -1,5 +1,5 @@
 -- What the loop did: its steps, and what they say of one connection (this project's own).
-use Rattle.std.specs.Prelude.{◌≡◌, ℕ, zero, suc, ◌==◌, if◌then◌else◌, List, [], ◌∷◌, ◌++◌, fold, map, ◌⊎◌}
+use Rattle.std.specs.Prelude.{◌≡◌, ℕ, zero, suc, ◌==◌, if◌then◌else◌, Bool, true, false, List, [], ◌∷◌, ◌++◌, fold, map, ◌⊎◌}
 use Rattle.std.specs.List.{AllByRecursion, flat_map}
 use Rattle.droid_frame.specs.Frames.{frame_bytes}
 use Rattle.droid_frame.specs.ReplyFrames.{reply_frame}
@@ -8,20 +8,23 @@ use Rattle.droid_frame.specs.types.reply.Reply.{Reply}
 use Rattle.droid_wire_turns.specs.Chains.{GoesOver}
 use Rattle.droid_wire_turns.specs.Events.{Event, Waited, Told, Opened, Read, Ended, Unread, Wrote, Unwritten, Closed}
 
--- a step is an event on the connections; or the handler handled a frame of this connection, with this reply
+-- a step is an event on the connections; or the handler handled a frame of this connection, with this reply; or it was to
+-- settle what it had handled, and did so or failed to
 pub data Step : Type 0 where
   Happens : (event : Event) → Step
   Handles : (id : ℕ) (frame : Frame) (reply : Reply) → Step
+  Settles : (done : Bool) → Step
 
 -- the connections and the handler, before and after a step
-abbrev pub Does : {C H : Type 0} → (C → Event → C → Type 0) → (H → Frame → Reply → H → Type 0) → C × H → Step → C × H → Type 0
-Does does handles old (Happens event) new = does old.0 event new.0 × (new.1 ≡ old.1)
-Does does handles old (Handles id frame reply) new = (new.0 ≡ old.0) × handles old.1 frame reply new.1
+abbrev pub Does : {C H : Type 0} → (C → Event → C → Type 0) → (H → Frame → Reply → H → Type 0) → (H → Bool → H → Type 0) → C × H → Step → C × H → Type 0
+Does does handles settles old (Happens event) new = does old.0 event new.0 × (new.1 ≡ old.1)
+Does does handles settles old (Handles id frame reply) new = (new.0 ≡ old.0) × handles old.1 frame reply new.1
+Does does handles settles old (Settles done) new = (new.0 ≡ old.0) × settles old.1 done new.1
 
 -- steps were done from these connections and this handler on, and P holds of them
-pub record Goes {C H : Type 0} (does : C → Event → C → Type 0) (handles : H → Frame → Reply → H → Type 0) (connections : C) (handler : H) (later : C) (after : H) (P : List Step → Type 0) : Type 0 where
+pub record Goes {C H : Type 0} (does : C → Event → C → Type 0) (handles : H → Frame → Reply → H → Type 0) (settles : H → Bool → H → Type 0) (connections : C) (handler : H) (later : C) (after : H) (P : List Step → Type 0) : Type 0 where
   pub steps : List Step
-  pub done : GoesOver (Does does handles) (connections, handler) steps (later, after)
+  pub done : GoesOver (Does does handles settles) (connections, handler) steps (later, after)
   pub holds : P steps
 
 -- the same of events alone
@@ -75,6 +78,7 @@ spelled_replies answered = flat_map (λ one. reply_frame one.0.version one.0.cli
 abbrev pub handled_by : Step → List (Frame × Reply)
 handled_by (Handles who frame reply) = (frame, reply) ∷ []
 handled_by (Happens event) = []
+handled_by (Settles done) = []
 
 -- all frames that were handled, with their replies, in the order in which the handler handled them
 abbrev pub all_handled : List Step → List (Frame × Reply)
@@ -111,6 +115,7 @@ IsTraffic id (Happens (Wrote who bytes)) = who ≡ id
 IsTraffic id (Happens (Unwritten who)) = who ≡ id
 IsTraffic id (Happens _) = ⊥
 IsTraffic id (Handles who frame reply) = who ≡ id
+IsTraffic id (Settles done) = ⊥
 
 -- the step is of this connection
 abbrev pub IsOf : ℕ → Step → Type 0
@@ -165,6 +170,37 @@ turn_behind turn step = turn ++ step ∷ []
 -- the steps since the last wait
 abbrev pub turn_of : List Step → List Step
 turn_of steps = fold turn_behind [] steps
+
+-- ---- settling
+
+-- among the steps the handler was to settle what it had handled, with this outcome
+abbrev pub SettledSo : Bool → List Step → Type 0
+SettledSo done [] = ⊥
+SettledSo done (step ∷ steps) = (step ≡ Settles done) ⊎ SettledSo done steps
+
+-- it failed to; it never did
+abbrev pub FailedToSettle : List Step → Type 0
+FailedToSettle steps = SettledSo false steps
+
+abbrev pub NeverFailed : List Step → Type 0
+NeverFailed steps = FailedToSettle steps → ⊥
+
+-- behind each frame that was handled the handler settled
+abbrev pub EachSettled : List Step → Type 0
+EachSettled [] = Unit {0}
+EachSettled (Happens event ∷ steps) = EachSettled steps
+EachSettled (Handles id frame reply ∷ steps) = SettledSo true steps × EachSettled steps
+EachSettled (Settles done ∷ steps) = EachSettled steps
+
+-- all that was handled is settled, and settling never failed
+pub record AllSettled (steps : List Step) : Type 0 where
+  pub each : EachSettled steps
+  pub never_failed : NeverFailed steps
+
+abbrev pub is_settling : Step → Bool
+is_settling (Happens event) = false
+is_settling (Handles id frame reply) = false
+is_settling (Settles done) = true
 
 -- ---- moments
 

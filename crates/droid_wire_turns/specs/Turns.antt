@@ -1,11 +1,12 @@
 -- What serving many connections in turns comes to (this project's own).
-use Rattle.std.specs.Prelude.{◌≡◌, ℕ, ◌+◌, ◌-◌, ◌<◌, ◌≤◌, ◌⊎◌, List, [], ◌∷◌, ◌++◌, Option, None, Some, length}
+use Rattle.std.specs.Prelude.{◌≡◌, ◌≢◌, ℕ, ◌+◌, ◌-◌, ◌<◌, ◌≤◌, ◌⊎◌, List, [], ◌∷◌, ◌++◌, Option, None, Some, count_by, length}
 use Rattle.droid_frame.specs.Streams.{BeginsNoFrame}
 use Rattle.droid_frame.specs.declared.stream.fault.FrameFault.{FrameFault}
 use Rattle.droid_wire_turns.specs.Departures.{Explains, IsServed, IsStopped, Serves, StopsBy}
-use Rattle.droid_wire_turns.specs.Events.{Opened, NoneOpened, Closed, Ended, Read, Told, Waited, Wrote}
-use Rattle.droid_wire_turns.specs.Steps.{Always, AreOfOthers, AtEach, Happened, Happens, Step, came, closed, handled, numbers, opened, times_of, turn_of}
+use Rattle.droid_wire_turns.specs.Events.{Opened, NoneOpened, Closed, Ended, Read, Told, Unwritten, Waited, Wrote}
+use Rattle.droid_wire_turns.specs.Steps.{AllSettled, Always, AreOfOthers, AtEach, FailedToSettle, Happened, Happens, NeverFailed, Step, came, closed, handled, is_settling, numbers, opened, times_of, turn_of}
 use Rattle.droid_wire_turns.specs.declared.departure.Departure.{Departure}
+use Rattle.droid_wire_turns.specs.declared.departure.Departure.TheVariants as departures
 use Rattle.droid_wire_turns.specs.declared.rules.Rules.{Rules}
 use Rattle.droid_wire_turns.specs.declared.served.Served.{Served}
 use Rattle.droid_wire_turns.specs.declared.served.Served.TheVariants as ways
@@ -47,11 +48,13 @@ abbrev pub IsAll : Option ℕ → ℕ → Type 0
 IsAll None count = 18446744073709551615 ≤ count
 IsAll (Some total) count = count ≡ total
 
--- As many connections came as were wanted; or waiting failed, or there were 2^64 - 1 turns; or memory ran out at once.
+-- As many connections came as were wanted; or waiting failed, or there were 2^64 - 1 turns; or memory ran out at once; or
+-- settling failed.
 abbrev pub EndsBy : Option ℕ → Served → List Step → Type 0
 EndsBy total ways.All steps = (count : ℕ) × AreAll count steps × IsAll total count
 EndsBy total ways.Stopped steps = IsStopped steps
 EndsBy total ways.Memory steps = steps ≡ []
+EndsBy total ways.Unsettled steps = FailedToSettle steps
 
 -- ---- how many are open
 
@@ -147,14 +150,33 @@ abbrev pub IsFair : Rules → List Step → Step → Type 0
 IsFair rules steps (Happens (Waited limit)) = IsTurn rules limit steps (turn_of steps)
 IsFair rules steps _ = Unit {0}
 
+-- ---- what is settled before it is shown
+
+-- the handler settled once in this turn
+abbrev pub SettledOnce : List Step → Type 0
+SettledOnce turn = count_by is_settling turn ≡ 1
+
+-- Whenever bytes are written to a connection, or that is tried, all that was handled is settled. So it is whenever the
+-- loop waits; and in each turn before that the handler settled once. Once settling failed, connections are closed for that
+-- reason, and nothing else happens.
+abbrev pub SettlesFirst : List Step → Step → Type 0
+SettlesFirst before (Happens (Wrote id bytes)) = AllSettled before
+SettlesFirst before (Happens (Unwritten id)) = AllSettled before
+SettlesFirst before (Happens (Waited limit)) = AllSettled before × ((before ≡ []) ⊎ SettledOnce (turn_of before))
+SettlesFirst before (Happens (Closed id departures.Unsettled)) = Unit {0}
+SettlesFirst before step = NeverFailed before
+
 -- ---- all of it
 
 -- At each moment each connection was served well; in the end each had left. So a connection that ends, fails or is idle
--- changes nothing for the others: what is said of each depends on its own steps alone. And none waits for another.
+-- changes nothing for the others: what is said of each depends on its own steps alone. And none waits for another. No
+-- reply is shown before it is settled; in the end all are, but where settling failed.
 pub record ServesAll (rules : Rules) (result : Served) (steps : List Step) : Type 0 where
   pub each : (id : ℕ) → Always (IsServed id) [] steps
   pub seated : Always (IsSeated rules.seats) [] steps
   pub numbered : IsNumbered steps
   pub fair : AtEach (IsFair rules) [] steps
+  pub settled : AtEach SettlesFirst [] steps
+  pub all_settled : result ≢ ways.Unsettled → AllSettled steps
   pub left : HaveLeft rules.idle steps
   pub ended : EndsBy rules.total result steps

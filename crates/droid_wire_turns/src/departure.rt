@@ -17,4 +17,6 @@ pub enum Departure {
     Idle,
     /// The loop ended, since it could not wait any longer.
     Stopped,
+    /// The loop ended, since the handler could not settle what it had handled. Nothing was written since.
+    Unsettled,
 }

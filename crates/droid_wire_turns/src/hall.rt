@@ -1,11 +1,11 @@
 //! The open connections, and their turns.
 
-ghost use Rattle.std.specs.Prelude.{◌≡◌, ◌+◌, ◌-◌, ◌<◌, ◌≤◌, ◌⊎◌, ◌++◌, ◌∷◌, ℕ, [], List, true, false, IfOk, Some, length, vec_capacity};
+ghost use Rattle.std.specs.Prelude.{◌≡◌, ◌+◌, ◌-◌, ◌<◌, ◌≤◌, ◌⊎◌, ℕ, [], true, false, IfOk, Some, length, vec_capacity};
 ghost use Rattle.std.specs.List.{AllByRecursion};
-ghost use Rattle.droid_wire_turns.specs.Departures.{IsStopped};
-ghost use Rattle.droid_wire_turns.specs.Halls.{Admits, HasRooms, Heard, IsAtRest, IsPatient, Keeps, LeadsInTurn, NoPeer, Served as HadTurn, TakesTurn, Unheard};
+ghost use Rattle.droid_wire_turns.specs.Halls.{Admits, ClosesSome, HasRooms, Heard, IsAtRest, IsPatient, IsTelling, LeadsInTurn, NoPeer, Served as HadTurn, Stops, Turned, Unheard};
+ghost use Rattle.droid_wire_turns.specs.Peers.{IsHearing};
 ghost use Rattle.droid_wire_turns.specs.Turns.{HasEnough};
-ghost use Rattle.droid_wire_turns.specs.Steps.{Goes, Moves, Step};
+ghost use Rattle.droid_wire_turns.specs.Steps.{Goes, Moves};
 ghost use Rattle.droid_wire_turns.specs.declared.rules.Rules.{Rules as RulesValue};
 
 use crate::connections::Connections;
@@ -81,24 +81,32 @@ impl Hall {
     }
 
     /// Gives every open connection its turn, after those that wait were accepted: first each is read, and its frames are
-    /// handled; then what waits for each is written.
+    /// handled; then the handler settles; then what waits for each is written.
+    ///
+    /// Returns false if the handler failed to settle. Then every connection was closed, and nothing was written.
     pub(crate) fn turn<C: Connections, H: Handler>(
         &mut self,
         alloc: Global,
         connections: &mut C,
         handler: &mut H,
         rules: Rules,
-    )
+    ) -> bool
         requires rooms { HasRooms rules.seats self.old }
         requires first { self.old.served.items ≡ [] }
-        ensures rooms { HasRooms rules.seats self.new }
-        ensures first { self.new.served.items ≡ [] }
-        ensures goes { Goes C.does H.handles connections.old handler.old connections.new handler.new (TakesTurn rules self.old self.new) }
+        ensures rooms { result ≡ true → HasRooms rules.seats self.new }
+        ensures first { result ≡ true → self.new.served.items ≡ [] }
+        ensures goes { Goes C.does H.handles H.settles connections.old handler.old connections.new handler.new (Turned result rules self.old self.new) }
     {
         self.time = connections.now();
         self.admit(alloc, connections, rules);
         self.hear_all(connections, handler, rules.seats);
+        let settled = handler.settle();
+        if !settled {
+            close_all(&mut self.served, connections, Departure::Unsettled);
+            return false;
+        }
         self.tell_all(connections, rules.seats, rules.idle);
+        true
     }
 
     /// Whether a connection may be accepted: there is a seat, and more are wanted.
@@ -147,8 +155,8 @@ impl Hall {
         ensures rooms { HasRooms seats self.new }
         ensures now { self.new.time ≡ self.old.time }
         ensures all { self.new.waiting.items ≡ [] }
-        ensures goes { (rules : RulesValue) → Goes C.does H.handles connections.old handler.old connections.new handler.new
-            (LeadsInTurn rules (Unheard self.old.time) (Heard self.old.time) NoPeer (Heard self.old.time) self.old self.new) }
+        ensures goes { (rules : RulesValue) → Goes C.does H.handles H.settles connections.old handler.old connections.new handler.new
+            (LeadsInTurn rules IsHearing (Unheard self.old.time) (Heard self.old.time) NoPeer (Heard self.old.time) self.old self.new) }
     {
         self.frames = 0;
         while let Some(mut peer) = self.waiting.pop() {
@@ -167,7 +175,7 @@ impl Hall {
         ensures now { self.new.time ≡ self.old.time }
         ensures all { self.new.served.items ≡ [] }
         ensures moves { (rules : RulesValue) → rules.idle ≡ idle → Moves C.does connections.old connections.new
-            (LeadsInTurn rules (HadTurn rules.idle self.old.time) (Heard self.old.time) (HadTurn rules.idle self.old.time) NoPeer self.old self.new) }
+            (LeadsInTurn rules IsTelling (HadTurn rules.idle self.old.time) (Heard self.old.time) (HadTurn rules.idle self.old.time) NoPeer self.old self.new) }
     {
         while let Some(mut peer) = self.served.pop() {
             match peer.tell(connections, self.time, idle) {
@@ -180,11 +188,18 @@ impl Hall {
     /// Closes every connection, since the loop ends.
     pub(crate) fn stop<C: Connections>(&mut self, connections: &mut C)
         requires first { self.old.served.items ≡ [] }
-        ensures moves { (rules : RulesValue) → Moves C.does connections.old connections.new (λ steps. (before : List Step) →
-            IsStopped before → IsAtRest rules self.old before → IsStopped (before ++ steps) × Keeps rules self.new.opened (λ _. 0) 0 (before ++ steps)) }
+        ensures moves { (rules : RulesValue) → Moves C.does connections.old connections.new (Stops rules self.old self.new) }
     {
-        while let Some(peer) = self.waiting.pop() {
-            connections.close(peer.id, Departure::Stopped, peer.frames);
-        }
+        close_all(&mut self.waiting, connections, Departure::Stopped);
+    }
+}
+
+/// Closes these connections, for this reason.
+fn close_all<C: Connections>(peers: &mut Vec<Peer>, connections: &mut C, why: Departure)
+    ensures none { peers.new.items ≡ [] }
+    ensures moves { Moves C.does connections.old connections.new (ClosesSome why peers.old.items peers.new.items) }
+{
+    while let Some(peer) = peers.pop() {
+        connections.close(peer.id, why, peer.frames);
     }
 }

@@ -1,5 +1,6 @@
 //! The trait for what handles requests.
 
+ghost use Rattle.std.specs.Prelude.{Bool};
 ghost use Rattle.droid_frame.specs.Replies.{HasReplySpelling};
 ghost use Rattle.droid_frame.specs.types.frame.Frame.{Frame};
 ghost use Rattle.droid_frame.specs.types.reply.Reply.{Reply};
@@ -11,8 +12,18 @@ pub trait Handler {
     /// Relates the state before a frame, the frame, its reply, and the state after it.
     ghost handles: { Self → Frame → Reply → Self → Type 0 };
 
+    /// Relates the state before the handler was to settle, whether it did, and the state after it.
+    ghost settles: { Self → Bool → Self → Type 0 };
+
     /// Handles a frame and returns its one reply, which has a spelling in the frame's version.
     fn handle(&mut self, frame: Frame) -> Reply
         ensures handles { handles self.old frame result self.new }
         ensures spelled { HasReplySpelling frame.version result };
+
+    /// Settles what was handled: it stays, whatever happens to the program from now on. Returns false if that failed.
+    ///
+    /// The loop calls this once in each turn, before it writes any reply, also if no frame was handled. A handler that has
+    /// nothing to settle returns true at once.
+    fn settle(&mut self) -> bool
+        ensures { settles self.old result self.new };
 }

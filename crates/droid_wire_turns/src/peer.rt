@@ -108,7 +108,7 @@ impl Peer {
         requires whole { IsWhole self.old }
         ensures whole { IsWhole self.new }
         ensures id { self.new.id ≡ self.old.id }
-        ensures hears { Goes C.does H.handles connections.old handler.old connections.new handler.new (Hears now self.old self.new) }
+        ensures hears { Goes C.does H.handles H.settles connections.old handler.old connections.new handler.new (Hears now self.old self.new) }
     {
         self.drained = false;
         self.room = BYTES_IN_TURN;
@@ -127,7 +127,7 @@ impl Peer {
         requires room { self.old.room ≡ 4194304 }
         ensures whole { IsWhole self.new }
         ensures id { self.new.id ≡ self.old.id }
-        ensures hears { Goes C.does H.handles connections.old handler.old connections.new handler.new (Hears now self.old self.new) }
+        ensures hears { Goes C.does H.handles H.settles connections.old handler.old connections.new handler.new (Hears now self.old self.new) }
     {
         for _ in 0..FRAMES_IN_TURN {
             if !self.may_be_read() {

@@ -9,4 +9,6 @@ pub enum Served {
     Stopped,
     /// Out of memory for the list of connections. None was accepted.
     Memory,
+    /// The handler could not settle what it had handled. Nothing was written since.
+    Unsettled,
 }

@@ -13,8 +13,8 @@ use std::alloc::Global;
 /// Serves many connections in turns, until as many as are wanted came and left.
 ///
 /// In each turn those that wait are accepted, as far as there are seats. Then each open connection is read, and up to 16
-/// of its frames are handled; then the replies that wait for each are written, as far as it takes them. No connection is
-/// served twice before every other was served once.
+/// of its frames are handled; then the handler settles what it handled; then the replies that wait for each are written,
+/// as far as it takes them. No connection is served twice before every other was served once.
 pub fn serve_in_turns<C: Connections, H: Handler>(
     alloc: Global,
     connections: &mut C,
@@ -27,7 +27,10 @@ pub fn serve_in_turns<C: Connections, H: Handler>(
     // Whenever the loop waited, but for the first time, it had read the clock, accepted those that waited as far as there
     // were seats, and given each open connection its turn. In the end each connection had left, and its reason explains
     // what was held and what was not written.
-    ensures { Goes C.does H.handles connections.old handler.old connections.new handler.new (ServesAll rules result) }
+    //
+    // Before each write to a connection, and before each wait, the handler had settled behind each frame that it had
+    // handled. Once it failed to, connections were closed for that, and nothing else happened.
+    ensures { Goes C.does H.handles H.settles connections.old handler.old connections.new handler.new (ServesAll rules result) }
 {
     let Ok(mut hall) = Hall::new(alloc, rules.seats) else {
         return Served::Memory;
@@ -44,7 +47,9 @@ pub fn serve_in_turns<C: Connections, H: Handler>(
                 return Served::Stopped;
             }
         }
-        hall.turn(alloc, connections, handler, rules);
+        if !hall.turn(alloc, connections, handler, rules) {
+            return Served::Unsettled;
+        }
     }
     hall.stop(connections);
     Served::Stopped

@@ -12,10 +12,16 @@ pub struct CountingHandler {
 impl Handler for CountingHandler {
     ghost handles = { λ old frame reply new. Unit {0} };
 
+    ghost settles = { λ old done new. Unit {0} };
+
     fn handle(&mut self, frame: Frame) -> Reply {
         let _ = frame;
         let id = self.handled;
         self.handled = self.handled.wrapping_add(1);
         Reply::Node { id }
+    }
+
+    fn settle(&mut self) -> bool {
+        true
     }
 }

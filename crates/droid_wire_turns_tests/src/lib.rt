@@ -13,3 +13,5 @@ mod ordered_hall;
 mod orders;
 #[cfg(test)]
 mod paper_hall;
+#[cfg(test)]
+mod settling;

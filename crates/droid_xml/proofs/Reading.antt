@@ -1,7 +1,7 @@
 -- What the pieces read so far say of the whole document.
-use Rattle.std.proofs.Common.{◌≡◌, ℕ, List, [], ◌∷◌, ◌++◌, Option, Some, None, refl, sym, ap, subst, ◌∙◌, inl, inr}
+use Rattle.std.proofs.Common.{◌≡◌, ℕ, List, [], ◌∷◌, ◌++◌, Some, None, refl, sym, ap, subst, ◌∙◌, inl, inr}
 use Rattle.std.specs.Prelude.{Result, Ok, Err}
-use Rattle.droid_xml.specs.Documents.{Place, Run, IsRest, IsFaulty, IsDocument, HasProblem, next_at, start_of}
+use Rattle.droid_xml.specs.Documents.{Place, Run, IsDocument, HasProblem, next_at, start_of}
 use Rattle.droid_xml.specs.Outcomes.{Fails}
 use Rattle.droid_xml.specs.Pieces.{Part}
 use Rattle.droid_xml.specs.Views.{IsFaultOf, IsMemory}

@@ -1,7 +1,7 @@
 -- Runs of pieces over a document: they have one end.
-use Rattle.std.proofs.Common.{◌≡◌, ℕ, List, [], ◌∷◌, ◌++◌, Option, Some, None, refl, sym, ap, subst, ◌∙◌, inl, inr}
+use Rattle.std.proofs.Common.{◌≡◌, ℕ, List, [], ◌∷◌, ◌++◌, Option, Some, None, refl, sym, ap, subst, ◌∙◌}
 use Rattle.std.specs.Prelude.{Result, Ok, Err}
-use Rattle.droid_xml.specs.Documents.{Place, Run, IsRest, IsDocument, HasProblem, next_at, start_of}
+use Rattle.droid_xml.specs.Documents.{Place, Run, next_at}
 use Rattle.droid_xml.specs.Pieces.{Part}
 use Rattle.droid_xml.specs.declared.problem.Problem.{Problem}
 

@@ -1,5 +1,5 @@
 -- One step over a document.
-use Rattle.std.proofs.Common.{◌≡◌, ℕ, Bool, true, false, cond, eqb, List, length, Option, Some, None, refl, sym, ap, ◌∙◌}
+use Rattle.std.proofs.Common.{◌≡◌, ℕ, Bool, true, false, cond, eqb, List, length, Option, Some, None, ap, ◌∙◌}
 use Rattle.std.specs.Prelude.{Result, Ok, Err}
 use Rattle.droid_xml.specs.Documents.{Place, at_end, at_line, line_of, moved, next_at, piece_at}
 use Rattle.droid_xml.specs.Nestings.{Nesting, is_complete, nested}

@@ -6,7 +6,7 @@ use Rattle.std.specs.List.{list_all, prefix_len}
 use Rattle.std.specs.Str.{IsUtf8, is_utf8, chars}
 use Rattle.droid_xml.specs.Bytes.{only_if}
 use Rattle.droid_xml.specs.Characters.{is_char, text_in}
-use Rattle.droid_xml.specs.Names.{are_of_name, is_name, is_name_byte, name_at}
+use Rattle.droid_xml.specs.Names.{are_of_name, is_name_byte, name_at}
 
 by_test : (bytes : List ℕ) (test : Bool) → is_utf8 bytes ≡ test → ¬ IsUtf8 bytes → is_utf8 bytes ≡ false
 by_test bytes true is fails = absurd (fails (IsUtf8-from_is_utf8 bytes is))

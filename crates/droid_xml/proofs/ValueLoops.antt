@@ -1,7 +1,7 @@
 -- A value is read when all its characters are.
 use Rattle.std.proofs.Common.{◌≡◌, ℕ, Bool, true, false, List, [], ◌∷◌, map, Option, Some, None, refl, sym, ap, ◌∙◌}
 use Rattle.std.specs.List.{fold}
-use Rattle.std.specs.Prelude.{Result, Ok, Err}
+use Rattle.std.specs.Prelude.{Ok, Err}
 use Rattle.droid_xml.specs.Bytes.{◌>>=◌, only_if}
 use Rattle.droid_xml.specs.Outcomes.{required}
 use Rattle.droid_xml.specs.Values.{Partial, after_each, ended, nothing, value_of}

@@ -1,5 +1,5 @@
 -- What stands at the front of bytes, and what stands after it. The grammar of XML is written in these words.
-use Rattle.std.specs.Prelude.{ℕ, ◌==◌, ◌||◌, Bool, true, false, if◌then◌else◌, nat_eq, nat_lt, List, [], ◌∷◌, length, take, drop, codes, Option, Some, None}
+use Rattle.std.specs.Prelude.{ℕ, ◌==◌, ◌||◌, Bool, if◌then◌else◌, nat_eq, nat_lt, List, [], ◌∷◌, length, drop, Option, Some, None}
 use Rattle.std.specs.List.{starts_with, prefix_len, position_or_len, before_first, after_first}
 
 -- the next step, if the one before it found something

@@ -1,5 +1,5 @@
 -- Which characters a document has, and which a name has (XML 1.0, fifth edition, sections 2.2 and 2.3).
-use Rattle.std.specs.Prelude.{ℕ, ◌==◌, ◌||◌, ◌&&◌, nat_le, Bool, true, false, List, [], ◌∷◌, Option}
+use Rattle.std.specs.Prelude.{ℕ, ◌==◌, ◌||◌, ◌&&◌, nat_le, Bool, List, Option}
 use Rattle.std.specs.List.{list_all}
 use Rattle.std.specs.Str.{is_utf8, chars}
 use Rattle.droid_xml.specs.Bytes.{only_if}

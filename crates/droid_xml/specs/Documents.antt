@@ -1,6 +1,6 @@
 -- Documents: one root element with all else inside it or made of comments, instructions and white space
 -- (XML 1.0, sections 2.1, 2.8 and 3). There is no document type declaration, and elements are at most 16 deep.
-use Rattle.std.specs.Prelude.{◌≡◌, ◌⊎◌, ℕ, ◌+◌, ◌-◌, nat_eq, Bool, true, false, if◌then◌else◌, List, [], ◌∷◌, length, codes, count_by, Option, Some, None, Result, Ok, Err}
+use Rattle.std.specs.Prelude.{◌≡◌, ◌⊎◌, ℕ, ◌+◌, ◌-◌, nat_eq, false, if◌then◌else◌, List, [], ◌∷◌, length, codes, count_by, Option, Some, None, Result, Ok, Err}
 use Rattle.droid_xml.specs.Bytes.{choose, after, is_byte}
 use Rattle.droid_xml.specs.Declarations.{declaration_at, declaration_start, is_readable}
 use Rattle.droid_xml.specs.Nestings.{Nesting, is_complete, nested}

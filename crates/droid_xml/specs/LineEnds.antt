@@ -1,5 +1,5 @@
 -- Line ends (XML 1.0, section 2.11): a carriage return with a line feed behind it, or alone, is a line feed.
-use Rattle.std.specs.Prelude.{ℕ, ◌==◌, ◌&&◌, ◌++◌, Bool, true, false, if◌then◌else◌, List, [], ◌∷◌}
+use Rattle.std.specs.Prelude.{ℕ, ◌==◌, ◌&&◌, ◌++◌, Bool, false, if◌then◌else◌, List, [], ◌∷◌}
 
 -- what a byte becomes; is_behind says whether a carriage return stands right before it
 abbrev pub line_feed : Bool → ℕ → List ℕ

@@ -1,5 +1,5 @@
 -- Names (XML 1.0, section 2.3).
-use Rattle.std.specs.Prelude.{ℕ, ◌||◌, ◌&&◌, nat_le, Bool, true, false, List, [], ◌∷◌, take, drop, Option}
+use Rattle.std.specs.Prelude.{ℕ, ◌||◌, ◌&&◌, nat_le, Bool, false, List, [], ◌∷◌, take, drop, Option}
 use Rattle.std.specs.List.{list_all, prefix_len}
 use Rattle.std.specs.Str.{is_utf8, chars}
 use Rattle.droid_xml.specs.Bytes.{only_if}

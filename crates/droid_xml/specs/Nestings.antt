@@ -1,5 +1,5 @@
 -- Which elements are open, and where a piece may stand (XML 1.0, sections 2.1 and 3).
-use Rattle.std.specs.Prelude.{ℕ, ◌-◌, ◌&&◌, ◌||◌, ◌++◌, nat_eq, nat_lt, Bool, true, false, not, if◌then◌else◌, List, [], ◌∷◌, length, take, slice_index_or, Result, Ok, Err}
+use Rattle.std.specs.Prelude.{ℕ, ◌-◌, ◌&&◌, ◌||◌, ◌++◌, nat_eq, nat_lt, Bool, true, not, if◌then◌else◌, List, [], ◌∷◌, length, take, slice_index_or, Result, Ok, Err}
 use Rattle.std.specs.List.{list_all}
 use Rattle.std.specs.Str.{bytes_eq}
 use Rattle.droid_xml.specs.Bytes.{is_space}

@@ -1,5 +1,5 @@
 -- The pieces of a document: tags, text, references and what is between them (XML 1.0, sections 2.4 to 2.7 and 3.1).
-use Rattle.std.specs.Prelude.{ℕ, ◌==◌, ◌||◌, ◌&&◌, Bool, true, false, not, if◌then◌else◌, List, [], ◌∷◌, take, drop, codes, Option, Some, None, Result, Ok, Err}
+use Rattle.std.specs.Prelude.{ℕ, ◌==◌, ◌||◌, Bool, not, List, [], take, drop, codes, Option, Some}
 use Rattle.std.specs.List.{position_or_len}
 use Rattle.std.specs.Option.{option_map, is_some}
 use Rattle.std.specs.Str.{bytes_eq, str_to_ascii_lowercase}

@@ -1,5 +1,5 @@
 -- References to characters and to the five entities (XML 1.0, sections 4.1 and 4.6). No other entity is ever read.
-use Rattle.std.specs.Prelude.{ℕ, ◌+◌, ◌*◌, nat_lt, if◌then◌else◌, Bool, List, [], ◌∷◌, codes, Option, Some, None}
+use Rattle.std.specs.Prelude.{ℕ, ◌+◌, ◌*◌, nat_lt, if◌then◌else◌, List, [], ◌∷◌, codes, Option, Some, None}
 use Rattle.std.specs.Char.{digit_value}
 use Rattle.std.specs.Str.{bytes_eq}
 use Rattle.droid_xml.specs.Bytes.{◌>>=◌, only_if, choose, after, cut_at_byte}

@@ -1,5 +1,5 @@
 -- Tags (XML 1.0, section 3.1).
-use Rattle.std.specs.Prelude.{ℕ, zero, suc, if◌then◌else◌, Bool, true, false, List, [], ◌∷◌, codes, Option, Some, None, Result, Ok, Err}
+use Rattle.std.specs.Prelude.{ℕ, zero, suc, if◌then◌else◌, Bool, true, false, List, [], ◌∷◌, codes, Option, Some, Result, Ok, Err}
 use Rattle.std.specs.Option.{option_map}
 use Rattle.droid_xml.specs.Attributes.{Setting, next_attribute, are_distinct}
 use Rattle.droid_xml.specs.Bytes.{choose, after, past_spaces}

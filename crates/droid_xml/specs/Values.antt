@@ -1,5 +1,5 @@
 -- Values of attributes (XML 1.0, sections 2.3 and 3.3.3): references replaced, and white space made spaces.
-use Rattle.std.specs.Prelude.{ℕ, ◌==◌, ◌++◌, nat_eq, if◌then◌else◌, Bool, true, false, not, List, [], ◌∷◌, Option, Some, None}
+use Rattle.std.specs.Prelude.{ℕ, ◌==◌, ◌++◌, if◌then◌else◌, not, List, [], ◌∷◌, Option, Some, None}
 use Rattle.std.specs.Char.{encode_utf8}
 use Rattle.std.specs.List.{fold, list_any}
 use Rattle.std.specs.Str.{chars}

@@ -26,14 +26,15 @@ class Many(InFolder):
             os.mknod(folder + b"/%06d" % number)
 
     def run_over(self, *words):
-        """Profiles the folder: its status, the CSV, and its largest resident memory, which is read a hundred times a
-        second. (What the system says of an ended child has the memory of this process in it.)"""
+        """Profiles the folder: its status, the CSV, and its largest resident memory, which is read every five
+        milliseconds: a run has to be long enough for many looks. (What the system says of an ended child has the memory of
+        this process in it.)"""
         out = self.work + b"/out.csv"
         most = 0
         with subprocess.Popen([PROGRAM, "profile", self.top, "--quiet", "--output", out, *words], stderr=subprocess.DEVNULL) as run:
             while run.poll() is None:
                 most = max(most, most_resident(run) or 0)
-                time.sleep(0.01)
+                time.sleep(0.005)
         self.assertGreater(most, 0)
         with open(out, encoding="utf-8", newline="") as file:
             return run.returncode, file.read(), most
@@ -63,7 +64,7 @@ class Many(InFolder):
     def test_many_skipped(self):
         """Skipped entries aren't kept either."""
         memory = []
-        for count in (FEW // 10, MANY // 10):
+        for count in (FEW, MANY):
             for number in range(count):
                 folder = self.top + b"/%03d" % (number // IN_FOLDER)
                 os.makedirs(folder, exist_ok=True)

@@ -1,5 +1,5 @@
 #!/bin/sh
-# Tests the program's `profile` over folders of this machine: run.sh PROGRAM. The expected rows are those of Python's
+# Tests the program's `profile` and `verify` over folders of this machine: run.sh PROGRAM. The expected rows are those of Python's
 # own walk, with hashlib's digests.
 set -u
 tests=$(cd "$(dirname "$0")/../.." && pwd)
@@ -8,4 +8,4 @@ export PRELOAD_READS="$work/reads.so" PRELOAD_CHANGES="$work/changes.so"
 build_library reads.c "$PRELOAD_READS"
 build_library changes.c "$PRELOAD_CHANGES"
 run_modules profile_trees profile_random profile_skipped profile_reads profile_exchanged profile_output profile_manifest profile_many \
-    profile_progress profile_arguments
+    profile_progress profile_arguments verify_lists

@@ -1,7 +1,7 @@
 use Rattle.std.proofs.Common.{refl, codes}
 use Rattle.std.specs.Str.Parse.{ExplainsUnsignedError, HasUnsignedDigitsIfOk, ParsesUnsigned}
 use Rattle.clap.specs.Words.{found_of}
-use Rattle.droid_desk_arguments.proofs.Options.{number_given, number_or}
+use Rattle.droid_desk_options.proofs.Options.{number_given, number_or}
 use Rattle.droid_desk_arguments.proofs.arguments.serve_asked.Goals as goal
 
 pub returns : goal.returns

@@ -2,8 +2,8 @@ use Rattle.std.proofs.Common.{◌∙◌, Bool, codes, subst, sym}
 use Rattle.std.specs.Str.Parse.{ExplainsUnsignedError, HasUnsignedDigitsIfOk, ParsesUnsigned}
 use Rattle.clap.specs.Words.{found_of, one_of, rows_of}
 use Rattle.clap.proofs.WalkLemmas.{first_value-rows}
-use Rattle.droid_desk_arguments.specs.Asking.{IsFlag}
-use Rattle.droid_desk_arguments.proofs.Options.{number_or}
+use Rattle.droid_desk_options.specs.Values.{IsFlag}
+use Rattle.droid_desk_options.proofs.Options.{number_or}
 use Rattle.droid_desk_arguments.proofs.many.count_of.Goals as goal
 
 pub returns-in-None : goal.returns-in-None

@@ -1,7 +1,7 @@
 use Rattle.std.proofs.Common.{◌∙◌, Bool, codes, subst, sym}
 use Rattle.clap.specs.Words.{found_of, one_of, rows_of}
 use Rattle.clap.proofs.WalkLemmas.{first_value-rows}
-use Rattle.droid_desk_arguments.specs.Asking.{IsFlag}
+use Rattle.droid_desk_options.specs.Values.{IsFlag}
 use Rattle.droid_desk_arguments.proofs.many.is_one_by_one.Goals as goal
 
 pub returns : goal.returns

@@ -2,8 +2,8 @@ use Rattle.std.proofs.Common.{◌∙◌, Option, codes, subst}
 use Rattle.std.specs.Str.Parse.{ExplainsUnsignedError, HasUnsignedDigitsIfOk, ParsesUnsigned}
 use Rattle.clap.specs.Words.{Text, found_of}
 use Rattle.clap.proofs.WalkLemmas.{first_value-rows}
-use Rattle.droid_desk_arguments.specs.Asking.{IsHash}
-use Rattle.droid_desk_arguments.proofs.Options.{number_or}
+use Rattle.droid_desk_options.specs.Values.{IsHash}
+use Rattle.droid_desk_options.proofs.Options.{number_or}
 use Rattle.droid_desk_arguments.proofs.submit.submit_options.Goals as goal
 
 pub returns : goal.returns

@@ -8,7 +8,7 @@ use Rattle.droid_desk_outputs.proofs.skipped_text.skipped_csv.Goals as goal
 
 pub loop-entry-init : goal.loop-entry-init
 loop-entry-init c =
-    subst (λ (t : List ℕ). Holds c.write_pair.new.writer t) (sym (append-nil (line (codes "path" ∷ codes "reason" ∷ [])))) (c.in_ok-write_pair.ensures [] c.new_writer-writer.ensures)
+    subst (λ (t : List ℕ). Holds c.write_pair.new.writer t) (sym (append-nil (line (codes "path" ∷ codes "reason" ∷ [])))) (c.in_ok-write_pair.ensures [] c.new_csv-writer.ensures)
 
 pub loop-entry-preserved : goal.loop-entry-preserved
 loop-entry-preserved c =

@@ -7,6 +7,7 @@ pub returns-clause-ends : goal.returns-clause-ends
 returns-clause-ends g c = record {
   served = c.serve_many-served.result;
   ends = c.end_of.ensures;
+  settled = c.serve_many-served.ensures.settled;
   serves = λ setting history stands.
       subst (λ (rules : Rules). ServesMany g.C.Connections.does rules setting history c.args.connections.now c.serve_many-served.new.connections c.serve_many-served.new.handler.service c.serve_many-served.result)
       c.rules_of.ensures (c.serve_many-served.ensures.many setting history stands);

@@ -1,4 +1,4 @@
-use Rattle.std.proofs.Common.{◌≡◌, Option, Some, None, arith}
+use Rattle.std.proofs.Common.{Option, Some, None, arith}
 use Rattle.std.specs.Prelude.{IfNone, IfSome}
 use Rattle.droid_journal_chain.specs.Chains.{BeginsNoRecord, BeginsWith}
 use Rattle.droid_journal_chain.specs.Reading.{Gives, record_at}

@@ -1,5 +1,5 @@
 -- The elements in the first one, one that is wrong, and none.
-use Rattle.std.proofs.Common.{◌+◌, ◌∷◌, [], ◌++◌, List, drop, filter, length, map, take, subst, sym, ap, ◌∙◌, append-nil}
+use Rattle.std.proofs.Common.{◌∷◌, [], List, drop, filter, length, map, take, subst, sym, ap, ◌∙◌, append-nil}
 use Rattle.std.specs.Prelude.{◌-◌, Ok}
 use Rattle.std.proofs.lemmas.List.{drop-drop, take_rest}
 use Rattle.std.specs.List.{flat_map}

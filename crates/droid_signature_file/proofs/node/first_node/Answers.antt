@@ -1,10 +1,9 @@
 -- No element, and the first one.
-use Rattle.std.proofs.Common.{◌≡◌, ◌+◌, ◌∷◌, [], ℕ, List, drop, length, map, refl, sym, ap, ◌∙◌, arith, length-drop}
+use Rattle.std.proofs.Common.{◌+◌, ◌∷◌, ℕ, List, drop, length, map, refl, sym, ap, ◌∙◌, arith, length-drop}
 use Rattle.std.proofs.lemmas.List.{drop-map, take_rest}
 use Rattle.droid_xml.specs.Pieces.{Part}
 use Rattle.droid_xml.specs.Views.{part, tag}
 use Rattle.droid_signature_file.specs.Elements.{len_of, node, nodes_from}
-use Rattle.droid_xml.specs.declared.pieces.Piece.{Piece}
 use Rattle.droid_signature_file.proofs.Loops.{no_length}
 use Rattle.droid_signature_file.proofs.Nodes.{begins, element_at, first_in, has_tag, none_in, past}
 use Rattle.droid_signature_file.proofs.node.first_node.Goals as goal

@@ -1,10 +1,9 @@
 -- One more piece, the end, and a fault.
-use Rattle.std.proofs.Common.{◌≤◌, ℕ, List, map, sym, subst, arith}
-use Rattle.droid_xml.specs.Pieces.{Part}
+use Rattle.std.proofs.Common.{map, arith}
 use Rattle.droid_xml.specs.Views.{part, place}
 use Rattle.droid_xml.proofs.Reading.{fault_told}
 use Rattle.droid_signature_file.specs.Tables.{depth_behind}
-use Rattle.droid_signature_file.proofs.KeptPieces.{HasKept, kept_more, kept_whole, next_depth}
+use Rattle.droid_signature_file.proofs.KeptPieces.{kept_more, kept_whole, next_depth}
 use Rattle.droid_signature_file.proofs.pieces.pieces_of.Goals as goal
 
 pub returns-in-Err-clause-fault : goal.returns-in-Err-clause-fault

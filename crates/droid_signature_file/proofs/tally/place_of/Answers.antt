@@ -1,7 +1,6 @@
 -- The name, another, and none.
 use Rattle.std.proofs.Common.{sym, ap, ◌∙◌, arith}
 use Rattle.std.proofs.lemmas.List.{drop_all}
-use Rattle.droid_signature_spec.specs.declared.file.UnknownName.{UnknownName}
 use Rattle.droid_signature_file.specs.Unknown.{is_name}
 use Rattle.droid_signature_file.proofs.Loops.{found, goes_on, here, nowhere}
 use Rattle.droid_signature_file.proofs.tally.place_of.Goals as goal

@@ -1,5 +1,5 @@
 -- One more piece.
-use Rattle.std.proofs.Common.{◌+◌, [], map, take, sym, ap, ◌∙◌, arith}
+use Rattle.std.proofs.Common.{[], map, take, sym, ap, ◌∙◌, arith}
 use Rattle.std.specs.List.{fold}
 use Rattle.droid_xml.specs.Views.{part}
 use Rattle.droid_xml.specs.declared.pieces.Piece.{Piece}

@@ -8,5 +8,5 @@ abbrev pub invariant-loop : goal.invariant-loop
 invariant-loop g l = record {
   rooms : HasRooms l.rules.seats l.hall;
   first : l.hall.served.items ≡ [];
-  goes : Goes g.C.Connections.does g.H.Handler.handles l.fn.connections l.fn.handler l.connections l.handler (IsBetween l.rules l.hall l.counter);
+  goes : Goes g.C.Connections.does g.H.Handler.handles g.H.Handler.settles l.fn.connections l.fn.handler l.connections l.handler (IsBetween l.rules l.hall l.counter);
 }

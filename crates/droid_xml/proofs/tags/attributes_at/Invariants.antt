@@ -1,4 +1,4 @@
-use Rattle.std.proofs.Common.{◌≡◌, ◌-◌, ◌≤◌, map}
+use Rattle.std.proofs.Common.{◌≡◌, ◌-◌, map}
 use Rattle.droid_xml.proofs.AttributeLoops.{with_front}
 use Rattle.droid_xml.specs.Tags.{attributes_at}
 use Rattle.droid_xml.specs.Views.{setting}

@@ -2,7 +2,6 @@ use Rattle.std.proofs.Common.{◌≡◌, List, [], ℕ, Ok, Err, IfErr, OnOk, ap
 use Rattle.droid_frame.specs.Streams.{BeginsNoFrame, why}
 use Rattle.droid_frame.specs.declared.stream.arrival.Arrival.TheVariants as arrivals
 use Rattle.droid_frame_feed.specs.Held.{Held}
-use Rattle.droid_frame_feed.specs.Parts.{came}
 use Rattle.droid_frame_feed.proofs.frame_feed.FrameFeed.end.Goals as goal
 
 pub returns-clause-rest : goal.returns-clause-rest

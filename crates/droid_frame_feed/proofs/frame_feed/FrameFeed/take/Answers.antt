@@ -1,5 +1,4 @@
 use Rattle.std.proofs.Common.{◌≡◌, List, ℕ, ap, subst}
-use Rattle.droid_frame.specs.declared.stream.fault.FrameFault.{FrameFault}
 use Rattle.droid_frame_feed.specs.Feeding.{Feeds}
 use Rattle.droid_frame_feed.specs.Held.{Held}
 use Rattle.droid_frame_feed.specs.Parts.{came}

@@ -1,6 +1,4 @@
-use Rattle.std.proofs.Common.{◌≡◌, Err, IfErr, ap, subst, sym, ◌∙◌, arith}
-use Rattle.droid_frame.specs.Streams.{why}
-use Rattle.droid_frame.specs.declared.stream.fault.FrameFault.{FrameFault}
+use Rattle.std.proofs.Common.{sym, arith}
 use Rattle.droid_frame_feed.specs.Parts.{came}
 use Rattle.droid_frame_feed.proofs.Ends.{ended_between, ended_cut, ended_empty, ended_fault, ended_short, kind_is, passed_on}
 use Rattle.droid_frame_feed.proofs.parts.Parts.end.Goals as goal

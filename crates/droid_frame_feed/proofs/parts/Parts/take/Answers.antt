@@ -1,10 +1,10 @@
-use Rattle.std.proofs.Common.{◌≡◌, ◌+◌, ◌-◌, ◌≤◌, ◌++◌, ℕ, List, length, min, take, ap, arith, refl, subst, sym, ◌∙◌}
+use Rattle.std.proofs.Common.{◌≡◌, ◌+◌, ◌-◌, ◌++◌, ℕ, List, length, min, take, ap, arith, refl, subst, sym, ◌∙◌}
 use Rattle.std.proofs.lemmas.List.{length-drop}
 use Rattle.std.specs.declared.alloc.Global.{Global}
 use Rattle.std.specs.declared.vec.Vec.{Vec}
 use Rattle.droid_frame_feed.specs.declared.parts.Parts.{Parts}
 use Rattle.droid_frame_feed.proofs.Fronts.{good_is, good_small}
-use Rattle.droid_frame_feed.proofs.Taking.{Filled, Framed, Grown, IsWhole, Restored, body_between, body_brings, body_waits, body_within, grown_size, header_between, header_fails, memory_between, memory_fails, none_between, passed_on, rest_is, short_between, short_waits}
+use Rattle.droid_frame_feed.proofs.Taking.{Framed, Grown, IsWhole, Restored, body_between, body_brings, body_waits, body_within, grown_size, header_between, header_fails, memory_between, memory_fails, none_between, passed_on, rest_is, short_between, short_waits}
 use Rattle.droid_frame_feed.proofs.parts.Parts.take.Goals as goal
 
 pub fill_header-head-requires : goal.fill_header-head-requires

@@ -1,5 +1,5 @@
 -- One more attribute.
-use Rattle.std.proofs.Common.{◌+◌, map, take, sym, ap, ◌∙◌, arith}
+use Rattle.std.proofs.Common.{map, take, sym, ap, ◌∙◌, arith}
 use Rattle.std.specs.List.{fold}
 use Rattle.droid_xml.specs.declared.attributes.Attribute.{Attribute}
 use Rattle.droid_signature_file.specs.Unknown.{Tally, name_of, noted_attribute}

@@ -2,7 +2,7 @@ use Rattle.std.proofs.Common.{◌≡◌, ◌+◌, ◌<◌, ◌∷◌, [], Bool, 
 use Rattle.std.specs.List.{AllByRecursion}
 use Rattle.droid_wire_turns.specs.Events.{Closed, NoneOpened, Opened}
 use Rattle.droid_wire_turns.specs.Halls.{Admits, LeadsInTurn, NoPeer, Unheard}
-use Rattle.droid_wire_turns.specs.Peers.{IsWhole}
+use Rattle.droid_wire_turns.specs.Peers.{IsHearing, IsWhole}
 use Rattle.droid_wire_turns.specs.declared.departure.Departure.TheVariants as departures
 use Rattle.droid_wire_turns.proofs.Moments.{all_both, moves_as, moves_event, moves_events, moves_none}
 use Rattle.droid_wire_turns.proofs.HallSteps.{admits_enough, admits_nobody, calm_failed, calm_opened, leads_coming, leads_failing, leads_in_turn, leads_none}
@@ -15,7 +15,7 @@ loop-alloc-init g c =
       rooms = c.requires.rooms;
       first = c.requires.first;
       time = refl;
-      moves = moves_none g.C.Connections.does c.args.connections.now (LeadsInTurn c.args.rules (Unheard hall.time) NoPeer (Unheard hall.time) NoPeer hall hall) (leads_none c.args.rules (Unheard hall.time) NoPeer hall, tt);
+      moves = moves_none g.C.Connections.does c.args.connections.now (LeadsInTurn c.args.rules IsHearing (Unheard hall.time) NoPeer (Unheard hall.time) NoPeer hall hall) (leads_none c.args.rules (Unheard hall.time) NoPeer hall, tt, tt);
     }
 
 -- nobody waits
@@ -24,7 +24,7 @@ returns-then-not-accept-clause-moves g c =
     let start = c.args.self.now in
     let hall = c.loop-alloc.self in
     let now = start.time in
-    moves_event g.C.Connections.does c.args.connections.now c.loop-alloc.connections c.accept.new.self NoneOpened (LeadsInTurn c.args.rules (Unheard now) NoPeer (Unheard now) NoPeer start hall) (Admits c.args.rules start hall)
+    moves_event g.C.Connections.does c.args.connections.now c.loop-alloc.connections c.accept.new.self NoneOpened (LeadsInTurn c.args.rules IsHearing (Unheard now) NoPeer (Unheard now) NoPeer start hall) (Admits c.args.rules start hall)
     (λ first so. admits_nobody c.args.rules start hall first c.loop-alloc.invariant.time so)
     c.loop-alloc.invariant.moves
     (subst (λ (b : Bool). g.C.Connections.does c.loop-alloc.connections (cond b (Opened hall.opened) NoneOpened) c.accept.new.self) c.if-not-accept.true c.accept.ensures)
@@ -35,7 +35,7 @@ returns-clause-moves g c =
     let start = c.args.self.now in
     let hall = c.loop-alloc.self in
     let now = start.time in
-    moves_as g.C.Connections.does c.args.connections.now c.loop-alloc.connections (LeadsInTurn c.args.rules (Unheard now) NoPeer (Unheard now) NoPeer start hall) (Admits c.args.rules start hall)
+    moves_as g.C.Connections.does c.args.connections.now c.loop-alloc.connections (LeadsInTurn c.args.rules IsHearing (Unheard now) NoPeer (Unheard now) NoPeer start hall) (Admits c.args.rules start hall)
     (λ steps so. admits_enough c.args.rules start hall steps so (c.may_accept.ensures.enough c.loop-alloc-test.false)) c.loop-alloc.invariant.moves
 
 pub push_reserved-requires : goal.push_reserved-requires
@@ -65,9 +65,9 @@ loop-alloc-preserved-in-Ok g c =
       };
       first = c.loop-alloc.invariant.first;
       time = c.loop-alloc.invariant.time;
-      moves = moves_event g.C.Connections.does c.args.connections.now c.loop-alloc.connections c.accept.new.self (Opened old.opened) (LeadsInTurn rules (Unheard now) NoPeer (Unheard now) NoPeer start old) (LeadsInTurn rules (Unheard now) NoPeer (Unheard now) NoPeer start new)
-          (λ first so. leads_in_turn rules (Unheard now) NoPeer (Unheard now) NoPeer (Unheard now) NoPeer start old new first _ so
-          (leads_coming rules now old new peer (sym c.loop-alloc.invariant.time) seats (c.may_accept.ensures.more c.loop-alloc-test.true) c.in-Ok.ensures c.push_reserved.ensures.items refl refl refl, calm_opened old.opened))
+      moves = moves_event g.C.Connections.does c.args.connections.now c.loop-alloc.connections c.accept.new.self (Opened old.opened) (LeadsInTurn rules IsHearing (Unheard now) NoPeer (Unheard now) NoPeer start old) (LeadsInTurn rules IsHearing (Unheard now) NoPeer (Unheard now) NoPeer start new)
+          (λ first so. leads_in_turn rules IsHearing (Unheard now) NoPeer (Unheard now) NoPeer (Unheard now) NoPeer start old new first _ so
+          (leads_coming rules now old new peer (sym c.loop-alloc.invariant.time) seats (c.may_accept.ensures.more c.loop-alloc-test.true) c.in-Ok.ensures c.push_reserved.ensures.items refl refl refl, calm_opened old.opened, (tt, tt)))
           c.loop-alloc.invariant.moves
           (subst (λ (b : Bool). g.C.Connections.does c.loop-alloc.connections (cond b (Opened old.opened) NoneOpened) c.accept.new.self) c.if-not-accept.false c.accept.ensures);
     }
@@ -88,9 +88,9 @@ loop-alloc-preserved g c =
       first = c.loop-alloc.invariant.first;
       time = c.loop-alloc.invariant.time;
       moves = moves_events g.C.Connections.does c.args.connections.now c.loop-alloc.connections c.accept.new.self c.close.new.self (Opened old.opened) (Closed old.opened departures.Memory)
-          (LeadsInTurn rules (Unheard now) NoPeer (Unheard now) NoPeer start old) (LeadsInTurn rules (Unheard now) NoPeer (Unheard now) NoPeer start new)
-          (λ first so. leads_in_turn rules (Unheard now) NoPeer (Unheard now) NoPeer (Unheard now) NoPeer start old new first _ so
-          (leads_failing rules now old new (sym c.loop-alloc.invariant.time) seats (c.may_accept.ensures.more c.loop-alloc-test.true) refl refl refl refl, calm_failed old.opened))
+          (LeadsInTurn rules IsHearing (Unheard now) NoPeer (Unheard now) NoPeer start old) (LeadsInTurn rules IsHearing (Unheard now) NoPeer (Unheard now) NoPeer start new)
+          (λ first so. leads_in_turn rules IsHearing (Unheard now) NoPeer (Unheard now) NoPeer (Unheard now) NoPeer start old new first _ so
+          (leads_failing rules now old new (sym c.loop-alloc.invariant.time) seats (c.may_accept.ensures.more c.loop-alloc-test.true) refl refl refl refl, calm_failed old.opened, (tt, (tt, tt))))
           c.loop-alloc.invariant.moves
           (subst (λ (b : Bool). g.C.Connections.does c.loop-alloc.connections (cond b (Opened old.opened) NoneOpened) c.accept.new.self) c.if-not-accept.false c.accept.ensures) c.close.ensures;
     }

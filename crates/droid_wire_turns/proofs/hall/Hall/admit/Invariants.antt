@@ -1,5 +1,6 @@
 use Rattle.std.specs.Prelude.{◌≡◌, ◌-◌, []}
 use Rattle.droid_wire_turns.specs.Halls.{HasRooms, LeadsInTurn, NoPeer, Unheard}
+use Rattle.droid_wire_turns.specs.Peers.{IsHearing}
 use Rattle.droid_wire_turns.specs.Steps.{Moves}
 use Rattle.droid_wire_turns.proofs.hall.Hall.admit.Given as goal
 
@@ -8,7 +9,7 @@ invariant-loop-alloc g l = record {
   rooms : HasRooms l.rules.seats l.self;
   first : l.self.served.items ≡ [];
   time : l.self.time ≡ l.fn.self.time;
-  moves : Moves g.C.Connections.does l.fn.connections l.connections (LeadsInTurn l.rules (Unheard l.fn.self.time) NoPeer (Unheard l.fn.self.time) NoPeer l.fn.self l.self);
+  moves : Moves g.C.Connections.does l.fn.connections l.connections (LeadsInTurn l.rules IsHearing (Unheard l.fn.self.time) NoPeer (Unheard l.fn.self.time) NoPeer l.fn.self l.self);
 }
 
 abbrev pub decreases-loop-alloc : goal.decreases-loop-alloc

@@ -2,7 +2,7 @@ use Rattle.std.proofs.Common.{◌∷◌, [], List, length, length-append, ap, re
 use Rattle.std.specs.List.{AllByRecursion}
 use Rattle.std.proofs.lemmas.List.{nil_from_length}
 use Rattle.droid_wire_turns.specs.Halls.{Heard, LeadsInTurn, NoPeer, Unheard}
-use Rattle.droid_wire_turns.specs.Peers.{Hears, IsWhole}
+use Rattle.droid_wire_turns.specs.Peers.{Hears, IsHearing, IsWhole}
 use Rattle.droid_wire_turns.specs.declared.peer.Peer.{Peer}
 use Rattle.droid_wire_turns.proofs.Moments.{all_both, all_first, all_last, goes_as, goes_both, goes_none}
 use Rattle.droid_wire_turns.proofs.HallSteps.{emptied_waiting, leads_hearing, leads_in_turn, leads_none}
@@ -17,7 +17,7 @@ loop-peer-init g c =
       rooms = record { waiting = rooms.waiting; served = rooms.served; places = rooms.places; whole_waiting = rooms.whole_waiting; whole_served = rooms.whole_served };
       time = refl;
       opened = refl;
-      goes = λ rules. goes_none g.C.Connections.does g.H.Handler.handles c.args.connections.now c.args.handler.now (LeadsInTurn rules (Unheard hall.time) (Heard hall.time) (Unheard hall.time) (Heard hall.time) hall hall) (leads_none rules (Unheard hall.time) (Heard hall.time) hall, tt);
+      goes = λ rules. goes_none g.C.Connections.does g.H.Handler.handles g.H.Handler.settles c.args.connections.now c.args.handler.now (LeadsInTurn rules IsHearing (Unheard hall.time) (Heard hall.time) (Unheard hall.time) (Heard hall.time) hall hall) (leads_none rules (Unheard hall.time) (Heard hall.time) hall, tt, tt);
     }
 
 pub hear-requires : goal.hear-requires
@@ -55,10 +55,10 @@ loop-peer-preserved g c =
       };
       time = c.loop-peer.invariant.time;
       opened = c.loop-peer.invariant.opened;
-      goes = λ rules. goes_both g.C.Connections.does g.H.Handler.handles c.args.connections.now c.loop-peer.connections c.hear.new.connections c.args.handler.now c.loop-peer.handler c.hear.new.handler
-          (LeadsInTurn rules (Unheard now) (Heard now) (Unheard now) (Heard now) start old) (Hears old.time peer it) (LeadsInTurn rules (Unheard now) (Heard now) (Unheard now) (Heard now) start new)
-          (λ first later so hears. leads_in_turn rules (Unheard now) (Heard now) (Unheard now) (Heard now) (Unheard now) (Heard now) start old new first later so
-          (leads_hearing rules now old new peer it rest later (sym c.loop-peer.invariant.time) c.in-Some.ensures.items refl c.push_reserved.ensures.items refl refl c.hear.ensures.id hears, calm peer.id later hears.goes.own))
+      goes = λ rules. goes_both g.C.Connections.does g.H.Handler.handles g.H.Handler.settles c.args.connections.now c.loop-peer.connections c.hear.new.connections c.args.handler.now c.loop-peer.handler c.hear.new.handler
+          (LeadsInTurn rules IsHearing (Unheard now) (Heard now) (Unheard now) (Heard now) start old) (Hears old.time peer it) (LeadsInTurn rules IsHearing (Unheard now) (Heard now) (Unheard now) (Heard now) start new)
+          (λ first later so hears. leads_in_turn rules IsHearing (Unheard now) (Heard now) (Unheard now) (Heard now) (Unheard now) (Heard now) start old new first later so
+          (leads_hearing rules now old new peer it rest later (sym c.loop-peer.invariant.time) c.in-Some.ensures.items refl c.push_reserved.ensures.items refl refl c.hear.ensures.id hears, calm peer.id later hears.goes.own, hears.turns.hearing))
           (c.loop-peer.invariant.goes rules) c.hear.ensures.hears;
     }
 
@@ -70,5 +70,5 @@ returns-clause-goes g c = λ rules.
     let new = record old { waiting = c.pop.new.self } in
     let was = nil_from_length old.waiting.items (omega (arith, c.in_default.ensures.cases.0, old.waiting.ok.0)) in
     let is = nil_from_length c.pop.new.self.items (omega (arith, c.in_default.ensures.cases.1, c.pop.new.self.ok.0)) in
-    goes_as g.C.Connections.does g.H.Handler.handles c.args.connections.now c.loop-peer.connections c.args.handler.now c.loop-peer.handler (LeadsInTurn rules (Unheard now) (Heard now) (Unheard now) (Heard now) start old) (LeadsInTurn rules (Unheard now) (Heard now) NoPeer (Heard now) start new)
-    (λ steps leads. (emptied_waiting rules (Unheard now) (Heard now) (Unheard now) (Heard now) start old new steps was is refl refl refl leads.0, leads.1)) (c.loop-peer.invariant.goes rules)
+    goes_as g.C.Connections.does g.H.Handler.handles g.H.Handler.settles c.args.connections.now c.loop-peer.connections c.args.handler.now c.loop-peer.handler (LeadsInTurn rules IsHearing (Unheard now) (Heard now) (Unheard now) (Heard now) start old) (LeadsInTurn rules IsHearing (Unheard now) (Heard now) NoPeer (Heard now) start new)
+    (λ steps leads. (emptied_waiting rules (Unheard now) (Heard now) (Unheard now) (Heard now) start old new steps was is refl refl refl leads.0, leads.1, leads.2)) (c.loop-peer.invariant.goes rules)

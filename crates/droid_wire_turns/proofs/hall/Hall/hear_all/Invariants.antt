@@ -1,5 +1,6 @@
 use Rattle.std.specs.Prelude.{◌≡◌, length}
 use Rattle.droid_wire_turns.specs.Halls.{HasRooms, Heard, LeadsInTurn, Unheard}
+use Rattle.droid_wire_turns.specs.Peers.{IsHearing}
 use Rattle.droid_wire_turns.specs.Steps.{Goes}
 use Rattle.droid_wire_turns.specs.declared.rules.Rules.{Rules}
 use Rattle.droid_wire_turns.proofs.hall.Hall.hear_all.Given as goal
@@ -9,8 +10,8 @@ invariant-loop-peer g l = record {
   rooms : HasRooms l.seats l.self;
   time : l.self.time ≡ l.fn.self.time;
   opened : l.self.opened ≡ l.fn.self.opened;
-  goes : (rules : Rules) → Goes g.C.Connections.does g.H.Handler.handles l.fn.connections l.fn.handler l.connections l.handler
-      (LeadsInTurn rules (Unheard l.fn.self.time) (Heard l.fn.self.time) (Unheard l.fn.self.time) (Heard l.fn.self.time) l.fn.self l.self);
+  goes : (rules : Rules) → Goes g.C.Connections.does g.H.Handler.handles g.H.Handler.settles l.fn.connections l.fn.handler l.connections l.handler
+      (LeadsInTurn rules IsHearing (Unheard l.fn.self.time) (Heard l.fn.self.time) (Unheard l.fn.self.time) (Heard l.fn.self.time) l.fn.self l.self);
 }
 
 abbrev pub decreases-loop-peer : goal.decreases-loop-peer

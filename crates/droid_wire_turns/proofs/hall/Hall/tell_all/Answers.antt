@@ -2,13 +2,14 @@ use Rattle.std.proofs.Common.{◌∷◌, [], ℕ, List, length, length-append, a
 use Rattle.std.specs.List.{AllByRecursion}
 use Rattle.std.proofs.lemmas.List.{nil_from_length}
 use Rattle.droid_wire_turns.specs.Events.{Closed}
-use Rattle.droid_wire_turns.specs.Halls.{Heard, LeadsInTurn, NoPeer, Served}
+use Rattle.droid_wire_turns.specs.Halls.{Heard, IsTelling, LeadsInTurn, NoPeer, Served}
 use Rattle.droid_wire_turns.specs.Peers.{Departs, IsQuiet, IsWhole, Stays}
 use Rattle.droid_wire_turns.specs.Steps.{Moves, Step}
 use Rattle.droid_wire_turns.specs.declared.peer.Peer.{Peer}
 use Rattle.droid_wire_turns.proofs.Moments.{all_both, all_first, all_last, moves_as, moves_both, moves_none}
 use Rattle.droid_wire_turns.proofs.HallSteps.{closing_moves, emptied_served, leads_in_turn, leads_none, leads_telling}
 use Rattle.droid_wire_turns.proofs.OwnSteps.{calm}
+use Rattle.droid_wire_turns.proofs.Settling.{telling}
 use Rattle.droid_wire_turns.proofs.hall.Hall.tell_all.Goals as goal
 
 pub loop-peer-init : goal.loop-peer-init
@@ -18,7 +19,7 @@ loop-peer-init g c =
       rooms = c.requires.rooms;
       time = refl;
       opened = refl;
-      moves = λ rules same. moves_none g.C.Connections.does c.args.connections.now (LeadsInTurn rules (Served rules.idle hall.time) (Heard hall.time) (Served rules.idle hall.time) (Heard hall.time) hall hall) (leads_none rules (Served rules.idle hall.time) (Heard hall.time) hall, tt);
+      moves = λ rules same. moves_none g.C.Connections.does c.args.connections.now (LeadsInTurn rules IsTelling (Served rules.idle hall.time) (Heard hall.time) (Served rules.idle hall.time) (Heard hall.time) hall hall) (leads_none rules (Served rules.idle hall.time) (Heard hall.time) hall, tt, tt);
     }
 
 pub tell-requires : goal.tell-requires
@@ -55,13 +56,14 @@ loop-peer-preserved-in-None g c =
       time = c.loop-peer.invariant.time;
       opened = c.loop-peer.invariant.opened;
       moves = λ rules same. moves_both g.C.Connections.does c.args.connections.now c.loop-peer.connections c.tell.new.connections
-          (LeadsInTurn rules (Served rules.idle now) (Heard now) (Served rules.idle now) (Heard now) start old) (λ (steps : List Step). Stays c.args.idle old.time peer it steps × IsQuiet peer.id steps)
-          (LeadsInTurn rules (Served rules.idle now) (Heard now) (Served rules.idle now) (Heard now) start new)
-          (λ first later so tells. leads_in_turn rules (Served rules.idle now) (Heard now) (Served rules.idle now) (Heard now) (Served rules.idle now) (Heard now) start old new first later so (
+          (LeadsInTurn rules IsTelling (Served rules.idle now) (Heard now) (Served rules.idle now) (Heard now) start old) (λ (steps : List Step). Stays c.args.idle old.time peer it steps × IsQuiet peer.id steps)
+          (LeadsInTurn rules IsTelling (Served rules.idle now) (Heard now) (Served rules.idle now) (Heard now) start new)
+          (λ first later so tells. leads_in_turn rules IsTelling (Served rules.idle now) (Heard now) (Served rules.idle now) (Heard now) (Served rules.idle now) (Heard now) start old new first later so (
             leads_telling rules now old new peer it rest later (sym c.loop-peer.invariant.time) c.in-Some.ensures.items refl c.push_reserved.ensures.items refl refl
                 (record { id = c.tell.ensures.id; drained = c.tell.ensures.drained; leaving = c.tell.ensures.leaving; room = c.tell.ensures.room; held = c.tell.ensures.held })
                 (subst (λ (n : ℕ). Stays n old.time peer it later) (sym same) tells.0) tells.1,
             calm peer.id later tells.0.goes.own,
+            telling peer.id later tells.0.goes.own tells.1.nothing_handled,
           ))
           (c.loop-peer.invariant.moves rules same) c.in-None.ensures.tells;
     }
@@ -102,5 +104,5 @@ returns-clause-moves g c = λ rules same.
     let new = record old { served = c.pop.new.self } in
     let was = nil_from_length old.served.items (omega (arith, c.in_default.ensures.cases.0, old.served.ok.0)) in
     let is = nil_from_length c.pop.new.self.items (omega (arith, c.in_default.ensures.cases.1, c.pop.new.self.ok.0)) in
-    moves_as g.C.Connections.does c.args.connections.now c.loop-peer.connections (LeadsInTurn rules (Served rules.idle now) (Heard now) (Served rules.idle now) (Heard now) start old) (LeadsInTurn rules (Served rules.idle now) (Heard now) (Served rules.idle now) NoPeer start new)
-    (λ steps leads. (emptied_served rules (Served rules.idle now) (Heard now) (Served rules.idle now) (Heard now) start old new steps was is refl refl refl leads.0, leads.1)) (c.loop-peer.invariant.moves rules same)
+    moves_as g.C.Connections.does c.args.connections.now c.loop-peer.connections (LeadsInTurn rules IsTelling (Served rules.idle now) (Heard now) (Served rules.idle now) (Heard now) start old) (LeadsInTurn rules IsTelling (Served rules.idle now) (Heard now) (Served rules.idle now) NoPeer start new)
+    (λ steps leads. (emptied_served rules (Served rules.idle now) (Heard now) (Served rules.idle now) (Heard now) start old new steps was is refl refl refl leads.0, leads.1, leads.2)) (c.loop-peer.invariant.moves rules same)

@@ -13,7 +13,7 @@ loop-init g c = record {
   whole = c.requires.whole;
   id = refl;
   awake = c.requires.awake;
-  goes = goes_none g.C.Connections.does g.H.Handler.handles c.args.connections.now c.args.handler.now (HearsSo c.args.now c.args.self.now c.args.self.now 0) (hears_none c.args.now c.args.self.now c.requires.room);
+  goes = goes_none g.C.Connections.does g.H.Handler.handles g.H.Handler.settles c.args.connections.now c.args.handler.now (HearsSo c.args.now c.args.self.now c.args.self.now 0) (hears_none c.args.now c.args.self.now c.requires.room);
 }
 
 -- it may not be read any more
@@ -21,7 +21,7 @@ pub returns-then-not-may_be_read-clause-hears : goal.returns-then-not-may_be_rea
 returns-then-not-may_be_read-clause-hears g c =
     let start = c.args.self.now in
     let now = c.loop.self in
-    goes_as g.C.Connections.does g.H.Handler.handles c.args.connections.now c.loop.connections c.args.handler.now c.loop.handler (HearsSo c.args.now start now c.loop.counter) (Hears c.args.now start now)
+    goes_as g.C.Connections.does g.H.Handler.handles g.H.Handler.settles c.args.connections.now c.loop.connections c.args.handler.now c.loop.handler (HearsSo c.args.now start now c.loop.counter) (Hears c.args.now start now)
     (λ steps so. record {
       goes = so.goes;
       count = c.loop.counter;
@@ -37,7 +37,7 @@ returns-in_default-clause-hears g c =
     let start = c.args.self.now in
     let old = c.loop.self in
     let new = c.next_frame.new.self in
-    goes_both g.C.Connections.does g.H.Handler.handles c.args.connections.now c.loop.connections c.next_frame.new.connections c.args.handler.now c.loop.handler c.loop.handler
+    goes_both g.C.Connections.does g.H.Handler.handles g.H.Handler.settles c.args.connections.now c.loop.connections c.next_frame.new.connections c.args.handler.now c.loop.handler c.loop.handler
     (HearsSo c.args.now start old c.loop.counter) _ (Hears c.args.now start new)
     (λ first later so more.
     let all : HearsSo c.args.now start new c.loop.counter (first ++ later) = hears_end c.args.now start old new c.loop.counter first later c.loop.invariant.id so more.0 more.1 in
@@ -48,7 +48,7 @@ returns-in_default-clause-hears g c =
       turns = all.turns;
       dry = λ is. let dry = more.2 is in record { nothing = happened_last (Read new.id []) first later dry.nothing; no_frame = dry.no_frame };
       rests = c.in_default.ensures.rests c.loop.counter;
-    }) c.loop.invariant.goes (goes_moving g.C.Connections.does g.H.Handler.handles c.loop.connections c.next_frame.new.connections c.loop.handler _ c.in_default.ensures.moves)
+    }) c.loop.invariant.goes (goes_moving g.C.Connections.does g.H.Handler.handles g.H.Handler.settles c.loop.connections c.next_frame.new.connections c.loop.handler _ c.in_default.ensures.moves)
 
 pub loop-preserved : goal.loop-preserved
 loop-preserved g c =
@@ -63,13 +63,13 @@ loop-preserved g c =
       whole = c.answer.ensures.whole;
       id = c.answer.ensures.id ∙ own;
       awake = c.answer.ensures.drained ∙ c.in-Some.ensures.awake;
-      goes = goes_both g.C.Connections.does g.H.Handler.handles c.args.connections.now c.loop.connections c.next_frame.new.connections c.args.handler.now c.loop.handler c.answer.new.handler
+      goes = goes_both g.C.Connections.does g.H.Handler.handles g.H.Handler.settles c.args.connections.now c.loop.connections c.next_frame.new.connections c.args.handler.now c.loop.handler c.answer.new.handler
           (HearsSo c.args.now start old c.loop.counter) (AnswersOne c.args.now start old middle frame reply) (HearsSo c.args.now start new (c.loop.counter + 1))
           (λ first later so more. subst (HearsSo c.args.now start new (c.loop.counter + 1)) (ap (λ (l : List Step). first ++ l) (sym more.parts))
           (hears_more c.args.now start old middle new c.loop.counter frame reply first more.came c.loop.invariant.id c.next_frame.ensures.id so more.lending more.turns c.answer.ensures.room
           (λ steps lends. c.answer.ensures.answers.2 c.args.now steps lends)))
           c.loop.invariant.goes
-          (answers_after g.C.Connections.does g.H.Handler.handles c.args.now start old middle frame reply c.loop.connections c.next_frame.new.connections c.loop.handler c.answer.new.handler
+          (answers_after g.C.Connections.does g.H.Handler.handles g.H.Handler.settles c.args.now start old middle frame reply c.loop.connections c.next_frame.new.connections c.loop.handler c.answer.new.handler
           (moves_as g.C.Connections.does c.loop.connections c.next_frame.new.connections _ (CameOne c.args.now old middle frame) (λ steps all. record { lending = all.0; turns = all.1 }) c.in-Some.ensures.moves) c.answer.ensures.answers.1);
     }
 
@@ -79,7 +79,7 @@ returns-clause-hears g c =
     let start = c.args.self.now in
     let now = c.loop.self in
     let all : c.loop.counter ≡ 16 = omega arith in
-    goes_as g.C.Connections.does g.H.Handler.handles c.args.connections.now c.loop.connections c.args.handler.now c.loop.handler (HearsSo c.args.now start now c.loop.counter) (Hears c.args.now start now)
+    goes_as g.C.Connections.does g.H.Handler.handles g.H.Handler.settles c.args.connections.now c.loop.connections c.args.handler.now c.loop.handler (HearsSo c.args.now start now c.loop.counter) (Hears c.args.now start now)
     (λ steps so. record {
       goes = so.goes;
       count = c.loop.counter;

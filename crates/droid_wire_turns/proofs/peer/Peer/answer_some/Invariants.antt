@@ -8,5 +8,5 @@ invariant-loop g l = record {
   whole : IsWhole l.self;
   id : l.self.id ≡ l.fn.self.id;
   awake : l.self.drained ≡ false;
-  goes : Goes g.C.Connections.does g.H.Handler.handles l.fn.connections l.fn.handler l.connections l.handler (HearsSo l.now l.fn.self l.self l.counter);
+  goes : Goes g.C.Connections.does g.H.Handler.handles g.H.Handler.settles l.fn.connections l.fn.handler l.connections l.handler (HearsSo l.now l.fn.self l.self l.counter);
 }

@@ -89,7 +89,7 @@ returns-in-End-clause-moves g c =
     let new = record old { buffer = c.read_into.new.buffer; leaving = Some why } in
     moves_one g.C.Connections.does c.args.connections.now c.read_into.new.connections (Ended old.id) _ c.in-End.ensures.came (
       reads_end old new c.args.now why c.requires.stays c.requires.none c.end_of.ensures refl refl refl,
-      turns_still old.id old.room (Happens (Ended old.id)) refl refl,
+      turns_still old.id old.room (Happens (Ended old.id)) refl refl tt,
       λ is. absurd (false≢true (sym c.requires.awake ∙ is)),
     )
 
@@ -108,7 +108,7 @@ returns-in-Broken-clause-moves g c =
     let new = record old { buffer = c.read_into.new.buffer; leaving = Some (departures.Frame faults.Read) } in
     moves_one g.C.Connections.does c.args.connections.now c.read_into.new.connections (Unread old.id) _ c.in-Broken.ensures.came (
       reads_broken old new c.args.now c.requires.stays c.requires.none refl refl refl,
-      turns_still old.id old.room (Happens (Unread old.id)) refl refl,
+      turns_still old.id old.room (Happens (Unread old.id)) refl refl tt,
       λ is. absurd (false≢true (sym c.requires.awake ∙ is)),
     )
 

@@ -1,5 +1,5 @@
 use Rattle.std.proofs.Common.{refl, sym, ap, subst, ◌∙◌}
-use Rattle.droid_xml.specs.Documents.{Place, next_at}
+use Rattle.droid_xml.specs.Documents.{next_at}
 use Rattle.droid_xml.specs.Nestings.{Nesting}
 use Rattle.droid_xml.specs.Outcomes.{Fails}
 use Rattle.droid_xml.specs.Views.{nesting, part, place}

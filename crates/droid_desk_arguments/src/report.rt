@@ -1,0 +1,64 @@
+//! The command `report`: its options, and what they ask for.
+
+ghost use Rattle.std.specs.Prelude.{◌≡◌, IfOk, IfSome, codes, false};
+ghost use Rattle.clap.specs.Words.{app_of, found_of, rows_of};
+ghost use Rattle.clap.specs.declared.builder.command.Command.TheViews.{out-Command};
+ghost use Rattle.droid_desk_arguments.specs.Asking.{IsAskedBy, IsReport};
+ghost use Rattle.droid_desk_arguments.specs.Commands.{report_command};
+
+use crate::arguments::Asked;
+use crate::profile::{OUTPUT, PROFILE};
+use crate::report_help::{
+    PAGE_OUTPUT_HELP, PROFILE_FILE_HELP, REPORT_ABOUT, REPORT_HELP, TITLE_HELP,
+};
+use clap::{ArgMatches, Command};
+use droid_desk_options::{named, word};
+use std::alloc::{AllocError, Global};
+
+// The names of the command and of its option.
+pub(crate) const REPORT: &str = "report";
+
+const TITLE: &str = "title";
+
+/// The profile to make a page of, and how.
+#[derive(Clone, Copy)]
+pub struct ReportOptions<'a> {
+    /// The path of the profile's CSV.
+    pub profile: &'a str,
+    /// The page's title, or `None` for the name of the CSV.
+    pub title: Option<&'a str>,
+    /// The path of the page, or `None` for standard output.
+    pub output: Option<&'a str>,
+}
+
+pub(crate) fn report_asked<'a>(report: &ArgMatches<'a>) -> Option<Asked<'a>>
+    ensures { IfSome result (λ asked. IsAskedBy (codes "report") (rows_of (found_of report.now)) asked) }
+{
+    let options = report_options(report)?;
+    Some(Asked::Report(options))
+}
+
+fn report_options<'a>(report: &ArgMatches<'a>) -> Option<ReportOptions<'a>>
+    ensures { IfSome result (IsReport (rows_of (found_of report.now))) }
+{
+    let profile = report.get_str(PROFILE)?;
+    let title = report.get_str(TITLE);
+    let output = report.get_str(OUTPUT);
+    Some(ReportOptions {
+        profile,
+        title,
+        output,
+    })
+}
+
+pub(crate) fn report<'a>(alloc: Global) -> Result<Command<'a>, AllocError>
+    ensures shape { IfOk result (λ c. app_of c ≡ report_command) }
+    ensures local { IfOk result (λ c. (out-Command c).has_globals ≡ false) }
+{
+    Command::new(alloc, REPORT)
+        .about(REPORT_ABOUT)
+        .after_help(REPORT_HELP)
+        .arg(word(alloc, PROFILE, "PROFILE", PROFILE_FILE_HELP))?
+        .arg(named(alloc, TITLE, "TEXT", TITLE_HELP))?
+        .arg(named(alloc, OUTPUT, "PAGE", PAGE_OUTPUT_HELP))
+}

@@ -1,0 +1,65 @@
+//! Help texts of `verify`.
+
+pub const VERIFY_ABOUT: &str =
+    "Compare a folder of this machine with a list of its files, and write what differs as a CSV";
+
+pub const VERIFY_FOLDER_HELP: &str = "The folder to compare: everything inside it";
+
+pub const AGAINST_HELP: &str =
+    "Compare with this file: the CSV of `profile` or of `submit --export`, or a list of checksums";
+
+pub const QUICK_HELP: &str = "Compare sizes and moments alone, and read no file";
+
+pub const IDENTIFY_HELP: &str =
+    "Identify each file too, and compare its formats with those of FILE; not together with --quick";
+
+pub const OWN_EVERYDAY_HELP: &str =
+    "Identify files by the built-in registry of everyday formats, as without --registry";
+
+pub const VERIFY_HELP: &str = "\
+FILE is the CSV of `profile` or of `submit --export`, with any of the three hash columns, or a list as
+`md5sum` and `sha256sum` write it, with paths below DIR. If DIR is a bag (it has a bagit.txt) and the
+first line of FILE names a file below `data`, FILE is the bag's manifest, and the folder `data` of DIR
+is compared. Which of these FILE is, is seen from its first line; all of it is read before DIR is.
+
+Standard output gets a CSV: a header, and a row for each difference, in the order of the paths.
+
+  changed     the file has another hash or size, or one of both is a folder
+  missing     DIR does not have the path
+  new         FILE does not have the path
+  moved       one missing file is one new file: no other missing or new file has their hash and size
+  format      the file has other formats than FILE says; only with --identify
+  unreadable  something could not be opened or read, or changed meanwhile, or can't be in a profile:
+              its name is not UTF-8, say. What FILE has below an unreadable folder is not missing
+
+`path` is the path below DIR and begins with `/`; `size`, `hash` and `formats` are those of FILE,
+`found_path`, `found_size`, `found_hash` and `found_formats` those of DIR, and `reason` says why
+something is unreadable. Formats are identifiers (PUIDs) with a space between two, in rows of `format`
+alone. Sizes are compared where FILE has them, and moments only with --quick. A list of checksums
+names files alone, so folders are then not compared; it has no sizes, so with --quick only the names
+of files are; and it has no formats, so --identify needs a CSV.
+
+Symbolic links below DIR are never followed, and count as if they were not there. Standard error has
+what was skipped, the progress, and a summary at the end: how many files and bytes were compared, and
+how many differences of each kind there are.
+
+Exit status:
+
+  0  nothing differs
+  2  the command line is wrong
+  3  FILE could not be opened or read (Open), is neither a profile nor a list of checksums (List), or
+     has no formats to compare (Formats); the registry file could not be opened or read, or is not a
+     registry
+  4  DIR is not a folder (Folder); the CSV could not be written (Write); there are more than
+     4,294,967,295 folders and files (Numbers); a path was found twice (Twice); or memory ran out
+     (Memory)
+  5  something differs, or could not be read
+  6  there was no memory for the command line
+
+If several apply: the first of 2, 6, 3 for the registry, 4 for DIR, 3, 4, 5. With 3, 4 and 6 standard
+error says what happened and what to do.
+
+Example:
+
+  droid_desk profile --output deposit.csv deposit
+  droid_desk verify deposit --against deposit.csv";

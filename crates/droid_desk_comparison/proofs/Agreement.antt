@@ -1,0 +1,70 @@
+-- A tree and the export of its records.
+use Rattle.std.proofs.Common.{◌≡◌, ◌∙◌, Bool, true, false, List, [], ◌∷◌, ◌++◌, Result, Ok, refl, ap, subst}
+use Rattle.std.specs.List.{flat_map}
+use Rattle.std.specs.Prelude.{IsPermutation, if◌then◌else◌}
+use Rattle.std.proofs.lemmas.List.Sorted.{IsPermutation-refl, IsPermutation-trans}
+use Rattle.droid_desk_profile.specs.Csv.{joined, line, quoted}
+use Rattle.droid_desk_profile.specs.Filters.{is_file}
+use Rattle.droid_desk_profile.specs.Rows.{Row, header}
+use Rattle.droid_desk_profile.specs.Text.{chosen_rows, row_text, text}
+use Rattle.droid_fixity_forms.specs.Reports.{IsReport}
+use Rattle.droid_fixity_forms.specs.item_types.item.Item.{Item}
+use Rattle.droid_fixity_forms.specs.Profiles.{profile_of}
+use Rattle.droid_fixity_forms.specs.list_types.fault.ListFault.{ListFault}
+use Rattle.droid_fixity_forms.specs.Listings.{IsInventory}
+use Rattle.droid_fixity_profile.specs.Comparisons.{Sees}
+use Rattle.droid_fixity_profile.specs.Exports.{Lists, item_of_record}
+use Rattle.droid_fixity_profile.specs.Exports as exports
+use Rattle.droid_fixity_profile.specs.declared.seen.Seen.{Seen}
+use Rattle.droid_frame.specs.types.filter.Filter.{Filter}
+use Rattle.droid_frame.specs.types.hash_kind.HashKind.{HashKind}
+use Rattle.droid_frame.specs.types.record.Record.{Record}
+use Rattle.droid_desk_profile.specs.Registry.{Contents}
+use Rattle.droid_desk_comparison.specs.CheckedTrees.{items_of, readable_in}
+use Rattle.droid_fixity_forms.specs.ListForms.{form_of, is_profile, manifest_form}
+use Rattle.droid_fixity_forms.specs.Listings.{Says, of_profile}
+use Rattle.droid_fixity_forms.specs.declared.list_form.ListForm.TheVariants.{Profile, Checksum}
+use Rattle.droid_fixity_forms.specs.declared.listed.UnreadList.{UnreadList}
+use Rattle.droid_desk_comparison.specs.declared.tree_check.Checked.{Checked}
+use Rattle.droid_desk_comparison.proofs.ReadableItems.{all_read}
+
+-- ---- the form of an export
+
+is_csv : (hash : HashKind) (rows : List Row) → is_profile (flat_map row_text (header hash ∷ rows)) ≡ true
+unfolding quoted joined line
+is_csv hash rows = refl
+
+pub profile_form : (registry : Contents) (criteria : Filter) (hash : HashKind) (nodes : List Record) (in_bag : Bool) → form_of in_bag (text registry criteria hash nodes) ≡ Profile
+unfolding text
+profile_form registry criteria hash nodes in_bag =
+    ap (λ (b : Bool). if b then Profile else Checksum (manifest_form in_bag (text registry criteria hash nodes))) (is_csv hash (chosen_rows registry criteria nodes))
+
+-- ---- its items are those of the records
+
+one_item : (file : Bool) (shown : Record) → (if file then item_of_record shown ∷ [] else if false then [] else item_of_record shown ∷ []) ≡ item_of_record shown ∷ []
+one_item true shown = refl
+one_item false shown = refl
+
+same_items : (shown : List Record) → items_of false shown ≡ exports.items_of shown
+same_items [] = refl
+same_items (next ∷ shown) = ap (λ (its : List Item). its ++ items_of false shown) (one_item (is_file next.kind) next) ∙ ap (λ (its : List Item). item_of_record next ∷ its) (same_items shown)
+
+one_list : (result : Result (List Item) UnreadList) (items others : List Item) → result ≡ Ok items → result ≡ Ok others → items ≡ others
+one_list result items others is also = cc
+
+module _ (agree : (listed : Result (List Item) ListFault) (items found : List Item) (seen : Seen) → listed ≡ Ok items → IsPermutation items found → Sees listed found (Ok seen) → seen.differences.items ≡ []) where
+  pub no_difference : (bytes : List _) (shown : List Record) (listed : List Item) (checked : Checked) → Lists bytes (exports.items_of shown) → Says Profile bytes (Ok listed)
+      → IsInventory (readable_in [] listed) checked.listed → IsInventory (items_of false shown) checked.found → IsReport checked.listed checked.found checked.differences.items → checked.differences.items ≡ []
+  no_difference bytes shown listed checked lists says readable found report =
+      let items = exports.items_of shown in
+      let comes = says lists.0 lists.1 in
+      let read : comes.0 ≡ items = one_list (of_profile (profile_of lists.0)) comes.0 items comes.1 (ap of_profile lists.2) in
+      let first : IsPermutation items listed = subst (λ (its : List Item). IsPermutation its listed) read comes.2.same in
+      let second : IsPermutation listed checked.listed = subst (λ (its : List Item). IsPermutation its checked.listed) (all_read listed) readable.same in
+      let seen : Seen = record { differences = checked.differences; listed = checked.listed; found = checked.found } in
+      let sees : Sees (profile_of lists.0) items (Ok seen) = (
+        record { items = items; are = lists.2; has = record { same = IsPermutation-trans items listed checked.listed first second; in_order = readable.in_order } },
+        record { same = subst (λ (its : List Item). IsPermutation its checked.found) (same_items shown) found.same; in_order = found.in_order },
+        report,
+      ) in
+      agree (profile_of lists.0) items items seen lists.2 (IsPermutation-refl items) sees

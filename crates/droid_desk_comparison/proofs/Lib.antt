@@ -1,0 +1,9 @@
+mod Agreement
+mod FormatAgreement
+mod Keeping
+mod ListingChecks
+mod Moments
+mod Noting
+mod ReadableItems
+mod Silence
+mod TreeChecks

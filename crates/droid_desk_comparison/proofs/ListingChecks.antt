@@ -1,0 +1,47 @@
+-- A tree that was listed, and then compared.
+use Rattle.std.proofs.Common.{◌≡◌, ◌∙◌, ◌++◌, Bool, List, [], ap, subst}
+use Rattle.droid_fixity_forms.specs.item_types.item.Item.{Item}
+use Rattle.droid_tree.specs.Heard.{Heard}
+use Rattle.droid_tree.specs.Observation.{Observation}
+use Rattle.droid_desk_profile.specs.ProfileRecords.{records_of}
+use Rattle.droid_desk_profile.specs.Profiles.{ProfilesTree}
+use Rattle.droid_desk_profile.specs.Registry.{Contents}
+use Rattle.droid_desk_profile.specs.SkippedPaths.{Records}
+use Rattle.droid_desk_profile.specs.outputs_types.recorder.Recorder.{Recorder}
+use Rattle.droid_desk_profile.specs.profiler_types.profiler.Profiler.{Profiler}
+use Rattle.droid_desk_profile.specs.walk_types.options.Options.{Options}
+use Rattle.droid_desk_comparison.specs.CheckedTrees.{Compares, IsAfterWalk, items_of}
+use Rattle.droid_desk_comparison.specs.KeptItems.{Keeps}
+use Rattle.droid_desk_comparison.specs.ListedTrees.{AfterWalk, ChecksListing, EndsListing, ListsTree}
+use Rattle.droid_desk_comparison.specs.NotedFiles.{NotesFiles}
+use Rattle.droid_desk_comparison.specs.declared.item_keeper.ItemKeeper.{ItemKeeper}
+use Rattle.droid_desk_comparison.specs.declared.noted_files.NotedFiles.{NotedFiles}
+use Rattle.droid_desk_comparison.specs.declared.tree_check.CheckFault.{CheckFault}
+use Rattle.droid_desk_comparison.specs.declared.tree_check.Checked.{Checked}
+use Rattle.droid_desk_comparison.proofs.Keeping.{all_recorded, found_items}
+
+module _ {T W : Type 0} (observes : T → Observation → T → Type 0) (hears : W → Heard → W → Type 0) (registry : Contents) (options : Options) (files_only whole : Bool)
+    (old new : Profiler (NotedFiles T) (Recorder W) ItemKeeper) (begun kept : ItemKeeper) (noted : NotedFiles T) (walked : Recorder W) (only : begun.files_only ≡ files_only) (none : begun.items.items ≡ [])
+    (profiled : ProfilesTree (NotesFiles observes) (Records hears) Keeps registry options whole old.tree noted old.watcher walked begun kept) (same_tree : new.tree.tree ≡ noted.tree) (watched : new.watcher.watcher ≡ walked.watcher)
+    (folders files : List Item) (taken : folders ≡ kept.items.items) (with_files : files ≡ noted.files.items) where
+  lists : ListsTree observes hears registry options files_only old new noted walked
+  lists = record { whole = whole; begun = begun; begins = (only, none); kept = kept; profiled = profiled; same_tree = same_tree; watched = watched }
+
+  items_are : folders ++ files ≡ items_of files_only (records_of registry options profiled.visits) ++ noted.files.items
+  items_are =
+      ap (λ (its : List Item). its ++ files) (taken ∙ found_items files_only (records_of registry options profiled.visits) begun kept profiled.taken only none)
+      ∙ ap (λ (its : List Item). items_of files_only (records_of registry options profiled.visits) ++ its) with_files
+
+  pub checks : (listed : List Item) (checked : Checked) → Compares listed (folders ++ files) checked walked new.watcher → ChecksListing observes hears registry options files_only listed checked old new
+  unfolding lists
+  checks listed checked compares = record {
+    noted = noted;
+    walked = walked;
+    lists = lists;
+    skipped = (all_recorded hears profiled.heard old.watcher walked profiled.informed compares.has_all).1;
+    compares = subst (λ (its : List Item). Compares listed its checked walked new.watcher) items_are compares;
+  }
+
+  pub ends_after : (fault : CheckFault) → IsAfterWalk fault (folders ++ files) → EndsListing observes hears registry options files_only fault old new
+  unfolding lists
+  ends_after fault after = AfterWalk noted walked lists (subst (λ (its : List Item). IsAfterWalk fault its) items_are after)

@@ -1,0 +1,58 @@
+-- What is reported of a tree beside a list, in order of path (this project's own).
+use Rattle.std.specs.Prelude.{◌≡◌, ◌&&◌, ℕ, Bool, true, false, List, [], ◌++◌, filter, map, slice_get, IsPermutation}
+use Rattle.std.specs.Option.{option_map_or}
+use Rattle.std.specs.List.Sorted.{IsSortedBy}
+use Rattle.droid_fixity_formats.specs.declared.format_change.FormatChange.{FormatChange}
+use Rattle.droid_fixity_forms.specs.Inventories.{is_before}
+use Rattle.droid_fixity_forms.specs.Items.{is_file}
+use Rattle.droid_fixity_forms.specs.Reports.{path_of}
+use Rattle.droid_fixity_forms.specs.item_types.difference.Difference.{Difference}
+use Rattle.droid_fixity_forms.specs.item_types.difference.Difference.TheVariants.{Changed, Missing, New, Moved, Touched}
+use Rattle.droid_fixity_forms.specs.item_types.item.Item.{Item}
+use Rattle.droid_desk_profile.specs.outputs_types.skipped_entry.SkippedEntry.{SkippedEntry}
+use Rattle.droid_desk_comparison.specs.declared.finding.Finding.{Finding}
+use Rattle.droid_desk_comparison.specs.declared.finding.Kind.{Kind}
+use Rattle.droid_desk_comparison.specs.declared.finding.Kind.TheVariants.{Differs, Unreadable, Formats}
+
+-- whether the item at this place is a file
+abbrev pub is_file_at : List Item → ℕ → Bool
+is_file_at items place = option_map_or (λ item. is_file item.kind) (slice_get items place) false
+
+-- Another moment alone is no difference where files are read: copies of a folder have other moments. Where they are not
+-- (`quick`), a file with another moment differs; a folder has another moment whenever something in it comes or goes.
+abbrev pub is_reported : Bool → List Item → Difference → Bool
+is_reported quick found (Changed l f changes) = true
+is_reported quick found (Missing l) = true
+is_reported quick found (New f) = true
+is_reported quick found (Moved l f) = true
+is_reported quick found (Touched l f) = quick && is_file_at found f
+
+-- a difference is not reported, or it has another path
+abbrev pub IsSilentAt : Bool → List Item → List Item → List ℕ → Difference → Type 0
+IsSilentAt quick listed found path difference = is_reported quick found difference ≡ true → ¬ (path_of listed found difference ≡ path)
+
+-- what is not about formats
+abbrev pub finding_at : List ℕ → Kind → Finding
+finding_at path kind = record { path = path; kind = kind; formats = []; found_formats = [] }
+
+-- a difference, at the path of the list, if the list has it
+abbrev pub difference_at : List Item → List Item → Difference → Finding
+difference_at listed found difference = finding_at (path_of listed found difference) (Differs difference)
+
+-- an unreadable entry
+abbrev pub unreadable_at : SkippedEntry → Finding
+unreadable_at entry = finding_at entry.path (Unreadable entry.why)
+
+-- a file with other formats
+abbrev pub format_at : FormatChange → Finding
+format_at change = record { path = change.path; kind = Formats; formats = change.listed; found_formats = change.found }
+
+-- what is reported: the differences, all that is unreadable, and the files with other formats
+abbrev pub findings_in : Bool → List Item → List Item → List Difference → List SkippedEntry → List FormatChange → List Finding
+findings_in quick listed found differences unreadable changes =
+    (map (difference_at listed found) (filter (is_reported quick found) differences) ++ map unreadable_at unreadable) ++ map format_at changes
+
+-- each once, in order of path
+pub record AreFindings (quick : Bool) (listed found : List Item) (differences : List Difference) (unreadable : List SkippedEntry) (changes : List FormatChange) (findings : List Finding) : Type 0 where
+  pub same : IsPermutation (findings_in quick listed found differences unreadable changes) findings
+  pub in_order : IsSortedBy (λ a b. is_before a.path b.path) findings

@@ -1,0 +1,244 @@
+//! What is reported of a tree beside a list.
+
+ghost use Rattle.std.specs.Prelude.{◌≡◌, ◌++◌, [], ◌∷◌, IfOk, OnOk, filter, map};
+ghost use Rattle.std.specs.Ordering.{nat_cmp};
+ghost use Rattle.std.specs.Cmp.Lexicographic.{slice_cmp};
+ghost use Rattle.droid_fixity_forms.specs.Reports.{path_at, path_of};
+ghost use Rattle.droid_desk_comparison.specs.Findings.{AreFindings, difference_at, finding_at, format_at, is_file_at, is_reported, unreadable_at};
+ghost use Rattle.droid_fixity_forms.specs.Items as items;
+
+use crate::tree_check::Checked;
+use droid_desk_profile::SkippedEntry;
+use droid_fixity_formats::FormatChange;
+use droid_fixity_forms::{Difference, Item};
+use droid_frame::{Blob, NodeKind};
+use droid_tree::Skipped;
+use std::alloc::{AllocError, Global};
+use std::cmp::Ordering;
+
+/// What is reported at a path.
+#[derive(Drop)]
+pub struct Finding {
+    /// The path: that of the list, if the list has it.
+    pub path: Blob,
+    /// What is reported.
+    pub kind: Kind,
+    /// The formats that the list gives the file, if they are reported.
+    pub formats: Blob,
+    /// The formats that were found, if they are reported.
+    pub found_formats: Blob,
+}
+
+/// What is reported.
+#[derive(Clone, Copy)]
+pub enum Kind {
+    /// A difference between the list and the tree.
+    Differs(Difference),
+    /// An entry could not be read, for this reason.
+    Unreadable(Skipped),
+    /// A file has other formats than the list gives it.
+    Formats,
+}
+
+/// Returns what is reported, in order of path: the differences, all that is unreadable, and the files with other formats.
+/// Differences of the moment alone are reported only if no file was read (`quick`), and of files.
+pub fn findings_of(
+    alloc: Global,
+    quick: bool,
+    checked: &Checked,
+    unreadable: &[SkippedEntry],
+    changes: &[FormatChange],
+) -> Result<Vec<Finding>, AllocError>
+    ensures { IfOk result (λ findings. AreFindings quick checked.now.listed checked.now.found checked.now.differences.items unreadable.now changes.now findings.items) }
+{
+    let mut findings = Vec::new(alloc);
+    let listed = checked.listed.as_slice();
+    let found = checked.found.as_slice();
+    add_differences(
+        alloc,
+        quick,
+        &mut findings,
+        listed,
+        found,
+        checked.differences.as_slice(),
+    )?;
+    add_unreadable(alloc, &mut findings, unreadable)?;
+    add_changes(alloc, &mut findings, changes)?;
+    findings.sort_unstable_by(|first, second| order_of(first, second));
+    Ok(findings)
+}
+
+/// Compares the paths of two findings.
+fn order_of(first: &Finding, second: &Finding) -> Ordering
+    ensures { result ≡ slice_cmp nat_cmp first.now.path second.now.path }
+{
+    first.path.as_slice().cmp(second.path.as_slice())
+}
+
+/// Appends the differences that are reported.
+fn add_differences(
+    alloc: Global,
+    quick: bool,
+    findings: &mut Vec<Finding>,
+    listed: &[Item],
+    found: &[Item],
+    differences: &[Difference],
+) -> Result<(), AllocError>
+    ensures { OnOk result (findings.new.items ≡ findings.old.items ++ map (difference_at listed.now found.now) (filter (is_reported quick found.now) differences.now)) }
+{
+    for difference in differences {
+        add_difference(alloc, quick, findings, listed, found, *difference)?;
+    }
+    Ok(())
+}
+
+/// Appends a difference, if it is reported.
+fn add_difference(
+    alloc: Global,
+    quick: bool,
+    findings: &mut Vec<Finding>,
+    listed: &[Item],
+    found: &[Item],
+    difference: Difference,
+) -> Result<(), AllocError>
+    ensures { OnOk result (findings.new.items ≡ findings.old.items ++ map (difference_at listed.now found.now) (filter (is_reported quick found.now) (difference ∷ []))) }
+{
+    if is_reported(quick, found, difference) {
+        let finding = finding_of(
+            alloc,
+            path_of(listed, found, difference),
+            Kind::Differs(difference),
+        )?;
+        findings.push(finding)?;
+    }
+    Ok(())
+}
+
+/// Returns a finding that is not about formats.
+fn finding_of(alloc: Global, path: &[u8], kind: Kind) -> Result<Finding, AllocError>
+    ensures { IfOk result (λ finding. finding ≡ finding_at path.now kind) }
+{
+    let path = Blob::copy_of(alloc, path)?;
+    let formats = Blob::copy_of(alloc, &[])?;
+    let found_formats = Blob::copy_of(alloc, &[])?;
+    Ok(Finding {
+        path,
+        kind,
+        formats,
+        found_formats,
+    })
+}
+
+/// Returns whether a difference is reported.
+fn is_reported(quick: bool, found: &[Item], difference: Difference) -> bool
+    ensures { result ≡ is_reported quick found.now difference }
+{
+    match difference {
+        Difference::Changed { .. } => true,
+        Difference::Missing { .. } => true,
+        Difference::New { .. } => true,
+        Difference::Moved { .. } => true,
+        Difference::Touched { found: place, .. } => quick && is_file_at(found, place),
+    }
+}
+
+/// Returns whether the item at this place is a file.
+fn is_file_at(items: &[Item], place: usize) -> bool
+    ensures { result ≡ is_file_at items.now place }
+{
+    match items.get(place) {
+        Some(item) => is_file(item.kind),
+        None => false,
+    }
+}
+
+fn is_file(kind: NodeKind) -> bool
+    ensures { result ≡ items.is_file kind }
+{
+    match kind {
+        NodeKind::File => true,
+        NodeKind::Folder => false,
+    }
+}
+
+/// Appends all that is unreadable.
+fn add_unreadable(
+    alloc: Global,
+    findings: &mut Vec<Finding>,
+    unreadable: &[SkippedEntry],
+) -> Result<(), AllocError>
+    ensures { OnOk result (findings.new.items ≡ findings.old.items ++ map unreadable_at unreadable.now) }
+{
+    for entry in unreadable {
+        add_entry(alloc, findings, entry)?;
+    }
+    Ok(())
+}
+
+fn add_entry(
+    alloc: Global,
+    findings: &mut Vec<Finding>,
+    entry: &SkippedEntry,
+) -> Result<(), AllocError>
+    ensures { OnOk result (findings.new.items ≡ findings.old.items ++ unreadable_at entry.now ∷ []) }
+{
+    let finding = finding_of(alloc, entry.path.as_slice(), Kind::Unreadable(entry.why))?;
+    findings.push(finding)?;
+    Ok(())
+}
+
+/// Appends the files with other formats.
+fn add_changes(
+    alloc: Global,
+    findings: &mut Vec<Finding>,
+    changes: &[FormatChange],
+) -> Result<(), AllocError>
+    ensures { OnOk result (findings.new.items ≡ findings.old.items ++ map format_at changes.now) }
+{
+    for change in changes {
+        add_change(alloc, findings, change)?;
+    }
+    Ok(())
+}
+
+fn add_change(
+    alloc: Global,
+    findings: &mut Vec<Finding>,
+    change: &FormatChange,
+) -> Result<(), AllocError>
+    ensures { OnOk result (findings.new.items ≡ findings.old.items ++ format_at change.now ∷ []) }
+{
+    let path = Blob::copy_of(alloc, change.path.as_slice())?;
+    let formats = Blob::copy_of(alloc, change.listed.as_slice())?;
+    let found_formats = Blob::copy_of(alloc, change.found.as_slice())?;
+    findings.push(Finding {
+        path,
+        kind: Kind::Formats,
+        formats,
+        found_formats,
+    })?;
+    Ok(())
+}
+
+/// Returns the path by which a difference is sorted.
+fn path_of<'a>(listed: &'a [Item], found: &'a [Item], difference: Difference) -> &'a [u8]
+    ensures { result.now ≡ path_of listed.entry.now found.entry.now difference }
+{
+    match difference {
+        Difference::Changed { listed: place, .. } => path_at(listed, place),
+        Difference::Touched { listed: place, .. } => path_at(listed, place),
+        Difference::Missing { listed: place } => path_at(listed, place),
+        Difference::New { found: place } => path_at(found, place),
+        Difference::Moved { listed: place, .. } => path_at(listed, place),
+    }
+}
+
+/// Returns the path of the item at this place, or an empty one.
+fn path_at(items: &[Item], place: usize) -> &[u8]
+    ensures { result.now ≡ path_at items.entry.now place }
+{
+    match items.get(place) {
+        Some(item) => item.path.as_slice(),
+        None => b"",
+    }
+}

@@ -1,0 +1,30 @@
+//! Compares a tree with a list of its files, and says what differs. It walks as `profile` does. The crate passes on what
+//! reads the list and walks a folder, so that the command names this crate alone.
+#![tactic(auto)]
+
+mod finding;
+mod item_keeper;
+pub mod laws;
+mod listing_check;
+mod noted_files;
+mod readable_items;
+mod report;
+mod summary;
+mod tree_check;
+
+pub use droid_desk_profile::{
+    Folder, NO_MEMORY, Options, Profiler, Recorder, Registry, Reporter, Shown, SkippedEntry,
+    System, Verbosity, is_folder, print_no_folder, profile_folder,
+};
+pub use droid_fixity_formats::{
+    FileFormats, FormatChange, FormatRow, format_changes, read_formats,
+};
+pub use droid_fixity_forms::{ListForm, Listed, ManifestForm, UnreadList, read_list};
+pub use droid_tree::{Tree, Watcher};
+pub use finding::{Finding, Kind, findings_of};
+pub use item_keeper::ItemKeeper;
+pub use listing_check::check_listing;
+pub use noted_files::NotedFiles;
+pub use report::report_text;
+pub use summary::{KindCounts, Summary, bytes_in, files_in};
+pub use tree_check::{CheckFault, Checked, check_tree};

@@ -1,0 +1,4 @@
+-- The kinds of hashes, re-exported.
+pub use Rattle.droid_frame.specs.types as frame_types
+pub mod Rules
+pub mod Values

@@ -1,0 +1,49 @@
+//! What a page says of itself.
+
+ghost use Rattle.std.specs.Prelude.{Some};
+ghost use Rattle.droid_desk_report.specs.Abouts.{about_text, hash_words};
+
+use droid_report::HashColumn;
+use std::fmt::{self, Display, Formatter, Write};
+
+/// What a page says of itself.
+#[derive(Clone, Copy)]
+pub(crate) struct About<'a> {
+    /// When it was made, in UTC.
+    pub moment: &'a str,
+    /// The name of the CSV.
+    pub name: &'a str,
+    /// Which hash the CSV has.
+    pub hash: HashColumn,
+}
+
+impl Display for About<'_> {
+    ghost output = { λ it. Some (about_text it.moment.now it.name.now it.hash) };
+
+    #[tactic(auto, unfolding(crate::specs::Abouts::about_text))]
+    fn fmt<W: Write>(&self, f: &mut Formatter<W>) -> fmt::Result {
+        write!(
+            f,
+            "Made by droid_desk from {} at {} (UTC). {} A file with several formats counts once.",
+            self.name,
+            self.moment,
+            HashWords(self.hash)
+        )
+    }
+}
+
+/// Which hash a CSV has, in words.
+#[derive(Clone, Copy)]
+struct HashWords(HashColumn);
+
+impl Display for HashWords {
+    ghost output = { λ it. Some (hash_words it.0) };
+
+    fn fmt<W: Write>(&self, f: &mut Formatter<W>) -> fmt::Result {
+        match self.0 {
+            HashColumn::Nothing => f.write_str("It has no hashes."),
+            HashColumn::Md5 => f.write_str("Its hashes are MD5."),
+            HashColumn::Sha256 => f.write_str("Its hashes are SHA-256."),
+        }
+    }
+}

@@ -1,0 +1,16 @@
+//! Writes a page.
+
+ghost use Rattle.std.specs.Prelude.{IfErr, OnOk};
+ghost use Rattle.std.specs.Io.KnownBytes.{Appends};
+ghost use Rattle.droid_frame.specs.Writes.{StopsWithin};
+
+use droid_frame::{SteadyWrite, WriteFault, WriteState, write_all};
+
+/// Writes a page whole, or says how far it came. Interrupted writes are tried again, at most 64 times.
+pub(crate) fn write_page<S: SteadyWrite>(writer: &mut S, page: &str) -> Result<(), WriteFault>
+    ensures ok { OnOk result (Appends (S.contents writer.old) (S.contents writer.new) page.now) }
+    ensures err { IfErr result (λ fault. StopsWithin (S.contents writer.old) (S.contents writer.new) page.now 0 fault.written) }
+{
+    let mut progress = WriteState::new();
+    write_all(writer, page.as_bytes(), &mut progress)
+}

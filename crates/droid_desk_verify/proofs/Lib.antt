@@ -1,0 +1,2 @@
+mod ListReading
+mod Writing

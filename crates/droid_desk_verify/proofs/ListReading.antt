@@ -1,0 +1,43 @@
+-- What comes of a text that is read as a list, case by case.
+use Rattle.std.proofs.Common.{◌≡◌, ◌∙◌, ℕ, Bool, true, false, List, Some, None, Result, Ok, Err, Vec, Global, sym, ap, subst}
+use Rattle.droid_desk_comparison.specs.Formats.{HasRows}
+use Rattle.droid_desk_comparison.specs.ListForms.{names_files_alone}
+use Rattle.droid_desk_comparison.specs.Listings.{ListSays}
+use Rattle.droid_desk_comparison.specs.format_types.format_row.FormatRow.{FormatRow}
+use Rattle.droid_desk_comparison.specs.list_forms.list_form.ListForm.{ListForm}
+use Rattle.droid_desk_comparison.specs.list_forms.listed.Listed.{Listed}
+use Rattle.droid_desk_comparison.specs.list_forms.listed.UnreadList.{UnreadList}
+use Rattle.droid_desk_comparison.specs.list_forms.listed.UnreadList.TheVariants as unread
+use Rattle.droid_desk_verify.specs.Lists.{AreRows, GivesLists, ListsSay}
+use Rattle.droid_desk_verify.specs.VerifyEndings.{unlisted}
+use Rattle.droid_desk_verify.specs.declared.lists.Lists.{Lists}
+use Rattle.droid_desk_verify.specs.declared.verify_ending.VerifyEnding.{VerifyEnding}
+use Rattle.droid_desk_verify.specs.declared.verify_ending.VerifyEnding.TheVariants.{Same, Differing, NoFolder, Unopened, NoList, NoFormats, NoMemory, Numbers, Twice, Unwritten}
+
+pub no_rows : (identify : Bool) (text : List ℕ) → identify ≡ false → AreRows identify text None
+no_rows true text is = cc
+no_rows false text is = tt
+
+pub some_rows : (identify : Bool) (text : List ℕ) (rows : Vec FormatRow Global) → identify ≡ true → HasRows text rows.items → AreRows identify text (Some rows)
+some_rows true text rows is has = has
+some_rows false text rows is has = cc
+
+module _ (in_bag identify : Bool) (text : List ℕ) where
+  pub says_by : (listed : Listed) (result : Result Lists VerifyEnding) → ListSays in_bag text (Ok listed) → GivesLists identify listed text result → ListsSay in_bag identify text result
+  says_by listed (Ok lists) says gives = (subst (λ (one : Listed). ListSays in_bag text (Ok one)) (sym gives.0) says, gives.1)
+  says_by listed (Err NoFormats) says gives = (gives.0, ap (λ (form : ListForm). names_files_alone form) (sym says.0) ∙ gives.1)
+  says_by listed (Err NoMemory) says gives = tt
+  says_by listed (Err (NoList fault)) says gives = absurd gives
+  says_by listed (Err Same) says gives = gives
+  says_by listed (Err Differing) says gives = gives
+  says_by listed (Err NoFolder) says gives = gives
+  says_by listed (Err (Unopened why)) says gives = gives
+  says_by listed (Err Numbers) says gives = gives
+  says_by listed (Err Twice) says gives = gives
+  says_by listed (Err Unwritten) says gives = gives
+
+  pub unlisted_says : (fault : UnreadList) → ListSays in_bag text (Err fault) → ListsSay in_bag identify text (Err (unlisted fault))
+  unlisted_says unread.Memory says = tt
+  unlisted_says (unread.Profile fault) says = says
+  unlisted_says (unread.Manifest fault) says = says
+  unlisted_says (unread.Twice same) says = says

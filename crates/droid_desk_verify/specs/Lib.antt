@@ -1,0 +1,5 @@
+pub mod Lists
+pub mod Outcomes
+pub mod Verifications
+pub mod VerifyEndings
+pub mod WalkOptions

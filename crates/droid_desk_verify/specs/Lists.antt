@@ -1,0 +1,34 @@
+-- What a list says, and the formats that it gives files (this project's own).
+use Rattle.std.specs.Prelude.{◌≡◌, ℕ, Bool, true, false, List, Option, Some, None, Result, Ok, Err, Vec, ⊤}
+use Rattle.std.specs.declared.alloc.Global.{Global}
+use Rattle.droid_desk_comparison.specs.Formats.{HasRows}
+use Rattle.droid_desk_comparison.specs.ListForms.{form_of, names_files_alone}
+use Rattle.droid_desk_comparison.specs.Listings.{ListSays}
+use Rattle.droid_desk_comparison.specs.format_types.format_row.FormatRow.{FormatRow}
+use Rattle.droid_desk_comparison.specs.list_forms.listed.Listed.{Listed}
+use Rattle.droid_desk_verify.specs.declared.lists.Lists.{Lists}
+use Rattle.droid_desk_verify.specs.declared.verify_ending.VerifyEnding.{VerifyEnding}
+use Rattle.droid_desk_verify.specs.declared.verify_ending.VerifyEnding.TheVariants.{NoList, NoFormats, NoMemory}
+
+-- the rows are those of the text if formats are compared, and otherwise there are none
+abbrev pub AreRows : Bool → List ℕ → Option (Vec FormatRow Global) → Type 0
+AreRows true text (Some rows) = HasRows text rows.items
+AreRows true text None = ⊥
+AreRows false text (Some rows) = ⊥
+AreRows false text None = ⊤
+
+-- a text that is read as a list comes to the list with its rows. It has none for formats to be compared with, if it names
+-- files alone; and memory may run out.
+abbrev pub GivesLists : Bool → Listed → List ℕ → Result Lists VerifyEnding → Type 0
+GivesLists identify listed text (Ok lists) = (lists.listed ≡ listed) × AreRows identify text lists.rows
+GivesLists identify listed text (Err NoFormats) = (identify ≡ true) × (names_files_alone listed.form ≡ true)
+GivesLists identify listed text (Err NoMemory) = ⊤
+GivesLists identify listed text (Err _) = ⊥
+
+-- what comes of a text: the list that it is, with its rows; or why it is none
+abbrev pub ListsSay : Bool → Bool → List ℕ → Result Lists VerifyEnding → Type 0
+ListsSay in_bag identify text (Ok lists) = ListSays in_bag text (Ok lists.listed) × AreRows identify text lists.rows
+ListsSay in_bag identify text (Err (NoList fault)) = ListSays in_bag text (Err fault)
+ListsSay in_bag identify text (Err NoFormats) = (identify ≡ true) × (names_files_alone (form_of in_bag text) ≡ true)
+ListsSay in_bag identify text (Err NoMemory) = ⊤
+ListsSay in_bag identify text (Err _) = ⊥

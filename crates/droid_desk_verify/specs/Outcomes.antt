@@ -1,0 +1,61 @@
+-- What a comparison came to, and its report (this project's own).
+use Rattle.std.specs.Prelude.{◌≡◌, ◌==◌, ℕ, Bool, true, false, not, List, [], length, Option, Some, None, Vec}
+use Rattle.std.specs.Io.KnownBytes.{Appends}
+use Rattle.std.specs.Option.{is_some}
+use Rattle.std.specs.declared.alloc.Global.{Global}
+use Rattle.droid_frame.specs.Seen.{Counts}
+use Rattle.droid_frame.specs.Writes.{StopsWithin, WriterStops}
+use Rattle.droid_frame.specs.stream_types.seen.Seen.{Seen}
+use Rattle.droid_desk_comparison.specs.Findings.{AreFindings}
+use Rattle.droid_desk_comparison.specs.Formats.{changes_in}
+use Rattle.droid_desk_comparison.specs.ReportTexts.{report_text}
+use Rattle.droid_desk_comparison.specs.Summaries.{bytes_in, counts_of, files_in}
+use Rattle.droid_desk_comparison.specs.declared.finding.Finding.{Finding}
+use Rattle.droid_desk_comparison.specs.declared.summary.Summary.{Summary}
+use Rattle.droid_desk_comparison.specs.declared.tree_check.Checked.{Checked}
+use Rattle.droid_desk_comparison.specs.format_types.file_formats.FileFormats.{FileFormats}
+use Rattle.droid_desk_comparison.specs.format_types.format_change.FormatChange.{FormatChange}
+use Rattle.droid_desk_comparison.specs.format_types.format_row.FormatRow.{FormatRow}
+use Rattle.droid_desk_comparison.specs.outputs_types.skipped_entry.SkippedEntry.{SkippedEntry}
+use Rattle.droid_desk_verify.specs.declared.outcome.Outcome.{Outcome}
+use Rattle.droid_desk_verify.specs.declared.verify_ending.VerifyEnding.{VerifyEnding}
+use Rattle.droid_desk_verify.specs.declared.verify_ending.VerifyEnding.TheVariants.{Same, Differing, Unwritten}
+
+-- the files with other formats, if formats are compared
+abbrev pub changes_by : Option (Vec FormatRow Global) → List FileFormats → List FormatChange
+changes_by None files = []
+changes_by (Some rows) files = changes_in rows.items files
+
+-- the summary of a comparison with these findings
+abbrev pub summary_of : Bool → Bool → Checked → List Finding → Summary
+summary_of quick identify checked findings =
+    record { quick = quick; identify = identify; files = files_in checked.found; bytes = bytes_in checked.found; kinds = counts_of findings }
+
+-- the report, the summary, and whether anything is reported, by what is found
+pub record HasFindings (quick identify : Bool) (checked : Checked) (findings : List Finding) (outcome : Outcome) : Type 0 where
+  pub text : outcome.text.items ≡ report_text checked.listed checked.found findings
+  pub summary : outcome.summary ≡ summary_of quick identify checked findings
+  pub differs : outcome.differs ≡ not (length findings == 0)
+
+-- what is reported is all that differs, and the outcome is that of it
+pub record IsOutcome (quick : Bool) (rows : Option (Vec FormatRow Global)) (files : List FileFormats) (checked : Checked) (unreadable : List SkippedEntry) (outcome : Outcome) : Type 0 where
+  pub findings : List Finding
+  pub are : AreFindings quick checked.listed checked.found checked.differences.items unreadable (changes_by rows files) findings
+  pub has : HasFindings quick (is_some rows) checked findings outcome
+
+-- the ending, if the report was written
+abbrev pub ending_by : Bool → VerifyEnding
+ending_by true = Differing
+ending_by false = Same
+
+-- The report was written, and the ending says whether it has anything; or only a front of it was.
+abbrev pub WritesOutcome : Option (List ℕ) → Option (List ℕ) → Outcome → VerifyEnding → Type 0
+WritesOutcome old new outcome Same = Appends old new outcome.text.items × (outcome.differs ≡ false)
+WritesOutcome old new outcome Differing = Appends old new outcome.text.items × (outcome.differs ≡ true)
+WritesOutcome old new outcome Unwritten = (written : ℕ) × StopsWithin old new outcome.text.items 0 written
+WritesOutcome old new outcome _ = ⊥
+
+-- the writer stopped exactly if the ending says so
+abbrev pub ReportsUnwritten : ℕ → Seen → Option ℕ → VerifyEnding → Type 0
+ReportsUnwritten start seen room Unwritten = WriterStops start seen room
+ReportsUnwritten start seen room _ = (retries : ℕ) × Counts start seen retries

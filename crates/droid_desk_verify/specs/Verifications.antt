@@ -1,0 +1,59 @@
+-- The comparison of any tree with a list, and its report (this project's own).
+use Rattle.std.specs.Prelude.{◌≡◌, ℕ, Bool, true, false, List, Option, Some, None, Vec}
+use Rattle.std.specs.Option.{is_some}
+use Rattle.std.specs.declared.alloc.Global.{Global}
+use Rattle.droid_desk_comparison.specs.CheckedTrees.{ChecksTree, EndsCheck, options_for}
+use Rattle.droid_desk_comparison.specs.Heard.{Heard}
+use Rattle.droid_desk_comparison.specs.ListForms.{names_files_alone}
+use Rattle.droid_desk_comparison.specs.ListedTrees.{ChecksListing, EndsListing}
+use Rattle.droid_desk_comparison.specs.Observation.{Observation}
+use Rattle.droid_desk_comparison.specs.Registry.{Contents}
+use Rattle.droid_desk_comparison.specs.declared.item_keeper.ItemKeeper.{ItemKeeper}
+use Rattle.droid_desk_comparison.specs.declared.noted_files.NotedFiles.{NotedFiles}
+use Rattle.droid_desk_comparison.specs.declared.tree_check.CheckFault.{CheckFault}
+use Rattle.droid_desk_comparison.specs.declared.tree_check.Checked.{Checked}
+use Rattle.droid_desk_comparison.specs.format_types.file_formats.FileFormats.{FileFormats}
+use Rattle.droid_desk_comparison.specs.format_types.format_row.FormatRow.{FormatRow}
+use Rattle.droid_desk_comparison.specs.outputs_types.recorder.Recorder.{Recorder}
+use Rattle.droid_desk_comparison.specs.outputs_types.skipped_entry.SkippedEntry.{SkippedEntry}
+use Rattle.droid_desk_comparison.specs.profiler_types.profiler.Profiler.{Profiler}
+use Rattle.droid_desk_comparison.specs.walk_types.options.Options.{Options}
+use Rattle.droid_frame.specs.types.hash_kind.HashKind.TheVariants.{Nothing}
+use Rattle.droid_desk_verify.specs.Outcomes.{IsOutcome, WritesOutcome}
+use Rattle.droid_desk_verify.specs.VerifyEndings.{unchecked}
+use Rattle.droid_desk_verify.specs.declared.lists.Lists.{Lists}
+use Rattle.droid_desk_verify.specs.declared.outcome.Outcome.{Outcome}
+use Rattle.droid_desk_verify.specs.declared.verification.Verified.{Verified}
+use Rattle.droid_desk_verify.specs.declared.verify_ending.VerifyEnding.{VerifyEnding}
+use Rattle.droid_desk_verify.specs.declared.verify_ending.VerifyEnding.TheVariants.{NoMemory}
+
+-- there is no report
+abbrev pub without_report : VerifyEnding → Verified
+without_report ending = record { ending = ending; summary = None }
+
+-- The report of a comparison: all that differs, which was written, or its writer stopped; or memory ran out, and nothing
+-- was written.
+pub data Finishes {O : Type 0} (contents : O → Option (List ℕ)) (quick : Bool) (rows : Option (Vec FormatRow Global)) (formats : List FileFormats) (checked : Checked) (unreadable : List SkippedEntry)
+    (old new : O) (verified : Verified) : Type 0 where
+  Reported : (outcome : Outcome) → IsOutcome quick rows formats checked unreadable outcome → WritesOutcome (contents old) (contents new) outcome verified.ending
+      → verified.summary ≡ Some outcome.summary → Finishes contents quick rows formats checked unreadable old new verified
+  Unreported : verified ≡ without_report NoMemory → new ≡ old → Finishes contents quick rows formats checked unreadable old new verified
+
+module _ {T W O : Type 0} (observes : T → Observation → T → Type 0) (hears : W → Heard → W → Type 0) (contents : O → Option (List ℕ)) (registry : Contents) (options : Options) (lists : Lists) where
+  -- A tree that was read: compared to its end and reported; or the comparison ended early, and nothing was written.
+  pub data VerifiesTree (old new : Profiler T (Recorder W) ItemKeeper) (before after : O) (verified : Verified) : Type 0 where
+    Read : (checked : Checked)
+        → ChecksTree observes hears registry (options_for options lists.listed.hash) (names_files_alone lists.listed.form) (is_some lists.rows) lists.listed.items checked old new
+        → Finishes contents false lists.rows new.recipient.formats.items checked new.watcher.skipped.items before after verified → VerifiesTree old new before after verified
+    Unread : (fault : CheckFault)
+        → EndsCheck observes hears registry (options_for options lists.listed.hash) (names_files_alone lists.listed.form) (is_some lists.rows) fault old new
+        → verified ≡ without_report (unchecked fault) → after ≡ before → VerifiesTree old new before after verified
+
+  -- the same of a tree that was listed
+  pub data VerifiesListing (old new : Profiler (NotedFiles T) (Recorder W) ItemKeeper) (before after : O) (verified : Verified) : Type 0 where
+    Listed : (checked : Checked)
+        → ChecksListing observes hears registry (options_for options Nothing) (names_files_alone lists.listed.form) lists.listed.items checked old new
+        → Finishes contents true None new.recipient.formats.items checked new.watcher.skipped.items before after verified → VerifiesListing old new before after verified
+    Unlisted : (fault : CheckFault)
+        → EndsListing observes hears registry (options_for options Nothing) (names_files_alone lists.listed.form) fault old new
+        → verified ≡ without_report (unchecked fault) → after ≡ before → VerifiesListing old new before after verified

@@ -1,0 +1,222 @@
+//! The comparison of a folder of this machine.
+
+ghost use Rattle.std.specs.Prelude.{◌≡◌, ◌≤◌};
+
+use crate::lists::{Lists, read_lists};
+use crate::verification::{ClearLine, Verified, verify_listing, verify_tree};
+use crate::verify_ending::VerifyEnding;
+use crate::walk_options::walk_options;
+use droid_desk_arguments::VerifyOptions;
+use droid_desk_comparison::{
+    Folder, ItemKeeper, ListForm, ManifestForm, NotedFiles, Options, Profiler, Recorder, Registry,
+    Reporter, System, Verbosity, is_folder,
+};
+use droid_frame::Noted;
+use std::alloc::AllocError;
+use std::fs::{self, File, Files};
+use std::io::{self, ErrorKind};
+use std::time::Clock;
+
+/// A folder of this machine.
+type FolderTree<'a, R> = Folder<System<'a, R>>;
+
+impl<R: Eprint + Clock> ClearLine for Reporter<'_, R> {
+    fn clear_line(&self) {
+        self.clear();
+    }
+}
+
+/// Compares a folder of this machine with a list, and writes what differs to standard output as a CSV. What is skipped is
+/// printed on standard error. Nothing in the folder is read before the list was. Formats are compared if that is asked for
+/// and files are read; then there has to be a registry.
+pub fn verify_folder<R>(
+    rt: &R,
+    registry: Option<&Registry>,
+    options: VerifyOptions<'_>,
+    on_terminal: bool,
+) -> VerifyEnding
+where
+    R: Files<File = File> + Clock + Print + Eprint + AllocGlobal,
+{
+    if !is_folder(rt, options.folder) {
+        return VerifyEnding::NoFolder;
+    }
+    let lists = match lists_of(rt, options) {
+        Ok(lists) => lists,
+        Err(ending) => return ending,
+    };
+    let verbosity = Verbosity::of(options.quiet, on_terminal);
+    match registry {
+        Some(registry) => verify_with(rt, registry, options, verbosity, lists),
+        None => verify_without(rt, options, verbosity, lists),
+    }
+}
+
+/// Compares the folder, by a registry without formats.
+fn verify_without<R>(
+    rt: &R,
+    options: VerifyOptions<'_>,
+    verbosity: Verbosity,
+    lists: Lists,
+) -> VerifyEnding
+where
+    R: Files<File = File> + Clock + Print + Eprint + AllocGlobal,
+{
+    match Registry::parse(rt.alloc(), b"") {
+        Ok(registry) => verify_with(rt, &registry, options, verbosity, lists),
+        Err(_) => VerifyEnding::NoMemory,
+    }
+}
+
+/// Whether formats are compared.
+fn is_identified(options: VerifyOptions<'_>) -> bool {
+    options.identify && !options.quick
+}
+
+/// Reads the list.
+fn lists_of<R>(rt: &R, options: VerifyOptions<'_>) -> Result<Lists, VerifyEnding>
+where
+    R: Files<File = File> + AllocGlobal,
+{
+    let Ok(in_bag) = is_bag(rt, options.folder) else {
+        return Err(VerifyEnding::NoMemory);
+    };
+    match fs::read(rt, options.against) {
+        Ok(text) => read_lists(rt.alloc(), in_bag, is_identified(options), text.as_slice()),
+        Err(error) if error.kind() == ErrorKind::OutOfMemory => Err(VerifyEnding::NoMemory),
+        Err(error) => Err(VerifyEnding::Unopened(error.kind())),
+    }
+}
+
+/// Returns whether a folder is a bag: it has a file `bagit.txt` (RFC 8493, section 2.1.1).
+fn is_bag<R: Files + AllocGlobal>(rt: &R, folder: &str) -> Result<bool, AllocError> {
+    let path = format!(in rt.alloc(); "{folder}/bagit.txt")?;
+    match fs::metadata(rt, path.as_str()) {
+        Ok(found) => Ok(found.is_file()),
+        Err(_) => Ok(false),
+    }
+}
+
+/// Compares the folder, and reports what differs.
+fn verify_with<R>(
+    rt: &R,
+    registry: &Registry,
+    options: VerifyOptions<'_>,
+    verbosity: Verbosity,
+    lists: Lists,
+) -> VerifyEnding
+where
+    R: Files<File = File> + Clock + Print + Eprint + AllocGlobal,
+{
+    match folder_of(rt, options.folder, lists.listed.form) {
+        Ok(tree) => {
+            let verified = verify(rt, registry, options, verbosity, tree, lists);
+            print_summary(rt, verbosity, verified)
+        }
+        Err(_) => VerifyEnding::NoMemory,
+    }
+}
+
+/// Returns the folder whose files the list names: for the manifest of a bag, the folder `data` of it.
+fn folder_of<'a, R>(
+    rt: &'a R,
+    folder: &str,
+    form: ListForm,
+) -> Result<FolderTree<'a, R>, AllocError>
+where
+    R: Files<File = File> + AllocGlobal,
+{
+    let alloc = rt.alloc();
+    match form {
+        ListForm::Checksum(ManifestForm::Bag) => {
+            let data = format!(in alloc; "{folder}/data")?;
+            Folder::new(alloc, System::new(rt), data.as_str())
+        }
+        ListForm::Checksum(ManifestForm::Checksums) | ListForm::Profile => {
+            Folder::new(alloc, System::new(rt), folder)
+        }
+    }
+}
+
+/// Compares the folder: by the hashes of its files, or (`--quick`) by their sizes and moments. The report goes to standard
+/// output.
+fn verify<'a, R>(
+    rt: &'a R,
+    registry: &Registry,
+    options: VerifyOptions<'_>,
+    verbosity: Verbosity,
+    tree: FolderTree<'a, R>,
+    lists: Lists,
+) -> Verified
+where
+    R: Files<File = File> + Clock + Print + Eprint + AllocGlobal,
+{
+    let walk = walk_options(lists.rows.is_some(), options.limit, options.match_all);
+    if options.quick {
+        list_files(rt, registry, walk, verbosity, tree, lists)
+    } else {
+        read_files(rt, registry, walk, verbosity, tree, lists)
+    }
+}
+
+/// Compares the folder by the hashes of its files.
+fn read_files<'a, R>(
+    rt: &'a R,
+    registry: &Registry,
+    options: Options,
+    verbosity: Verbosity,
+    tree: FolderTree<'a, R>,
+    lists: Lists,
+) -> Verified
+where
+    R: Files<File = File> + Clock + Print + Eprint + AllocGlobal,
+    requires { options.scan_limit ≤ 65536 }
+{
+    let alloc = rt.alloc();
+    let mut output = Noted::new(io::writer(rt));
+    let mut profiler = Profiler {
+        alloc,
+        tree,
+        watcher: Recorder::new(alloc, Reporter::new(rt, alloc, verbosity)),
+        recipient: ItemKeeper::new(alloc, false, false),
+    };
+    verify_tree(&mut profiler, &mut output, registry, options, lists)
+}
+
+/// Compares the folder by the sizes and moments of its files.
+fn list_files<'a, R>(
+    rt: &'a R,
+    registry: &Registry,
+    options: Options,
+    verbosity: Verbosity,
+    tree: FolderTree<'a, R>,
+    lists: Lists,
+) -> Verified
+where
+    R: Files<File = File> + Clock + Print + Eprint + AllocGlobal,
+    requires { options.scan_limit ≤ 65536 }
+{
+    let alloc = rt.alloc();
+    let mut output = Noted::new(io::writer(rt));
+    let files = Vec::new(alloc);
+    let mut profiler = Profiler {
+        alloc,
+        tree: NotedFiles { tree, files },
+        watcher: Recorder::new(alloc, Reporter::new(rt, alloc, verbosity)),
+        recipient: ItemKeeper::new(alloc, false, false),
+    };
+    verify_listing(&mut profiler, &mut output, registry, options, lists)
+}
+
+/// Prints the summary, if there is a report, and returns the ending.
+fn print_summary<R: Eprint>(rt: &R, verbosity: Verbosity, verified: Verified) -> VerifyEnding
+    ensures { result ≡ verified.ending }
+{
+    let Verified { ending, summary } = verified;
+    if verbosity != Verbosity::Quiet {
+        if let Some(summary) = summary {
+            let _ = eprint!(rt; "{summary}");
+        }
+    }
+    ending
+}

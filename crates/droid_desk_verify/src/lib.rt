@@ -1,0 +1,17 @@
+//! The command `verify`: compares a folder of this machine with a list of its files.
+#![tactic(auto)]
+
+mod folder_check;
+mod lists;
+mod outcome;
+mod verification;
+mod verify_ending;
+mod verify_sentences;
+mod walk_options;
+
+pub use droid_desk_comparison::{Registry, profile_folder};
+pub use folder_check::verify_folder;
+pub use lists::{Lists, read_lists};
+pub use outcome::{Outcome, outcome_of, write_outcome};
+pub use verification::{ClearLine, Verified, verify_listing, verify_tree};
+pub use verify_ending::VerifyEnding;

@@ -1,0 +1,125 @@
+//! The comparison of any tree with a list, and its report.
+
+ghost use Rattle.std.specs.Prelude.{◌≡◌, ◌≤◌, ℕ};
+ghost use Rattle.droid_frame.specs.Seen.{Counts};
+ghost use Rattle.droid_desk_verify.specs.Outcomes.{ReportsUnwritten};
+ghost use Rattle.droid_desk_verify.specs.Verifications.{Finishes, VerifiesListing, VerifiesTree, without_report};
+
+use crate::lists::Lists;
+use crate::outcome::{outcome_of, write_outcome};
+use crate::verify_ending::VerifyEnding;
+use droid_desk_comparison::{
+    Checked, FileFormats, FormatRow, ItemKeeper, NotedFiles, Options, Profiler, Recorder, Registry,
+    SkippedEntry, Summary, Tree, Watcher, check_listing, check_tree,
+};
+use droid_frame::SteadyWrite;
+use std::alloc::Global;
+
+/// Removes the line of progress, before something else is printed.
+pub trait ClearLine {
+    /// Removes it.
+    fn clear_line(&self);
+}
+
+/// How a comparison ended.
+#[derive(Drop)]
+pub struct Verified {
+    /// The ending.
+    pub ending: VerifyEnding,
+    /// The summary, if there is a report.
+    pub summary: Option<Summary>,
+}
+
+/// Reads a tree, compares it with a list, and writes what differs. Formats are compared if the list has rows for that.
+pub fn verify_tree<T: Tree, W: Watcher + ClearLine, O: SteadyWrite>(
+    profiler: &mut Profiler<T, Recorder<W>, ItemKeeper>,
+    output: &mut O,
+    registry: &Registry,
+    options: Options,
+    lists: Lists,
+) -> Verified
+    requires { options.scan_limit ≤ 65536 }
+    // The report has exactly what differs between the list and the tree as it was read, and was written, or its writer
+    // stopped; or there is no report, and the ending says why.
+    ensures verified { VerifiesTree T.observes W.hears O.contents registry.now options lists profiler.old profiler.new output.old output.new result }
+    ensures stopped { (start : ℕ) → Counts start (O.seen output.old) 0 → ReportsUnwritten start (O.seen output.new) (O.room output.new) result.ending }
+{
+    let alloc = profiler.alloc;
+    let Lists { listed, rows } = lists;
+    match check_tree(profiler, registry, options, listed, rows.is_some()) {
+        Ok(checked) => {
+            profiler.watcher.watcher.clear_line();
+            let formats = profiler.recipient.formats.as_slice();
+            let unreadable = profiler.watcher.skipped.as_slice();
+            finish(alloc, output, false, &rows, formats, &checked, unreadable)
+        }
+        Err(fault) => {
+            profiler.watcher.watcher.clear_line();
+            without_report(VerifyEnding::unchecked(fault))
+        }
+    }
+}
+
+/// Lists a tree, compares the sizes and moments of its files with a list, and writes what differs.
+pub fn verify_listing<T: Tree, W: Watcher + ClearLine, O: SteadyWrite>(
+    profiler: &mut Profiler<NotedFiles<T>, Recorder<W>, ItemKeeper>,
+    output: &mut O,
+    registry: &Registry,
+    options: Options,
+    lists: Lists,
+) -> Verified
+    requires { options.scan_limit ≤ 65536 }
+    // The same of the tree as it was listed. No formats are compared.
+    ensures verified { VerifiesListing T.observes W.hears O.contents registry.now options lists profiler.old profiler.new output.old output.new result }
+    ensures stopped { (start : ℕ) → Counts start (O.seen output.old) 0 → ReportsUnwritten start (O.seen output.new) (O.room output.new) result.ending }
+{
+    let alloc = profiler.alloc;
+    let Lists { listed, .. } = lists;
+    match check_listing(profiler, registry, options, listed) {
+        Ok(checked) => {
+            profiler.watcher.watcher.clear_line();
+            let rows: Option<Vec<FormatRow>> = None;
+            let formats = profiler.recipient.formats.as_slice();
+            let unreadable = profiler.watcher.skipped.as_slice();
+            finish(alloc, output, true, &rows, formats, &checked, unreadable)
+        }
+        Err(fault) => {
+            profiler.watcher.watcher.clear_line();
+            without_report(VerifyEnding::unchecked(fault))
+        }
+    }
+}
+
+/// Makes the report of a comparison, and writes it.
+fn finish<O: SteadyWrite>(
+    alloc: Global,
+    output: &mut O,
+    quick: bool,
+    rows: &Option<Vec<FormatRow>>,
+    formats: &[FileFormats],
+    checked: &Checked,
+    unreadable: &[SkippedEntry],
+) -> Verified
+    ensures finished { Finishes O.contents quick rows.now formats.now checked.now unreadable.now output.old output.new result }
+    ensures stopped { (start : ℕ) → Counts start (O.seen output.old) 0 → ReportsUnwritten start (O.seen output.new) (O.room output.new) result.ending }
+{
+    match outcome_of(alloc, quick, rows, formats, checked, unreadable) {
+        Ok(outcome) => {
+            let ending = write_outcome(output, &outcome);
+            Verified {
+                ending,
+                summary: Some(outcome.summary),
+            }
+        }
+        Err(_) => without_report(VerifyEnding::NoMemory),
+    }
+}
+
+fn without_report(ending: VerifyEnding) -> Verified
+    ensures { result ≡ without_report ending }
+{
+    Verified {
+        ending,
+        summary: None,
+    }
+}

@@ -1,0 +1,3 @@
+mod Gathering
+mod Joining
+mod Reading

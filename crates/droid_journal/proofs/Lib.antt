@@ -1,0 +1,5 @@
+pub mod Standing
+pub mod Handing
+pub mod Going
+pub mod Openings
+pub mod Lawful

@@ -1,0 +1,7 @@
+-- What a journal keeps, and what comes of it after a crash.
+pub mod Faults
+pub mod Machines
+pub mod Turns
+pub mod Standing
+pub mod Replaying
+pub mod Opening

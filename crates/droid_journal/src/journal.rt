@@ -1,0 +1,216 @@
+//! The journal.
+
+ghost use Rattle.std.specs.Prelude.{◌≡◌, ◌≤◌, ◌++◌, ℕ, Bool, List, None, true, length, not, IfOk, OnOk, OnErr, IsErr, IsSome};
+ghost use Rattle.droid_frame.specs.Frames.{frame_bytes};
+ghost use Rattle.droid_frame.specs.Replies.{HasReplySpelling};
+ghost use Rattle.droid_frame.specs.ReplyFrames.{reply_frame};
+ghost use Rattle.droid_frame.specs.Versions.{IsVersion};
+ghost use Rattle.droid_journal.specs.Machines.{Answers, extended};
+ghost use Rattle.droid_journal.specs.Opening.{IsReady};
+ghost use Rattle.droid_journal.specs.Standing.{IsSettled, Stands, WroteOne};
+ghost use Rattle.droid_journal_chain.specs.Fronts.{IsFront};
+ghost use Rattle.droid_journal_chain.specs.Records.{Fits, Record, made, next_check, record_bytes};
+
+use crate::fault::Fault;
+use crate::frames::{is_carried, reply_bytes, request_bytes};
+use crate::log_file::LogFile;
+use crate::machine::Machine;
+use crate::opening::Opened;
+use droid_frame::{Frame, Refusal, Reply};
+use droid_journal_chain::record;
+use std::alloc::{AllocError, Global};
+
+/// A machine, and the file that has the requests that it accepted.
+///
+/// [`Journal::handle`] handles a request. No reply may be sent before [`Journal::settle`] returned `Ok` after it.
+#[derive(Drop)]
+pub struct Journal<F: LogFile, M: Machine> {
+    pub(crate) alloc: Global,
+    /// The file.
+    pub file: F,
+    /// The machine.
+    pub machine: M,
+    /// The MD5 of the file's header.
+    pub(crate) start: [u8; 16],
+    /// The check value of the last record.
+    pub(crate) check: [u8; 16],
+    /// Whether records were appended since the last sync.
+    pub(crate) unsynced: bool,
+    /// Why nothing more is answered.
+    pub(crate) fault: Option<Fault>,
+}
+
+impl<F: LogFile + Drop, M: Machine + Drop> Journal<F, M> {
+    /// Goes on with a file that was opened.
+    pub fn new(alloc: Global, file: F, opened: Opened<M>) -> Journal<F, M>
+        ensures settled { (setting : M.Setting) (header : List ℕ) (records : List Record) → IsReady F.has F.kept (M.stands setting) header file opened records
+            → IsSettled F.has F.kept (M.stands setting) header result records }
+        ensures fault { result.fault ≡ None }
+    {
+        let Opened {
+            machine,
+            start,
+            check,
+            ..
+        } = opened;
+        Journal {
+            alloc,
+            file,
+            machine,
+            start,
+            check,
+            unsynced: false,
+            fault: None,
+        }
+    }
+
+    /// Spells the record of a request, and computes its check value.
+    fn spelled(
+        &self,
+        version: u8,
+        client: u32,
+        number: u64,
+        request: &[u8],
+        reply: &Reply,
+    ) -> Result<(Vec<u8>, [u8; 16]), AllocError>
+        requires version { IsVersion version }
+        requires spelling { HasReplySpelling version reply.now }
+        requires header { 18 ≤ length request.now }
+        requires size { length request.now ≤ 4194386 }
+        ensures bytes { IfOk result (λ x. x.0.items ≡ record_bytes self.now.start self.now.check (made (not self.now.unsynced) request.now (reply_frame version client number reply.now))) }
+        ensures fits { IfOk result (λ x. Fits (made (not self.now.unsynced) request.now (reply_frame version client number reply.now))) }
+        ensures check { IfOk result (λ x. x.1 ≡ next_check self.now.start self.now.check (made (not self.now.unsynced) request.now (reply_frame version client number reply.now))) }
+    {
+        let reply = reply_bytes(self.alloc, version, client, number, reply)?;
+        let mut bytes = Vec::new(self.alloc);
+        let check = record(
+            &mut bytes,
+            &self.start,
+            &self.check,
+            !self.unsynced,
+            request,
+            &reply,
+        )?;
+        Ok((bytes, check))
+    }
+
+    /// Appends the record of a request to the file.
+    fn note(
+        &mut self,
+        version: u8,
+        client: u32,
+        number: u64,
+        request: &[u8],
+        reply: &Reply,
+    ) -> Result<(), Fault>
+        requires version { IsVersion version }
+        requires spelling { HasReplySpelling version reply.now }
+        requires header { 18 ≤ length request.now }
+        requires size { length request.now ≤ 4194386 }
+        ensures appended { (s : List ℕ) → F.has self.old.file s
+            → OnOk result (F.has self.new.file (s ++ record_bytes self.old.start self.old.check (made (not self.old.unsynced) request.now (reply_frame version client number reply.now)))) }
+        ensures part { (s : List ℕ) → F.has self.old.file s → OnErr result ((part : List ℕ) × F.has self.new.file (s ++ part)
+            × IsFront part (record_bytes self.old.start self.old.check (made (not self.old.unsynced) request.now (reply_frame version client number reply.now)))) }
+        ensures check { OnOk result (self.new.check ≡ next_check self.old.start self.old.check (made (not self.old.unsynced) request.now (reply_frame version client number reply.now))) }
+        ensures fits { OnOk result (Fits (made (not self.old.unsynced) request.now (reply_frame version client number reply.now))) }
+        ensures unsynced { OnOk result (self.new.unsynced ≡ true) }
+        ensures kept { F.kept self.new.file ≡ F.kept self.old.file }
+        ensures machine { self.new.machine ≡ self.old.machine }
+        ensures start { self.new.start ≡ self.old.start }
+        ensures fault { self.new.fault ≡ self.old.fault }
+    {
+        let (bytes, check) = self.spelled(version, client, number, request, reply)?;
+        self.unsynced = true;
+        match self.file.append(&bytes) {
+            Ok(()) => {}
+            Err(_) => return Err(Fault::Write),
+        }
+        self.check = check;
+        Ok(())
+    }
+
+    /// Handles a request. One that is accepted is then in the file, and not yet on the disk for sure.
+    fn take(&mut self, frame: Frame) -> Result<Reply, Fault>
+        ensures taken { (setting : M.Setting) (header : List ℕ) (synced all : List Record) → Stands F.has F.kept (M.stands setting) header self.old synced all
+            → IfOk result (λ reply. (first : Bool) × (accepted : Bool) × Answers (M.gives setting) all frame reply accepted
+            × Stands F.has F.kept (M.stands setting) header self.new synced (extended all first frame reply accepted)) }
+        ensures part { (setting : M.Setting) (header : List ℕ) (synced all : List Record) → Stands F.has F.kept (M.stands setting) header self.old synced all
+            → OnErr result (WroteOne F.has (M.gives setting) header self.new.file synced all frame) }
+        ensures spelled { IfOk result (HasReplySpelling frame.version) }
+        ensures kept { F.kept self.new.file ≡ F.kept self.old.file }
+        ensures fault { self.new.fault ≡ self.old.fault }
+    {
+        if !is_carried(&frame) {
+            return Ok(Reply::Refused(Refusal::Malformed));
+        }
+        let Ok(request) = request_bytes(self.alloc, &frame) else {
+            return Ok(Reply::Refused(Refusal::Memory));
+        };
+        let (version, client, number) = (frame.version, frame.client, frame.number);
+        let handled = self.machine.handle(frame);
+        if !handled.accepted {
+            return Ok(handled.reply);
+        }
+        match self.note(version, client, number, &request, &handled.reply) {
+            Ok(()) => Ok(handled.reply),
+            Err(fault) => Err(fault),
+        }
+    }
+
+    /// Handles a request and returns its reply. It must not be sent before [`Journal::settle`] returned `Ok`. After a
+    /// fault the reply says that the database failed, nothing is handled, and `settle` returns the fault. A frame that no
+    /// stream can carry is malformed.
+    pub fn handle(&mut self, frame: Frame) -> Reply
+        ensures handled { (setting : M.Setting) (header : List ℕ) (synced all : List Record) → Stands F.has F.kept (M.stands setting) header self.old synced all
+            → self.new.fault ≡ None → (first : Bool) × (accepted : Bool) × Answers (M.gives setting) all frame result accepted
+            × Stands F.has F.kept (M.stands setting) header self.new synced (extended all first frame result accepted) }
+        // Whatever became of it, the file has what was accepted before it, and the request if it was accepted, or a front of
+        // its record.
+        ensures part { (setting : M.Setting) (header : List ℕ) (synced all : List Record) → Stands F.has F.kept (M.stands setting) header self.old synced all
+            → self.old.fault ≡ None → IsSome self.new.fault → WroteOne F.has (M.gives setting) header self.new.file synced all frame }
+        ensures spelled { HasReplySpelling frame.version result }
+        ensures kept { F.kept self.new.file ≡ F.kept self.old.file }
+        // After a fault nothing is done.
+        ensures closed { IsSome self.old.fault → (self.new.file ≡ self.old.file) × (self.new.fault ≡ self.old.fault) }
+    {
+        if self.fault.is_some() {
+            return Reply::Refused(Refusal::Store);
+        }
+        match self.take(frame) {
+            Ok(reply) => reply,
+            Err(fault) => {
+                self.fault = Some(fault);
+                Reply::Refused(Refusal::Store)
+            }
+        }
+    }
+
+    /// Brings what was accepted to the disk. After `Ok` the replies of all requests so far may be sent. After a fault none
+    /// may be sent any more, and every further call returns a fault.
+    pub fn settle(&mut self) -> Result<(), Fault>
+        ensures settled { (setting : M.Setting) (header : List ℕ) (synced all : List Record) → Stands F.has F.kept (M.stands setting) header self.old synced all
+            → OnOk result (IsSettled F.has F.kept (M.stands setting) header self.new all) }
+        ensures same { (s : List ℕ) → F.has self.old.file s → F.has self.new.file s }
+        ensures kept { OnErr result (F.kept self.new.file ≡ F.kept self.old.file) }
+        ensures fault { OnOk result (self.new.fault ≡ None) }
+        ensures closes { OnErr result (IsSome self.new.fault) }
+        ensures closed { IsSome self.old.fault → IsErr result }
+    {
+        if let Some(fault) = self.fault {
+            return Err(fault);
+        }
+        if !self.unsynced {
+            return Ok(());
+        }
+        match self.file.sync() {
+            Ok(()) => {
+                self.unsynced = false;
+                Ok(())
+            }
+            Err(_) => {
+                self.fault = Some(Fault::Write);
+                Err(Fault::Write)
+            }
+        }
+    }
+}

@@ -1,0 +1,2 @@
+-- What is saved of a journal's file.
+pub mod Saved

@@ -1,0 +1,15 @@
+//! A journal's file on a disk of this machine.
+//!
+//! [`DiskLog`] reads, cuts and appends through the few calls of a [`Drive`], and saves what it cuts off. [`FileDrive`] makes
+//! these calls to the machine's file system. That the machine does what [`Drive`] says of them is not proved.
+#![tactic(auto)]
+
+mod disk_fault;
+mod disk_log;
+mod drive;
+mod file_drive;
+
+pub use disk_fault::DiskFault;
+pub use disk_log::DiskLog;
+pub use drive::{Drive, DriveError};
+pub use file_drive::FileDrive;

@@ -1,0 +1,14 @@
+use Rattle.std.proofs.Common.{[]}
+use Rattle.droid_journal_service.specs.Histories.{StandsForRecords}
+use Rattle.droid_journal_service.proofs.HistoryLaws.{between, no_history}
+use Rattle.droid_journal_service.proofs.service_journal.crash_and_reopen.Goals as goal
+
+pub returns-in-Ok : goal.returns-in-Ok
+returns-in-Ok g c = λ setting written synced all fresh keeps chance.
+    let stands : StandsForRecords setting c.args.fresh [] = record { history = []; its = no_history setting; stands = fresh } in
+    let found = c.in-Ok.ensures.reopened setting keeps.first written stands keeps.keeps chance in
+    let its = found.1.machine.its in (
+      found.1.machine.history,
+      record { first = found.0; records = found.0; stands = found.1; on_disk = its; accepted = its },
+      between setting keeps.first found.0 written synced found.1.machine.history all found.2 found.3 keeps.on_disk its keeps.accepted,
+    )

@@ -1,0 +1,3 @@
+-- What a service and its journal stand for, in histories.
+pub mod Histories
+pub mod Standing

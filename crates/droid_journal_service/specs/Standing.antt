@@ -1,0 +1,39 @@
+-- What a service with a journal stands for (this project's own).
+use Rattle.std.specs.Prelude.{◌≡◌, ◌⊎◌, ℕ, List}
+use Rattle.droid_frame.specs.Streams.{IsReadable}
+use Rattle.droid_frame.specs.types.frame.Frame.{Frame}
+use Rattle.droid_frame.specs.types.refusal.Refusal.TheVariants.{Malformed, Memory}
+use Rattle.droid_frame.specs.types.reply.Reply.{Reply}
+use Rattle.droid_frame.specs.types.reply.Reply.TheVariants.{Refused}
+use Rattle.droid_core.specs.Histories.{Handles, History, next}
+use Rattle.droid_core.specs.Setting.{Setting}
+use Rattle.droid_journal.specs.Standing.{Keeps, Stands}
+use Rattle.droid_journal.specs.declared.journal.Journal.{Journal}
+use Rattle.droid_journal_chain.specs.Records.{Record}
+use Rattle.droid_journal_service.specs.Histories.{IsHistoryOf, StandsForRecords}
+use Rattle.droid_journal_service.specs.declared.service_machine.ServiceMachine.{ServiceMachine}
+
+-- The service stands for all of this history, and the file has it; the first history of it is on the disk.
+pub record StandsForHistory {F : Type 0} (has : F → List ℕ → Type 0) (kept : F → List ℕ) (setting : Setting) (header : List ℕ) (journal : Journal F ServiceMachine) (synced all : History) : Type 0 where
+  pub first : List Record
+  pub records : List Record
+  pub stands : Stands has kept (λ (machine : ServiceMachine) (its : List Record). StandsForRecords setting machine.service its) header journal first records
+  pub on_disk : IsHistoryOf setting first synced
+  pub accepted : IsHistoryOf setting records all
+
+-- Whatever became of the last call: this history is on the disk, and no more than that was written.
+pub record KeepsHistory {F : Type 0} (kept : F → List ℕ) (setting : Setting) (header : List ℕ) (file : F) (written : List Record) (synced all : History) : Type 0 where
+  pub first : List Record
+  pub keeps : Keeps kept header file first written
+  pub on_disk : IsHistoryOf setting first synced
+  pub accepted : IsHistoryOf setting written all
+
+-- The reply is that of a service that stands for the history, and the claim holds of what comes next; or there was no memory
+-- to spell the request, or no stream can carry it, and the claim holds of this history.
+abbrev pub AnswersIn : Setting → History → Frame → Reply → (History → Type 0) → Type 0
+AnswersIn setting history frame reply Claim =
+    Handles setting history frame reply Claim ⊎ (((reply ≡ Refused Memory) ⊎ ((IsReadable frame → ⊥) × (reply ≡ Refused Malformed))) × Claim history)
+
+-- nothing was accepted since, or this request
+abbrev pub IsNextOr : Setting → History → Frame → History → Type 0
+IsNextOr setting history frame after = (after ≡ history) ⊎ (after ≡ next setting history frame)

@@ -1,0 +1,13 @@
+//! A service whose accepted requests are on the disk before their replies are sent.
+//!
+//! [`ServiceJournal`] is a journal over a service. Its clauses speak of histories: what is replied is the answer after the
+//! history so far, [`ServiceJournal::settle`] brings the history to the disk, and a service that is made from the file after
+//! a crash stands for a history that has all that was on the disk, and nothing that was not accepted.
+#![tactic(auto)]
+
+mod service_journal;
+mod service_machine;
+
+pub use droid_journal::{Fault, FileError, LogFile, Tears};
+pub use service_journal::{ServiceJournal, crash_and_reopen};
+pub use service_machine::ServiceMachine;

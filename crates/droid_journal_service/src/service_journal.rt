@@ -1,0 +1,110 @@
+//! A service with its journal, in histories.
+
+ghost use Rattle.std.specs.Prelude.{◌≡◌, ◌≤◌, ◌++◌, ◌⊎◌, ℕ, List, [], None, IfOk, IsErr, IsErrOf, IsSome, OnErr, OnOk, length};
+ghost use Rattle.droid_core.specs.Histories.{History};
+ghost use Rattle.droid_core.specs.Setting.{Setting};
+ghost use Rattle.droid_core.specs.Standing.{StandsFor};
+ghost use Rattle.droid_frame.specs.Replies.{HasReplySpelling};
+ghost use Rattle.droid_journal.specs.Opening.{HasHeader, IsBegun, IsKept, WasDamaged, WasFound, WasRefuted};
+ghost use Rattle.droid_journal.specs.Standing.{Keeps};
+ghost use Rattle.droid_journal_chain.specs.Chains.{NotByChance};
+ghost use Rattle.droid_journal_chain.specs.Records.{Record};
+ghost use Rattle.droid_journal_service.specs.Histories.{GivesReply, IsBetween, IsHistoryOf};
+ghost use Rattle.droid_journal_service.specs.Standing.{AnswersIn, IsNextOr, KeepsHistory, StandsForHistory};
+
+use crate::service_machine::ServiceMachine;
+use droid_core::Service;
+use droid_frame::{Frame, Reply};
+use droid_journal::{Fault, Journal, LogFile, Tears, open};
+use std::alloc::Global;
+
+/// A service and its journal.
+///
+/// No reply may be sent before [`ServiceJournal::settle`] returned `Ok` after it.
+#[derive(Drop)]
+pub struct ServiceJournal<F: LogFile> {
+    pub(crate) journal: Journal<F, ServiceMachine>,
+}
+
+impl<F: LogFile + Drop> ServiceJournal<F> {
+    /// Makes a service from the records of a file, and cuts the file behind them; `fresh` has accepted nothing yet. The file
+    /// is made, if it is empty. Nothing is written or cut before everything was read and found right.
+    pub fn open(
+        alloc: Global,
+        file: F,
+        header: &[u8],
+        fresh: Service,
+    ) -> Result<ServiceJournal<F>, Fault>
+        requires found { F.is_found file }
+        requires header { length header.now ≤ 4096 }
+        // What is kept of a file that has this header was written by a journal.
+        requires kept { (s : List ℕ) → F.has file s → HasHeader header.now s → IsKept header.now (F.kept file) }
+        ensures opened { (setting : Setting) (s : List ℕ) → StandsFor setting fresh [] → F.has file s → IfOk result (λ it. (its : List Record) × (history : History) × WasFound header.now s its
+            × IsHistoryOf setting its history × StandsForHistory F.has F.kept setting header.now it.journal history history) }
+        // Damage is told only where a record stands behind it that was written when all before it was on the disk.
+        ensures damage { (n : ℕ) → IsErrOf result (Fault.Damage n) → (s : List ℕ) → F.has file s → WasDamaged header.now s n }
+        // A record is told only if no service of this registry and these limits got its request behind those before it, or
+        // not with its reply.
+        ensures refuted { (n : ℕ) → IsErrOf result (Fault.Record n) → (setting : Setting) (s : List ℕ) → StandsFor setting fresh [] → F.has file s → WasRefuted (GivesReply setting) header.now s n }
+        ensures other_header { IsErrOf result Fault.Header → (s : List ℕ) → F.has file s → (HasHeader header.now s → ⊥) × ((count : ℕ) → IsBegun header.now s count → ⊥) }
+    {
+        let mut file = file;
+        let fresh = ServiceMachine { service: fresh };
+        match open(alloc, &mut file, header, fresh) {
+            Ok(opened) => Ok(ServiceJournal {
+                journal: Journal::new(alloc, file, opened),
+            }),
+            Err(fault) => Err(fault),
+        }
+    }
+
+    /// Handles a request and returns its reply.
+    pub fn handle(&mut self, frame: Frame) -> Reply
+        ensures handled { (setting : Setting) (header : List ℕ) (synced all : History) → StandsForHistory F.has F.kept setting header self.old.journal synced all
+            → self.new.journal.fault ≡ None → AnswersIn setting all frame result (StandsForHistory F.has F.kept setting header self.new.journal synced) }
+        // Whatever became of it: what was on the disk is there, and no more was written than what was accepted so far and
+        // this request.
+        ensures keeps { (setting : Setting) (header : List ℕ) (synced all : History) → StandsForHistory F.has F.kept setting header self.old.journal synced all
+            → (written : List Record) × (after : History) × IsNextOr setting all frame after × KeepsHistory F.kept setting header self.new.journal.file written synced after }
+        ensures spelled { HasReplySpelling frame.version result }
+        ensures closed { IsSome self.old.journal.fault → (self.new.journal.file ≡ self.old.journal.file) × (self.new.journal.fault ≡ self.old.journal.fault) }
+    {
+        self.journal.handle(frame)
+    }
+
+    /// Brings the history to the disk. After `Ok` the replies of all requests so far may be sent; after a fault none may be
+    /// sent any more, and every further call returns a fault.
+    pub fn settle(&mut self) -> Result<(), Fault>
+        ensures settled { (setting : Setting) (header : List ℕ) (synced all : History) → StandsForHistory F.has F.kept setting header self.old.journal synced all
+            → OnOk result (StandsForHistory F.has F.kept setting header self.new.journal all all) }
+        ensures kept { OnErr result (F.kept self.new.journal.file ≡ F.kept self.old.journal.file) }
+        ensures closes { OnErr result (IsSome self.new.journal.fault) }
+        ensures closed { IsSome self.old.journal.fault → IsErr result }
+    {
+        self.journal.settle()
+    }
+}
+
+/// Crashes a service with a journal in whatever state, with any bytes behind what is on the disk, and makes a new service
+/// from the file. Unless these bytes are records by chance, it stands for a history that goes on from the one on the disk and
+/// is the first of the one that was accepted. So whoever holds a reply that was sent gets it again.
+pub fn crash_and_reopen<F: Tears + Drop>(
+    alloc: Global,
+    before: ServiceJournal<F>,
+    header: &[u8],
+    tail: &[u8],
+    fresh: Service,
+) -> Result<ServiceJournal<F>, Fault>
+    requires header { length header.now ≤ 4096 }
+    requires keeps { (synced : List Record) × (written : List Record) × Keeps F.kept header.now before.journal.file synced written }
+    ensures { (setting : Setting) (written : List Record) (synced all : History) → StandsFor setting fresh [] → KeepsHistory F.kept setting header.now before.journal.file written synced all
+        → NotByChance header.now written (F.kept before.journal.file ++ tail.now)
+        → IfOk result (λ after. (history : History) × StandsForHistory F.has F.kept setting header.now after.journal history history × IsBetween synced history all) }
+{
+    let ServiceJournal { journal } = before;
+    let fresh = ServiceMachine { service: fresh };
+    match droid_journal::crash_and_reopen(alloc, journal, header, tail, fresh) {
+        Ok(journal) => Ok(ServiceJournal { journal }),
+        Err(fault) => Err(fault),
+    }
+}

@@ -1,0 +1,58 @@
+//! A service as the machine of a journal.
+
+ghost use Rattle.std.specs.Prelude.{◌≡◌, true, false};
+ghost use Rattle.droid_core.specs.Verdicts.{is_refused};
+
+use droid_core::Service;
+use droid_frame::{Frame, Reply};
+use droid_journal::{Handled, Machine};
+
+/// The kinds of requests below this one are commands, which change the service if they are accepted.
+const QUERIES: u8 = 7;
+
+/// A service as the machine of a journal. It stands for records if it stands for the history of their requests.
+///
+/// An accepted command goes into the journal unless the service has its reply cached, since then it came again. One whose
+/// reply is kept but no longer cached goes in once more, and changes nothing when it is read.
+#[derive(Drop)]
+pub struct ServiceMachine {
+    /// The service.
+    pub service: Service,
+}
+
+impl Machine for ServiceMachine {
+    ghost use Rattle.droid_core.specs.Setting as settings;
+    ghost use Rattle.droid_journal_service.specs.Histories.{GivesReply, StandsForRecords};
+
+    ghost Setting = { settings.Setting };
+
+    ghost stands = { λ setting machine records. StandsForRecords setting machine.service records };
+
+    ghost gives = { GivesReply };
+
+    fn handle(&mut self, frame: Frame) -> Handled {
+        let known = self.service.is_cached(frame.client, frame.number);
+        let commands = frame.kind < QUERIES;
+        let reply = self.service.handle(frame);
+        let accepted = belongs(commands, known, &reply);
+        Handled { reply, accepted }
+    }
+}
+
+/// Whether a request with this reply goes into the journal.
+fn belongs(commands: bool, known: bool, reply: &Reply) -> bool
+    ensures refused { is_refused reply.now ≡ true → result ≡ false }
+    ensures accepted { commands ≡ true → known ≡ false → is_refused reply.now ≡ false → result ≡ true }
+{
+    if refuses(reply) {
+        return false;
+    }
+    commands && !known
+}
+
+/// Whether a reply is a refusal.
+fn refuses(reply: &Reply) -> bool
+    ensures { result ≡ is_refused reply.now }
+{
+    matches!(reply, Reply::Refused(_))
+}

@@ -1,0 +1,9 @@
+mod Contents
+mod Grouping
+mod Lines
+mod Listing
+mod Names
+mod Numbers
+mod Reading
+mod Texts
+mod Totalling

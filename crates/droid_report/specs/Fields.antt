@@ -1,0 +1,63 @@
+-- What the fields of a profile's rows say (docs/CSV.md).
+use Rattle.std.specs.Prelude.{ℕ, ◌==◌, ◌&&◌, ◌^◌, ◌+◌, ◌-◌, ◌*◌, min, nat_lt, Bool, true, false, List, [], ◌∷◌, length, take, count_by, Option, Some, None, codes, if◌then◌else◌}
+use Rattle.std.specs.Char.{is_ascii_digit}
+use Rattle.std.specs.List.{fold, list_all}
+use Rattle.std.specs.Option.{option_map}
+use Rattle.std.specs.Str.{bytes_eq}
+use Rattle.std.specs.Str.Parse.{digits_value}
+use Rattle.droid_report.specs.declared.facts.Kind.{Kind}
+use Rattle.droid_report.specs.declared.facts.Kind.TheVariants.{File, Folder}
+use Rattle.droid_report.specs.declared.facts.Method.{Method}
+use Rattle.droid_report.specs.declared.facts.Method.TheVariants.{Unidentified, Signature, Extension}
+
+abbrev pub is_path : List ℕ → Bool
+is_path [] = false
+is_path (b ∷ bytes) = b == 47
+
+-- TYPE
+abbrev pub kind_of : List ℕ → Option Kind
+kind_of text =
+    if bytes_eq text (codes "File") then Some File
+    else if bytes_eq text (codes "Folder") then Some Folder else None
+
+-- METHOD
+abbrev pub method_of : List ℕ → Option Method
+method_of text =
+    if bytes_eq text [] then Some Unidentified
+    else if bytes_eq text (codes "Signature") then Some Signature
+    else if bytes_eq text (codes "Extension") then Some Extension else None
+
+-- EXTENSION_MISMATCH
+abbrev pub truth_of : List ℕ → Option Bool
+truth_of text =
+    if bytes_eq text (codes "true") then Some true
+    else if bytes_eq text (codes "false") then Some false else None
+
+-- the number that decimal digits stand for, below 2 ^ 64
+abbrev pub number_of : List ℕ → Option ℕ
+number_of text =
+    if list_all is_ascii_digit text && nat_lt 0 (length text) && nat_lt (digits_value 10 text) (2 ^ 64)
+    then Some (digits_value 10 text) else None
+
+-- SIZE and FORMAT_COUNT: a folder has neither, which counts as 0
+abbrev pub number_for : Kind → List ℕ → Option ℕ
+number_for File text = number_of text
+number_for Folder text = if length text == 0 then Some 0 else None
+
+-- the year of LAST_MODIFIED, which may be empty
+abbrev pub year_of : List ℕ → Option (Option ℕ)
+year_of text =
+    if length text == 0 then Some None
+    else if length text == 19 then option_map Some (number_of (take 4 text)) else None
+
+-- a number with a digit behind it, as far as 64 bits hold it; another byte changes nothing
+abbrev pub with_digit : ℕ → ℕ → ℕ
+with_digit number b = if is_ascii_digit b then min (min (number * 10) (2 ^ 64 - 1) + (b - 48)) (2 ^ 64 - 1) else number
+
+-- the digits of a text as one number; of moments the later one has the greater number
+abbrev pub digits_of : List ℕ → ℕ
+digits_of text = fold with_digit 0 text
+
+-- how deep a path is: the number of its slashes
+abbrev pub depth_of : List ℕ → ℕ
+depth_of path = count_by (λ b. b == 47) path

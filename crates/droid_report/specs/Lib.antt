@@ -1,0 +1,10 @@
+pub mod Calls
+pub mod Classes
+pub mod Fields
+pub mod Groups
+pub mod Lines
+pub mod Lists
+pub mod Ranks
+pub mod Reports
+pub mod Rows
+pub mod Totals

@@ -1,0 +1,147 @@
+-- The rows of a profile's CSV (docs/CSV.md).
+use Rattle.std.specs.Prelude.{ℕ, ◌+◌, ◌==◌, ◌&&◌, not, Bool, false, List, [], ◌∷◌, ◌++◌, length, Option, Some, None, Result, Ok, Err, codes, if◌then◌else◌}
+use Rattle.std.specs.List.{flat_map, list_all}
+use Rattle.std.specs.Option.{unwrap_or}
+use Rattle.std.specs.Str.{bytes_eq, is_utf8}
+use Rattle.csv.specs.Records.{field_at}
+use Rattle.droid_report.specs.Fields.{depth_of, digits_of, is_path, kind_of, method_of, number_for, truth_of, year_of}
+use Rattle.droid_report.specs.declared.facts.Facts.{Facts}
+use Rattle.droid_report.specs.declared.facts.HashColumn.{HashColumn}
+use Rattle.droid_report.specs.declared.facts.HashColumn.TheVariants.{Nothing, Md5, Sha256}
+use Rattle.droid_report.specs.declared.fault.ProfileFault.{ProfileFault}
+use Rattle.droid_report.specs.declared.fault.ProfileFault.TheVariants as faults
+
+-- the field at a place, or nothing past the last
+abbrev pub field_or : List (List ℕ) → ℕ → List ℕ
+field_or row place = unwrap_or (field_at row place) []
+
+-- ---- the header
+
+-- fields, each with a comma after it
+abbrev pub joined : List (List ℕ) → List ℕ
+joined names = flat_map (λ name. name ++ 44 ∷ []) names
+
+-- which hash the names of the columns say, if they are those of a profile
+abbrev pub hash_of_names : List ℕ → Option HashColumn
+hash_of_names names =
+    if bytes_eq names (codes "ID,PARENT_ID,URI,FILE_PATH,NAME,METHOD,STATUS,SIZE,TYPE,EXT,LAST_MODIFIED,EXTENSION_MISMATCH,HASH,FORMAT_COUNT,PUID,MIME_TYPE,FORMAT_NAME,FORMAT_VERSION,") then Some Nothing
+    else if bytes_eq names (codes "ID,PARENT_ID,URI,FILE_PATH,NAME,METHOD,STATUS,SIZE,TYPE,EXT,LAST_MODIFIED,EXTENSION_MISMATCH,MD5_HASH,FORMAT_COUNT,PUID,MIME_TYPE,FORMAT_NAME,FORMAT_VERSION,") then Some Md5
+    else if bytes_eq names (codes "ID,PARENT_ID,URI,FILE_PATH,NAME,METHOD,STATUS,SIZE,TYPE,EXT,LAST_MODIFIED,EXTENSION_MISMATCH,SHA256_HASH,FORMAT_COUNT,PUID,MIME_TYPE,FORMAT_NAME,FORMAT_VERSION,") then Some Sha256
+    else None
+
+-- a header has 18 columns, with these names in this order
+abbrev pub hash_of_header : List (List ℕ) → Option HashColumn
+hash_of_header row = if length row == 18 then hash_of_names (joined row) else None
+
+-- ---- rows
+
+infixl 10 ◌>>=◌
+abbrev pub ◌>>=◌ : {A B : Type 0} → Option A → (A → Option B) → Option B
+None >>= f = None
+(Some x) >>= f = f x
+
+-- the columns that a report prints
+abbrev pub printed_places : List ℕ
+printed_places = 3 ∷ 10 ∷ 12 ∷ 14 ∷ 16 ∷ 17 ∷ []
+
+abbrev pub is_text : List (List ℕ) → ℕ → Bool
+is_text row place = is_utf8 (field_or row place)
+
+-- the text of a column, or nothing where it is no text
+abbrev pub text_at : List (List ℕ) → ℕ → List ℕ
+text_at row place = if is_text row place then field_or row place else []
+
+-- whether a row has 18 fields, a path, and text in the columns that are printed
+abbrev pub is_whole : List (List ℕ) → Bool
+is_whole row = (length row == 18) && is_path (field_or row 3) && list_all (is_text row) printed_places
+
+-- what a row says beside its texts
+unfoldable pub facts_of : List (List ℕ) → Option Facts
+facts_of row = do
+  kind ← kind_of (field_or row 8)
+  size ← number_for kind (field_or row 7)
+  method ← method_of (field_or row 5)
+  is_mismatch ← truth_of (field_or row 11)
+  formats ← number_for kind (field_or row 13)
+  year ← year_of (field_or row 10)
+  Some
+      (record {
+        kind = kind;
+        size = size;
+        method = method;
+        is_mismatch = is_mismatch;
+        formats = formats;
+        year = year;
+        moment = digits_of (field_or row 10);
+        depth = depth_of (field_or row 3);
+      })
+
+unfoldable pub facts_in : List (List ℕ) → Option Facts
+facts_in row = if is_whole row then facts_of row else None
+
+-- A row that was read. A file with several formats has a row for each; those after its first have its ID.
+pub record Line : Type 0 where
+  pub fields : List (List ℕ)
+  pub facts : Facts
+  pub is_first : Bool
+
+-- whether a row has the ID of the last of these
+abbrev pub has_id : Option Line → List (List ℕ) → Bool
+has_id None row = false
+has_id (Some line) row = bytes_eq (field_or line.fields 0) (field_or row 0)
+
+abbrev pub last : List Line → Option Line
+last [] = None
+last (line ∷ []) = Some line
+last (line ∷ next ∷ lines) = last (next ∷ lines)
+
+-- what was read so far: which hash the header says, if there was one, how many records, and the rows
+pub record Draft : Type 0 where
+  pub header : Option HashColumn
+  pub records : ℕ
+  pub lines : List Line
+
+abbrev pub nothing_read : Draft
+nothing_read = record { header = None; records = 0; lines = [] }
+
+abbrev pub with_header : Option HashColumn → Result Draft ProfileFault
+with_header None = Err faults.Header
+with_header (Some hash) = Ok (record { header = Some hash; records = 1; lines = [] })
+
+abbrev pub with_row : Draft → List (List ℕ) → Option Facts → Result Draft ProfileFault
+with_row draft row None = Err (faults.Record (draft.records + 1))
+with_row draft row (Some facts) =
+    Ok (record {
+      header = draft.header;
+      records = draft.records + 1;
+      lines = draft.lines ++ record { fields = row; facts = facts; is_first = not (has_id (last draft.lines) row) } ∷ [];
+    })
+
+-- the header first, then the rows
+abbrev pub taken_by : Option HashColumn → Draft → List (List ℕ) → Result Draft ProfileFault
+taken_by None draft row = with_header (hash_of_header row)
+taken_by (Some hash) draft row = with_row draft row (facts_in row)
+
+abbrev pub taken : Draft → List (List ℕ) → Result Draft ProfileFault
+taken draft row = taken_by draft.header draft row
+
+-- a profile: which hash its rows have, and the rows
+pub record Profile : Type 0 where
+  pub hash : HashColumn
+  pub lines : List Line
+
+abbrev pub finished : Option HashColumn → List Line → Result Profile ProfileFault
+finished None lines = Err faults.Header
+finished (Some hash) lines = Ok (record { hash = hash; lines = lines })
+
+abbrev pub after : Result Draft ProfileFault → (Draft → Result Profile ProfileFault) → Result Profile ProfileFault
+after (Ok draft) more = more draft
+after (Err fault) more = Err fault
+
+abbrev pub profile_from : Draft → List (List (List ℕ)) → Result Profile ProfileFault
+profile_from draft [] = finished draft.header draft.lines
+profile_from draft (row ∷ rows) = after (taken draft row) (λ next. profile_from next rows)
+
+-- the rows of a profile's records, or the first fault
+abbrev pub profile_of : List (List (List ℕ)) → Result Profile ProfileFault
+profile_of records = profile_from nothing_read records

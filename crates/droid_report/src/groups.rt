@@ -1,0 +1,110 @@
+//! Rows that are alike.
+
+ghost use Rattle.std.specs.Prelude.{◌≡◌, ℕ, List, Some, IfOk, OnOk, false, if◌then◌else◌, option_map, string_bytes, unwrap_or};
+ghost use Rattle.std.specs.Str.{bytes_eq};
+ghost use Rattle.droid_report.specs.Lines.{line_of};
+ghost use Rattle.droid_report.specs.Groups.{fresh, grown, sum_after, sum_at, summed};
+
+use crate::keys::{Alike, key_of, label_of};
+use crate::row::Row;
+use std::alloc::{AllocError, Global};
+use std::collections::BTreeMap;
+
+/// What the rows of a group come to.
+#[derive(Drop)]
+pub struct GroupSum {
+    /// How many rows there are.
+    pub count: u64,
+    /// The sum of their sizes, or 2^64 - 1 if it is more.
+    pub bytes: u64,
+    /// The size of the first.
+    pub first_size: u64,
+    /// The name of the group: of a format its name and version, of equal files the path of the first.
+    pub label: String,
+}
+
+/// For each key what the rows that have it come to.
+pub type Groups = BTreeMap<String, GroupSum>;
+
+/// Adds a row to its group, unless it is like no other.
+pub(crate) fn add_row(
+    groups: &mut Groups,
+    alloc: Global,
+    row: &Row,
+    alike: Alike,
+) -> Result<(), AllocError>
+    ensures { OnOk result ((key : List ℕ) → sum_at groups.new key ≡ sum_after alike key (sum_at groups.old key) (line_of row.now)) }
+{
+    let key = key_of(alloc, row, alike)?;
+    if key.is_empty() {
+        return Ok(());
+    }
+    let old = taken(groups, key.as_str());
+    let sum = sum_with(alloc, old, row, alike)?;
+    put(groups, key, sum)?;
+    Ok(())
+}
+
+/// Removes a group and returns it, if it is there.
+fn taken(groups: &mut Groups, key: &str) -> Option<GroupSum>
+    ensures value { option_map summed result ≡ sum_at groups.old key.now }
+    ensures others { (other : List ℕ) → bytes_eq key.now other ≡ false → sum_at groups.new other ≡ sum_at groups.old other }
+{
+    groups.remove(key)
+}
+
+/// Sets a group.
+fn put(groups: &mut Groups, key: String, sum: GroupSum) -> Result<(), AllocError>
+    ensures { OnOk result ((other : List ℕ) → sum_at groups.new other ≡ (if bytes_eq (string_bytes key) other then Some (summed sum) else sum_at groups.old other)) }
+{
+    groups.insert(key, sum)?;
+    Ok(())
+}
+
+/// Returns a group with one row more. Without a group it is that row's own.
+fn sum_with(
+    alloc: Global,
+    old: Option<GroupSum>,
+    row: &Row,
+    alike: Alike,
+) -> Result<GroupSum, AllocError>
+    ensures { IfOk result (λ sum. summed sum ≡ grown (unwrap_or (option_map summed old) (fresh alike (line_of row.now))) row.now.facts.size) }
+{
+    match old {
+        Some(sum) => Ok(with_size(sum, row.facts.size)),
+        None => begun(alloc, row, alike),
+    }
+}
+
+/// Returns the group of a row that is the first of its kind.
+fn begun(alloc: Global, row: &Row, alike: Alike) -> Result<GroupSum, AllocError>
+    ensures { IfOk result (λ sum. summed sum ≡ grown (fresh alike (line_of row.now)) row.now.facts.size) }
+{
+    let label = label_of(alloc, row, alike)?;
+    let first_size = row.facts.size;
+    let sum = GroupSum {
+        count: 0,
+        bytes: 0,
+        first_size,
+        label,
+    };
+    Ok(with_size(sum, first_size))
+}
+
+/// Counts a row of this size.
+fn with_size(sum: GroupSum, size: u64) -> GroupSum
+    ensures { summed result ≡ grown (summed sum) size }
+{
+    let GroupSum {
+        count,
+        bytes,
+        first_size,
+        label,
+    } = sum;
+    GroupSum {
+        count: count.saturating_add(1),
+        bytes: bytes.saturating_add(size),
+        first_size,
+        label,
+    }
+}

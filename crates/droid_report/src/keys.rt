@@ -1,0 +1,57 @@
+//! What rows have in common.
+
+ghost use Rattle.std.specs.Prelude.{◌≡◌, IfOk, string_bytes};
+ghost use Rattle.droid_report.specs.Lines.{line_of};
+ghost use Rattle.droid_report.specs.Groups as groups;
+ghost use Rattle.droid_report.specs.declared.keys.Alike.TheVariants as alike;
+
+use crate::row::Row;
+use crate::totals::is_first_of_file;
+use std::alloc::{AllocError, Global};
+
+/// What rows have in common.
+#[derive(Clone, Copy)]
+pub enum Alike {
+    /// The format, by its PUID.
+    Format,
+    /// The hash and the size of a file. A file without a hash is like no other.
+    Content,
+}
+
+/// Returns the key of a row. It is empty for a row that is like no other.
+pub(crate) fn key_of(alloc: Global, row: &Row, alike: Alike) -> Result<String, AllocError>
+    ensures { IfOk result (λ key. string_bytes key ≡ groups.key_of alike (line_of row.now)) }
+{
+    match alike {
+        Alike::Format => String::from_str(alloc, row.text(14)),
+        Alike::Content => content_key(alloc, row),
+    }
+}
+
+/// Returns the hash of a file and its size, or nothing if it has no hash.
+fn content_key(alloc: Global, row: &Row) -> Result<String, AllocError>
+    ensures { IfOk result (λ key. string_bytes key ≡ groups.key_of alike.Content (line_of row.now)) }
+{
+    let hash = row.text(12);
+    if is_first_of_file(row) && !hash.is_empty() {
+        format!(in alloc; "{hash}, {}", row.facts.size)
+    } else {
+        Ok(String::new(alloc))
+    }
+}
+
+/// Returns the name of the group that a row begins: the name and version of its format, or its path.
+pub(crate) fn label_of(alloc: Global, row: &Row, alike: Alike) -> Result<String, AllocError>
+    ensures { IfOk result (λ label. string_bytes label ≡ groups.label_of alike (line_of row.now)) }
+{
+    match alike {
+        Alike::Format => format_label(alloc, row.text(16), row.text(17)),
+        Alike::Content => String::from_str(alloc, row.text(3)),
+    }
+}
+
+fn format_label(alloc: Global, name: &str, version: &str) -> Result<String, AllocError>
+    ensures { IfOk result (λ label. string_bytes label ≡ groups.format_label name.now version.now) }
+{
+    format!(in alloc; "{name} {version}")
+}

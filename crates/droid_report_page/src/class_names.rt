@@ -1,0 +1,83 @@
+//! The names of classes.
+
+ghost use Rattle.std.specs.Prelude.{◌≡◌, Some};
+ghost use Rattle.droid_report_page.specs.Classes.{class_name, power_of_four, unit_of};
+
+use droid_report::By;
+use std::fmt::{self, Display, Formatter, Write};
+
+/// The name of a class.
+#[derive(Clone, Copy)]
+pub(crate) struct ClassName {
+    /// By what files are counted.
+    pub by: By,
+    /// The class.
+    pub class: usize,
+}
+
+impl Display for ClassName {
+    ghost output = { λ it. Some (class_name it.by it.class) };
+
+    #[tactic(auto, unfolding(crate::specs::Classes::class_name))]
+    fn fmt<W: Write>(&self, f: &mut Formatter<W>) -> fmt::Result {
+        let class = self.class;
+        match self.by {
+            By::Year => write!(f, "{class}"),
+            By::Size => {
+                if class == 0 {
+                    return f.write_str("no bytes");
+                }
+                let lower = class - 1;
+                write!(
+                    f,
+                    "from {} {}",
+                    power_of_four(lower % 5),
+                    unit_of(lower / 5)
+                )
+            }
+            By::Depth => {
+                if class == 64 {
+                    return f.write_str("64 or more");
+                }
+                write!(f, "{class}")
+            }
+        }
+    }
+}
+
+fn power_of_four(n: usize) -> u64
+    ensures { result ≡ power_of_four n }
+{
+    if n == 0 {
+        1
+    } else if n == 1 {
+        4
+    } else if n == 2 {
+        16
+    } else if n == 3 {
+        64
+    } else {
+        256
+    }
+}
+
+/// Returns the name of a unit of sizes.
+fn unit_of(n: usize) -> &'static str
+    ensures { result.now ≡ unit_of n }
+{
+    if n == 0 {
+        "bytes"
+    } else if n == 1 {
+        "KiB"
+    } else if n == 2 {
+        "MiB"
+    } else if n == 3 {
+        "GiB"
+    } else if n == 4 {
+        "TiB"
+    } else if n == 5 {
+        "PiB"
+    } else {
+        "EiB"
+    }
+}

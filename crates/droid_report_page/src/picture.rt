@@ -1,0 +1,117 @@
+//! Pictures of formats: a bar for each of the twelve largest, and one for all others.
+
+ghost use Rattle.std.specs.Prelude.{◌≡◌, ◌++◌, IfOk, OnOk, map};
+ghost use Rattle.droid_report_page.specs.Pictures.{measure_of, most_of, picture_row, picture_rows, rest_of, rest_rows};
+ghost use Rattle.droid_report_page.specs.Seen.{row_seen, rows_seen};
+
+use crate::cells::{bar_row, share_of};
+use crate::cut::cut;
+use crate::texts;
+use droid_page::Cell;
+use droid_report::{Group, together};
+use std::alloc::{AllocError, Global};
+
+/// What the bars of a picture measure.
+#[derive(Clone, Copy)]
+pub(crate) enum Measure {
+    /// The number of files.
+    Files,
+    /// Their bytes.
+    Bytes,
+}
+
+/// How many groups a picture shows beside all others.
+const MOST_SHOWN: usize = 12;
+
+/// Makes a row for each of the first groups, and one for all others together: a name, a number and a bar.
+pub(crate) fn picture_rows(
+    alloc: Global,
+    groups: &[Group<'_>],
+    measure: Measure,
+) -> Result<Vec<Vec<Cell>>, AllocError>
+    ensures { IfOk result (λ lines. rows_seen lines.items ≡ picture_rows measure groups.now) }
+{
+    let (first, rest) = cut(groups, MOST_SHOWN);
+    let most = most_of(first, rest, measure);
+    let mut lines = group_rows(alloc, first, measure, most)?;
+    add_rest(&mut lines, alloc, rest, measure, most)?;
+    Ok(lines)
+}
+
+fn group_rows(
+    alloc: Global,
+    groups: &[Group<'_>],
+    measure: Measure,
+    most: u64,
+) -> Result<Vec<Vec<Cell>>, AllocError>
+    ensures { IfOk result (λ lines. rows_seen lines.items ≡ map (picture_row measure most) groups.now) }
+{
+    let mut lines = Vec::new(alloc);
+    for group in groups {
+        let line = group_row(alloc, group, measure, most)?;
+        lines.push(line)?;
+    }
+    Ok(lines)
+}
+
+fn group_row(
+    alloc: Global,
+    group: &Group<'_>,
+    measure: Measure,
+    most: u64,
+) -> Result<Vec<Cell>, AllocError>
+    ensures { IfOk result (λ line. row_seen line ≡ picture_row measure most group.now) }
+{
+    let amount = measure_of(group, measure);
+    let line = bar_row(alloc, group.label, amount, share_of(amount, most))?;
+    Ok(line)
+}
+
+/// Adds a row for the rest, if there is one.
+fn add_rest(
+    lines: &mut Vec<Vec<Cell>>,
+    alloc: Global,
+    rest: &[Group<'_>],
+    measure: Measure,
+    most: u64,
+) -> Result<(), AllocError>
+    ensures { OnOk result (rows_seen lines.new.items ≡ rows_seen lines.old.items ++ rest_rows measure most rest.now) }
+{
+    if rest.is_empty() {
+        return Ok(());
+    }
+    let amount = rest_of(rest, measure);
+    let line = bar_row(alloc, texts::OTHERS, amount, share_of(amount, most))?;
+    lines.push(line)?;
+    Ok(())
+}
+
+/// Returns the greatest number of the picture.
+fn most_of(first: &[Group<'_>], rest: &[Group<'_>], measure: Measure) -> u64
+    ensures { result ≡ most_of measure first.now rest.now }
+{
+    let others = rest_of(rest, measure);
+    match first {
+        [group, ..] => measure_of(group, measure).max(others),
+        [] => others,
+    }
+}
+
+fn measure_of(group: &Group<'_>, measure: Measure) -> u64
+    ensures { result ≡ measure_of measure group.now }
+{
+    match measure {
+        Measure::Files => group.count,
+        Measure::Bytes => group.bytes,
+    }
+}
+
+fn rest_of(groups: &[Group<'_>], measure: Measure) -> u64
+    ensures { result ≡ rest_of measure groups.now }
+{
+    let sum = together(groups);
+    match measure {
+        Measure::Files => sum.count,
+        Measure::Bytes => sum.bytes,
+    }
+}

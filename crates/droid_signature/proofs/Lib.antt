@@ -1,0 +1,5 @@
+pub mod Members
+pub mod Validity
+pub mod FormatHitting
+pub mod Made
+pub mod Naming

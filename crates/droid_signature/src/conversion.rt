@@ -1,0 +1,98 @@
+//! The registry of a signature file.
+
+ghost use Rattle.std.specs.Prelude.{◌≡◌, ◌<◌, ◌≤◌, Err, IfOk, length};
+ghost use Rattle.droid_signature.specs.Conversion.{IsMadeOf, IsTooLong};
+ghost use Rattle.droid_signature.specs.declared.conversion.ConversionFault.TheVariants as faults;
+
+use crate::tables::{AllTables, left_out_of, tables_of, text_of};
+use droid_signature_spec::SignatureFile;
+use droid_signature_tables::LeftOut;
+use std::alloc::{AllocError, AllocFailed, Global};
+
+/// The most bytes of a registry file.
+const BYTES_LIMIT: usize = 16_777_216;
+
+/// Why no registry could be made.
+#[derive(Clone, Copy, PartialEq, Eq)]
+pub enum ConversionFault {
+    /// Out of memory.
+    Memory,
+    /// The registry file would have more than 16,777,216 bytes.
+    TooLong,
+}
+
+impl From<AllocError> for ConversionFault {
+    ghost from_gives = { λ _ e. e ≡ faults.Memory };
+
+    fn from(_: AllocError) -> Self {
+        ConversionFault::Memory
+    }
+}
+
+impl<T: Drop> From<AllocFailed<T>> for ConversionFault {
+    ghost from_gives = { λ _ e. e ≡ faults.Memory };
+
+    fn from(_: AllocFailed<T>) -> Self {
+        ConversionFault::Memory
+    }
+}
+
+/// How much of the signature file the registry has.
+#[derive(Clone, Copy, PartialEq, Eq)]
+pub struct Taken {
+    pub formats: u64,
+    pub extensions: u64,
+    pub priorities: u64,
+    /// The signatures, once for each format.
+    pub signatures: u64,
+}
+
+/// The registry of a signature file.
+#[derive(Drop)]
+pub struct Converted {
+    /// The registry file.
+    pub csv: Vec<u8>,
+    /// What the registry has.
+    pub taken: Taken,
+    /// What the registry does not have: formats, extensions, priorities and signatures, each kind in the file's order.
+    pub left_out: Vec<LeftOut>,
+}
+
+/// Makes a registry of a signature file.
+///
+/// `Registry::parse` reads the registry file. Its formats are those of the signature file, with name, version, media type,
+/// extensions and priorities, and each hits only files that it hits by the signature file, under every scan limit. It hits all
+/// of them, if none of its signatures is left out. What is left out is listed, with the reason.
+pub fn convert(alloc: Global, file: &SignatureFile) -> Result<Converted, ConversionFault>
+    ensures made { IfOk result (λ made. IsMadeOf file.now made.csv.items made.left_out.items) }
+    ensures short { IfOk result (λ made. length made.csv.items ≤ 16777216) }
+    ensures too_long { result ≡ Err faults.TooLong → IsTooLong file.now }
+{
+    let made = make(alloc, file)?;
+    if made.csv.len() > BYTES_LIMIT {
+        return Err(ConversionFault::TooLong);
+    }
+    Ok(made)
+}
+
+fn make(alloc: Global, file: &SignatureFile) -> Result<Converted, AllocError>
+    ensures { IfOk result (λ made. IsMadeOf file.now made.csv.items made.left_out.items) }
+{
+    let tables = tables_of(alloc, file)?;
+    let csv = text_of(alloc, &tables)?;
+    let left_out = left_out_of(alloc, &tables)?;
+    Ok(Converted {
+        csv,
+        taken: taken_of(&tables),
+        left_out,
+    })
+}
+
+fn taken_of(tables: &AllTables<'_>) -> Taken {
+    Taken {
+        formats: tables.formats.kept.len() as u64,
+        extensions: tables.extensions.count,
+        priorities: tables.priorities.count,
+        signatures: tables.signatures.taken,
+    }
+}

@@ -1,0 +1,58 @@
+-- A signature is left out, or becomes rows.
+use Rattle.std.proofs.Common.{◌≡◌, ◌∙◌, ◌*◌, ◌++◌, length, inl, inr, refl, sym, ap, arith}
+use Rattle.droid_signature_patterns.specs.Choices.{ways}
+use Rattle.droid_signature_rows.specs.RegistryTables.{signature_lines}
+use Rattle.droid_signature_tables.specs.Formats.{puid_in}
+use Rattle.droid_signature_tables.specs.Views.{kept_of}
+use Rattle.droid_signature_tables.specs.declared.left_out.Why.TheVariants as why
+use Rattle.droid_signature_combinations.specs.Combinations.{lines_below}
+use Rattle.droid_signature_combinations.specs.SignatureRows.{rows_below, ways_of}
+use Rattle.droid_signature_combinations.specs.Signatures.{Named}
+use Rattle.droid_signature_combinations.specs.declared.signature_table.SignatureTable.{SignatureTable}
+use Rattle.droid_signature_combinations.proofs.PickRows.{lines_are, written_count, written_ways}
+use Rattle.droid_signature_combinations.proofs.Signing.{signs_left, signs_taken, written}
+use Rattle.droid_signature_combinations.proofs.signature_table.SignatureTable.add.Goals as goal
+
+pub returns-then-is_full : goal.returns-then-is_full
+returns-then-is_full c = λ signatures xs place at signature only taken signs.
+    let it : Named = record { place = place; of = kept_of c.args.of.now; id = c.args.id } in
+    let rows = written signature.sequences c.args.all.now taken.each in
+    let few = taken.few in
+    let same = written_ways c.args.all.now rows.lists rows.are in
+    let long = written_count c.args.all.now rows.lists rows.are in
+    let count : c.ways-count.result ≡ ways_of rows.lists = omega arith in
+    let product : c.ways-count.result * length c.args.all.now ≡ ways_of rows.lists * length rows.lists = ap (λ n. n * length c.args.all.now) count ∙ ap (λ n. ways_of rows.lists * n) (sym long) in
+    let over = c.is_full.ensures.over c.if-is_full.true in
+    signs_left signatures xs it why.Full c.args.self.now c.leave_out.new.self signs c.in_ok-leave_out.ensures
+    (λ before counted more. record {
+      at = at;
+      signature = signature;
+      only = only;
+      lists = rows.lists;
+      stand = rows.stand;
+      full = elim over [ inl large ↦ inl (omega arith) | inr large ↦ inr (omega arith) ];
+    })
+
+pub returns : goal.returns
+returns c = λ signatures xs place at signature only taken signs.
+    let it : Named = record { place = place; of = kept_of c.args.of.now; id = c.args.id } in
+    let all = c.args.all.now in
+    let rows = written signature.sequences all taken.each in
+    let few = taken.few in
+    let some = taken.some in
+    let same = written_ways all rows.lists rows.are in
+    let long = written_count all rows.lists rows.are in
+    let whole : c.ways-count.result ≡ ways all = omega arith in
+    let count : c.ways-count.result ≡ ways_of rows.lists = omega arith in
+    let product : c.ways-count.result * length all ≡ ways_of rows.lists * length rows.lists = ap (λ n. n * length all) count ∙ ap (λ n. ways_of rows.lists * n) (sym long) in
+    let within = c.is_full.ensures.within c.if-is_full.false in
+    let puid = puid_in c.args.of.now.format.now in
+    let old = c.args.self.now.text.items in
+    let new : SignatureTable = record { text = c.push_combinations.new.text; taken = c.saturating_add-self.result; count = c.saturating_add-signatures.result; sequences = c.saturating_add-sequences.result; left_out = c.args.self.now.left_out } in
+    signs_taken signatures xs it at signature rows.lists c.args.self.now new signs only rows.stand (omega arith)
+    (c.in_ok-push_combinations.ensures
+    ∙ ap (λ p. old ++ lines_below p all c.ways-count.result) c.puid_of.ensures
+    ∙ ap (λ n. old ++ lines_below puid all n) whole
+    ∙ ap (λ t. old ++ t) (lines_are place puid all rows.lists (ways all) rows.are (omega arith))
+    ∙ ap (λ n. old ++ signature_lines (rows_below place puid rows.lists n)) (sym same))
+    (omega arith) (omega arith) refl (omega arith) (omega arith)

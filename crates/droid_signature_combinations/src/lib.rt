@@ -1,0 +1,12 @@
+//! The signatures of the registry that a signature file becomes: one for each way to choose one pattern for each byte
+//! sequence.
+#![tactic(auto)]
+
+mod combination;
+mod listing;
+mod outcomes;
+mod signature_table;
+
+pub use listing::list_signatures;
+pub use outcomes::{Outcome, Outcomes};
+pub use signature_table::SignatureTable;

@@ -1,0 +1,12 @@
+//! Makes patterns of a registry of the byte sequences of a DROID signature file, or finds why a registry cannot hold them.
+#![tactic(auto)]
+
+mod choices;
+mod offsets;
+mod part_texts;
+mod positions;
+mod read_parts;
+mod reading;
+
+pub use choices::{Choices, choices_of};
+pub use droid_signature_texts::{PatternText, PatternTexts, Reason, Stop};

@@ -1,0 +1,4 @@
+pub mod RowSteps
+pub mod SpelledTexts
+pub mod FieldTexts
+pub mod StepsOfTables

@@ -1,0 +1,34 @@
+-- What a service with a journal does with one frame, and what settling does (this project's own).
+use Rattle.std.specs.Prelude.{◌≡◌, ℕ, Bool, true, false, List, None, IsSome}
+use Rattle.droid_frame.specs.types.frame.Frame.{Frame}
+use Rattle.droid_frame.specs.types.reply.Reply.{Reply}
+use Rattle.droid_core.specs.Histories.{History}
+use Rattle.droid_core.specs.Setting.{Setting}
+use Rattle.droid_journal.specs.declared.journal.Journal.{Journal}
+use Rattle.droid_journal_chain.specs.Records.{Record}
+use Rattle.droid_journal_service.specs.Standing.{AnswersIn, IsNextOr, KeepsHistory, StandsForHistory}
+use Rattle.droid_journal_service.specs.declared.service_machine.ServiceMachine.{ServiceMachine}
+use Rattle.droid_wire_journal.specs.declared.journal_handler.JournalHandler.{JournalHandler}
+
+-- In whatever history it stands for, it answers the frame, or has a fault. Whatever became of it, what was on the disk is
+-- there, and no more was written than was accepted so far and this frame. After a fault it does nothing.
+pub record HandlesIn {F : Type 0} (has : F → List ℕ → Type 0) (kept : F → List ℕ) (old : Journal F ServiceMachine) (frame : Frame) (reply : Reply) (new : Journal F ServiceMachine) : Type 0 where
+  pub handled : (setting : Setting) (header : List ℕ) (synced all : History) → StandsForHistory has kept setting header old synced all
+      → new.fault ≡ None → AnswersIn setting all frame reply (StandsForHistory has kept setting header new synced)
+  pub keeps : (setting : Setting) (header : List ℕ) (synced all : History) → StandsForHistory has kept setting header old synced all
+      → (written : List Record) × (after : History) × IsNextOr setting all frame after × KeepsHistory kept setting header new.file written synced after
+  pub closed : IsSome old.fault → (new.file ≡ old.file) × (new.fault ≡ old.fault)
+
+-- If it settles, all of its history is on the disk. If it does not, it has a fault. After a fault it does not.
+pub record SettlesIn {F : Type 0} (has : F → List ℕ → Type 0) (kept : F → List ℕ) (old : Journal F ServiceMachine) (done : Bool) (new : Journal F ServiceMachine) : Type 0 where
+  pub settled : (setting : Setting) (header : List ℕ) (synced all : History) → StandsForHistory has kept setting header old synced all
+      → done ≡ true → StandsForHistory has kept setting header new all all
+  pub kept_is : done ≡ false → kept new.file ≡ kept old.file
+  pub closes : done ≡ false → IsSome new.fault
+  pub closed : IsSome old.fault → done ≡ false
+
+abbrev pub HandlesSo : {F : Type 0} → (F → List ℕ → Type 0) → (F → List ℕ) → JournalHandler F → Frame → Reply → JournalHandler F → Type 0
+HandlesSo has kept old frame reply new = HandlesIn has kept old.journal.journal frame reply new.journal.journal
+
+abbrev pub SettlesSo : {F : Type 0} → (F → List ℕ → Type 0) → (F → List ℕ) → JournalHandler F → Bool → JournalHandler F → Type 0
+SettlesSo has kept old done new = SettlesIn has kept old.journal.journal done new.journal.journal

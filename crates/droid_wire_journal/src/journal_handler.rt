@@ -1,0 +1,31 @@
+//! A service with its journal as what handles the frames of all connections.
+
+use droid_frame::{Frame, Reply};
+use droid_journal_service::{LogFile, ServiceJournal};
+use droid_wire_turns::Handler;
+
+/// A service with its journal that handles the frames of all connections, one after another.
+#[derive(Drop)]
+pub struct JournalHandler<F: LogFile> {
+    /// The service and its journal.
+    pub journal: ServiceJournal<F>,
+}
+
+impl<F: LogFile + Drop> Handler for JournalHandler<F> {
+    ghost use Rattle.droid_wire_journal.specs.Handling.{HandlesSo, SettlesSo};
+
+    ghost handles = { HandlesSo F.has F.kept };
+
+    ghost settles = { SettlesSo F.has F.kept };
+
+    fn handle(&mut self, frame: Frame) -> Reply {
+        self.journal.handle(frame)
+    }
+
+    fn settle(&mut self) -> bool {
+        match self.journal.settle() {
+            Ok(()) => true,
+            Err(_) => false,
+        }
+    }
+}

@@ -1,0 +1,29 @@
+//! One stream, answered by a service with a journal.
+
+ghost use Rattle.std.specs.Prelude.{ℕ, List};
+ghost use Rattle.droid_core.specs.Histories.{History};
+ghost use Rattle.droid_core.specs.Setting.{Setting};
+ghost use Rattle.droid_journal_service.specs.Standing.{StandsForHistory};
+ghost use Rattle.droid_wire_journal.specs.Serving.{AnswersJournal};
+
+use crate::journal_handler::JournalHandler;
+use droid_frame::{SteadyRead, SteadyWrite};
+use droid_journal_service::LogFile;
+use droid_wire_pipe::{Pipe, answer_pipe};
+use droid_wire_turns::Served;
+use std::alloc::Global;
+
+/// Answers the frames of a reader by a service with a journal, until the input ends, or a frame, a stream or the journal
+/// fails.
+pub fn answer_journal<R: SteadyRead, W: SteadyWrite, F: LogFile + Drop>(
+    alloc: Global,
+    handler: &mut JournalHandler<F>,
+    pipe: &mut Pipe<R, W>,
+) -> Served
+    // The stream is served as one connection is. At each moment, also where the journal failed, all that was handled before
+    // a byte of any reply was written is on the disk.
+    ensures { (setting : Setting) (header : List ℕ) (history : History) → StandsForHistory F.has F.kept setting header handler.old.journal.journal history history
+        → AnswersJournal R.remaining W.contents F.has F.kept setting header history pipe.old handler.old pipe.new handler.new result }
+{
+    answer_pipe(alloc, handler, pipe)
+}

@@ -1,0 +1,64 @@
+-- One connection over a reader and a writer (this project's own).
+use Rattle.std.specs.Prelude.{◌≡◌, ◌⊎◌, ℕ, List, [], Option, Some, take}
+use Rattle.std.specs.Io.KnownBytes.{Appends, Consumes, IsAtEnd}
+use Rattle.droid_wire_turns.specs.Events.{Event, Ended, Opened, Read, Wrote}
+use Rattle.droid_wire_turns.specs.Steps.{Step, came, went}
+use Rattle.droid_wire_turns.specs.Turns.{ServesAll}
+use Rattle.droid_wire_turns.specs.declared.connections.Came.{Came}
+use Rattle.droid_wire_turns.specs.declared.connections.Came.TheVariants as came_as
+use Rattle.droid_wire_turns.specs.declared.connections.Took.{Took}
+use Rattle.droid_wire_turns.specs.declared.connections.Took.TheVariants as took_as
+use Rattle.droid_wire_turns.specs.declared.rules.Rules.{Rules}
+use Rattle.droid_wire_turns.specs.declared.served.Served.{Served}
+use Rattle.droid_wire_pipe.specs.declared.pipe.Pipe.{Pipe}
+
+-- what a read did to the reader
+abbrev pub CameSo : Option (List ℕ) → Option (List ℕ) → List ℕ → Came → Type 0
+CameSo old new buffer (came_as.Bytes count) = Consumes old new (take count buffer)
+CameSo old new buffer came_as.Nothing = Consumes old new []
+CameSo old new buffer came_as.End = Consumes old new [] × IsAtEnd new
+CameSo old new buffer came_as.Broken = Consumes old new []
+
+-- what a write did to the writer
+abbrev pub TookSo : Option (List ℕ) → Option (List ℕ) → List ℕ → Took → Type 0
+TookSo old new bytes (took_as.Bytes count) = Appends old new (take count bytes)
+TookSo old new bytes took_as.Nothing = Appends old new []
+TookSo old new bytes took_as.Broken = Appends old new []
+
+-- the bytes that an event takes of the reader, and those that it gives to the writer
+abbrev pub taken : Event → List ℕ
+taken (Read id bytes) = bytes
+taken _ = []
+
+abbrev pub given : Event → List ℕ
+given (Wrote id bytes) = bytes
+given _ = []
+
+-- there is one connection, with the number 0: no other is accepted, and no byte is of another
+abbrev pub IsOfOne : Event → Type 0
+IsOfOne (Opened id) = id ≡ 0
+IsOfOne (Read id bytes) = (id ≡ 0) ⊎ (bytes ≡ [])
+IsOfOne (Wrote id bytes) = (id ≡ 0) ⊎ (bytes ≡ [])
+IsOfOne _ = Unit {0}
+
+-- its input ends where nothing is left to be read
+abbrev pub EndsThere : Option (List ℕ) → Event → Type 0
+EndsThere left (Ended id) = IsAtEnd left
+EndsThere left _ = Unit {0}
+
+-- what an event does
+pub record PipeDoes {R W : Type 0} (remaining : R → Option (List ℕ)) (contents : W → Option (List ℕ)) (old : Pipe R W) (event : Event) (new : Pipe R W) : Type 0 where
+  pub read : Consumes (remaining old.reader) (remaining new.reader) (taken event)
+  pub written : Appends (contents old.writer) (contents new.writer) (given event)
+  pub one : IsOfOne event
+  pub ends : EndsThere (remaining new.reader) event
+
+-- one connection, which may be idle for ever
+abbrev pub rules_of_one : Rules
+rules_of_one = record { seats = 1; total = Some 1; idle = 18446744073709551615 }
+
+-- The loop served one connection. What came of it was read, what it took was written, and nothing else.
+pub record AnswersOne (left left_now wrote wrote_now : Option (List ℕ)) (result : Served) (steps : List Step) : Type 0 where
+  pub serves : ServesAll rules_of_one result steps
+  pub read : Consumes left left_now (came 0 steps)
+  pub written : Appends wrote wrote_now (went 0 steps)

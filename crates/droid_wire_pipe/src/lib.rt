@@ -1,0 +1,10 @@
+//! One connection over a reader and a writer, served by the loop of many connections.
+//!
+//! So the frames of a single stream are handled by the same kind of handler, and settled before their replies are written.
+#![tactic(auto)]
+
+mod answering;
+mod pipe;
+
+pub use answering::answer_pipe;
+pub use pipe::Pipe;

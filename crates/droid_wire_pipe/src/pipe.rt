@@ -1,0 +1,124 @@
+//! One connection over a reader and a writer.
+
+ghost use Rattle.std.specs.Prelude.{◌≡◌, length};
+ghost use Rattle.droid_wire_turns.specs.Events.{CameWithin, TookWithin};
+ghost use Rattle.droid_wire_pipe.specs.Pipes.{CameSo, TookSo};
+
+use droid_frame::{Retries, SteadyRead, SteadyWrite, read_some};
+use droid_wire_turns::{Came, Connections, Departure, Took, WaitFault};
+use std::io::ErrorKind;
+
+/// How often a write is tried.
+const TRIES: u32 = 65;
+
+/// One connection over a reader and a writer. At first it waits to be accepted.
+///
+/// A read waits until bytes come. So it is read once between two waits, and only if the loop may wait: then all replies
+/// were written.
+#[derive(Drop)]
+pub struct Pipe<R, W> {
+    /// What comes.
+    pub reader: R,
+    /// What it takes.
+    pub writer: W,
+    /// Whether it was accepted.
+    accepted: bool,
+    /// Whether it may be read before the next wait.
+    readable: bool,
+}
+
+impl<R: SteadyRead, W: SteadyWrite> Pipe<R, W> {
+    /// Makes a connection that waits to be accepted.
+    pub fn new(reader: R, writer: W) -> Pipe<R, W>
+        ensures reader { result.reader ≡ reader }
+        ensures writer { result.writer ≡ writer }
+    {
+        Pipe {
+            reader,
+            writer,
+            accepted: false,
+            readable: false,
+        }
+    }
+}
+
+impl<R: SteadyRead, W: SteadyWrite> Connections for Pipe<R, W> {
+    ghost use Rattle.droid_wire_pipe.specs.Pipes.{PipeDoes};
+
+    ghost does = { PipeDoes R.remaining W.contents };
+
+    fn wait(&mut self, limit: u64, _frames: u64) -> Result<(), WaitFault> {
+        self.readable = limit > 0;
+        Ok(())
+    }
+
+    fn now(&mut self) -> u64 {
+        0
+    }
+
+    fn accept(&mut self, id: u64) -> bool {
+        if self.accepted {
+            return false;
+        }
+        if id != 0 {
+            return false;
+        }
+        self.accepted = true;
+        true
+    }
+
+    fn read(&mut self, id: u64, buffer: &mut [u8]) -> Came {
+        if !self.readable {
+            return Came::Nothing;
+        }
+        if id != 0 {
+            return Came::Nothing;
+        }
+        self.readable = false;
+        read_from(&mut self.reader, buffer)
+    }
+
+    fn write(&mut self, id: u64, bytes: &[u8]) -> Took {
+        if id != 0 {
+            return Took::Nothing;
+        }
+        write_to(&mut self.writer, bytes)
+    }
+
+    fn close(&mut self, _id: u64, _why: Departure, _frames: u64) {}
+}
+
+/// Reads once. An interrupted read is tried again, up to 64 times.
+fn read_from<R: SteadyRead>(reader: &mut R, buffer: &mut [u8]) -> Came
+    ensures bound { CameWithin result (length buffer.new) }
+    ensures came { CameSo (R.remaining reader.old) (R.remaining reader.new) buffer.new result }
+{
+    if buffer.is_empty() {
+        return Came::Nothing;
+    }
+    let mut retries = Retries::new();
+    match read_some(reader, buffer, &mut retries) {
+        Ok(0) => Came::End,
+        Ok(count) => Came::Bytes(count),
+        Err(_) => Came::Broken,
+    }
+}
+
+/// Writes some of these bytes. An interrupted write is tried again, up to 64 times.
+fn write_to<W: SteadyWrite>(writer: &mut W, bytes: &[u8]) -> Took
+    ensures bound { TookWithin result (length bytes.now) }
+    ensures took { TookSo (W.contents writer.old) (W.contents writer.new) bytes.now result }
+{
+    for _ in 0..TRIES {
+        match writer.write_on(bytes) {
+            Ok(0) => return Took::Broken,
+            Ok(count) => return Took::Bytes(count),
+            Err(error) => {
+                if error.kind() != ErrorKind::Interrupted {
+                    return Took::Broken;
+                }
+            }
+        }
+    }
+    Took::Broken
+}

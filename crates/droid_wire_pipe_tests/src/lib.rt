@@ -1,0 +1,5 @@
+//! Tests of one connection over a reader and a writer.
+#![tactic(auto)]
+
+#[cfg(test)]
+mod streams;

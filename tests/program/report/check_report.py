@@ -1,0 +1,207 @@
+"""Tests `report` of the built program: every number of the page is computed again from the CSV, which is random or odd.
+check_report.py PROGRAM"""
+
+import os
+import random
+import re
+import resource
+import shutil
+import subprocess
+import sys
+import tempfile
+import time
+
+sys.path.insert(0, os.path.dirname(os.path.abspath(__file__)))
+import numbers_of  # noqa: E402
+from numbers_of import NAMES  # noqa: E402
+from page import Page  # noqa: E402
+from sample_profiles import ODD, profile, row, written  # noqa: E402
+import sample_profiles  # noqa: E402
+
+PROGRAM = sys.argv[1]
+def run(*words):
+    return subprocess.run([PROGRAM, "report", *words], capture_output=True, timeout=120)
+
+
+class Place:
+    """A folder with a CSV in it."""
+
+    def __init__(self, csv_bytes):
+        self.folder = tempfile.TemporaryDirectory()
+        self.csv, self.page = (os.path.join(self.folder.name, name) for name in ("p.csv", "p.html"))
+        with open(self.csv, "wb") as file:
+            file.write(csv_bytes)
+
+    def __enter__(self):
+        return self
+
+    def __exit__(self, *_):
+        self.folder.cleanup()
+
+    def names(self):
+        return sorted(os.listdir(self.folder.name))
+
+
+def page_by(csv_bytes, title):
+    """Returns the page for this CSV."""
+    with Place(csv_bytes) as place:
+        done = run(place.csv, f"--title={title}", "--output", place.page)
+        assert done.returncode == 0, (done.returncode, done.stderr)
+        assert done.stdout == b"" and done.stderr == b"", (done.stdout, done.stderr)
+        assert place.names() == ["p.csv", "p.html"], place.names()
+        with open(place.page, encoding="utf-8", newline="") as file:
+            return file.read()
+
+
+def shown_cell(cell):
+    kind, *parts = cell
+    return (kind, *(numbers_of.shown(part) if isinstance(part, str) else part for part in parts))
+
+
+def see(text, title, hash_words="Its hashes are MD5"):
+    """Compares a page with its CSV: as it is read, and letter for letter."""
+    page = page_by(text.encode("utf-8"), title)
+    read = Page(page)
+    assert read.title == numbers_of.shown(title) and read.heading == numbers_of.shown(title), (read.title, title)
+    about = re.fullmatch(r"Made by droid_desk from p\.csv at \d{4}-\d\d-\d\dT\d\d:\d\d:\d\d \(UTC\)\. (.*)\. A file with several formats counts once\.", read.about)
+    assert about and about.group(1) == hash_words, read.about
+    start, end = page.index("<main>"), page.index("</body>")
+    around = len((page[:start] + page[end:]).encode())
+    tables, body = numbers_of.fitting(numbers_of.Numbers(text), title, read.about, around)
+    for wanted, found in zip(tables, read.tables, strict=True):
+        name, note, heads, rows = wanted
+        shown = [name, note, heads, [[shown_cell(cell) for cell in row] for row in rows]]
+        assert shown[:3] == found[:3], (shown[:3], found[:3])
+        for here, there in zip(shown[3], found[3], strict=True):
+            assert here == there, (name, here, there)
+    assert page[start:end] == body
+    assert len(page.encode("utf-8")) <= numbers_of.MOST_BYTES
+    return page
+
+
+def random_profiles():
+    for seed in range(200):
+        chance = random.Random(seed)
+        name, said = chance.choice([("HASH", "It has no hashes"), ("MD5_HASH", "Its hashes are MD5"), ("SHA256_HASH", "Its hashes are SHA-256")])
+        see(profile(chance, chance.choice([0, 1, 5, 60, 700]), name), chance.choice(ODD) + "t", said)
+    print("200 random profiles: passed")
+
+
+def odd_profiles():
+    """An empty profile, one whose names fill more than a page, one of many years, one whose sums end at 2^64 - 1."""
+    see(written([]), "empty")
+    see(written([["1", "", "file:/a/", "/a", "a", "", "Done", "", "Folder", "", "", "false", "", "", "", "", "", ""]]), "a folder")
+    see(written(row(n, "/" + '"' * 3000 + str(n)) for n in range(300)), "long names")
+    see(written(row(n, "/" + "x" * 150 + str(n), digest=f"{n // 2:032}") for n in range(900)), "many names")
+    see(written(row(n, f"/{n}", moment=f"{n:04}-01-01T00:00:00") for n in range(10000)), "ten thousand years")
+    see(written(row(n, f"/{n}", size=2**63) for n in range(5)), "large files")
+    see(written(row(n, f"/{n}", method="Extension", puid=f"fmt/{n}") for n in range(1000)), "many formats")
+    print("odd profiles: passed")
+
+
+def each_byte_changed():
+    """A CSV with a byte changed makes a page of the same elements, or a fault that names the record."""
+    chance = random.Random(1)
+    whole = profile(chance, 3).encode("utf-8")
+    pages = 0
+    with Place(whole) as place:
+        for at in range(len(whole)):
+            for other in (chance.randrange(256), b'"<'[at % 2]):
+                with open(place.csv, "wb") as file:
+                    file.write(whole[:at] + bytes([other]) + whole[at + 1 :])
+                done = run(place.csv)
+                if done.returncode == 0:
+                    Page(done.stdout.decode("utf-8"))
+                    pages += 1
+                else:
+                    assert done.returncode == 3 and done.stdout == b"", (done.returncode, at, other)
+                    assert re.match(rb"fault: Profile\n.*: (record \d+ is malformed|does not begin with)", done.stderr), (done.stderr, at, other)
+    print(f"each of {len(whole)} bytes changed: passed ({pages} pages)")
+
+
+def faults():
+    """What a command that fails says, and what it leaves."""
+    good = profile(random.Random(2), 30)
+    lines = good.split("\n")
+
+    def fails(csv_bytes, sentence):
+        with Place(csv_bytes) as place:
+            done = run(place.csv, "--output", place.page)
+            assert done.returncode == 3, done.returncode
+            said = done.stderr.decode()
+            assert said.startswith("fault: Profile\n") and sentence in said, said
+            assert place.names() == ["p.csv"], place.names()
+
+    fails(b"", "does not begin with")
+    fails(b"\xef\xbb\xbf", "does not begin with")
+    fails(written([], NAMES[:-1]).encode(), "does not begin with")
+    for place in (1, 3, 7):
+        bad = written([row(n, f"/{n}") for n in range(1, place)] + [row(place, f"/{place}", size="x")] + [row(place + 1, "/z")])
+        fails(bad.encode(), f"record {place + 1} is malformed")
+    fails(written([row(1, "a/b")]).encode(), "record 2 is malformed")
+    fails(written([row(1, "/\udcff")]).encode("utf-8", "surrogateescape"), "record 2 is malformed")
+    with Place(good.encode()) as place:
+        done = run(place.csv, "--output", place.csv)
+        assert done.returncode == 4 and done.stderr.startswith(b"fault: Output\n"), done.stderr
+        with open(place.csv, "rb") as file:
+            assert file.read() == good.encode()
+        done = run(place.csv, "--output", os.path.join(place.folder.name, "none", "p.html"))
+        assert done.returncode == 4 and done.stderr.startswith(b"fault: Output\n"), done.stderr
+        done = run(place.csv + "x", "--output", place.page)
+        assert done.returncode == 3 and b"no such file" in done.stderr, done.stderr
+        done = run(place.folder.name, "--output", place.page)
+        assert done.returncode == 3 and done.stderr.startswith(b"fault: Profile\n"), done.stderr
+        with open(place.page, "w", encoding="utf-8") as file:
+            file.write("older")
+        assert run(place.csv + "x", "--output", place.page).returncode == 3
+        with open(place.page, encoding="utf-8") as file:
+            assert file.read() == "older"
+        assert run(place.csv, "--output", place.page).returncode == 0
+        with open(place.page, "rb") as file:
+            page = file.read()
+        told = run(place.csv)
+        assert told.returncode == 0 and len(told.stdout) == len(page)
+        assert Page(page.decode()).title == "p.csv"
+        full = subprocess.run(["sh", "-c", '"$0" report "$1" >/dev/full', PROGRAM, place.csv], capture_output=True, timeout=120)
+        assert full.returncode == 4 and full.stderr.startswith(b"fault: Write\n"), full.stderr
+    assert lines[0].startswith('"ID"')
+    print("faults: passed")
+
+
+def many_rows():
+    """100,000 rows: the numbers, and what they cost."""
+    text = sample_profiles.many(random.Random(3))
+    see(text, "many rows")
+    with Place(text.encode()) as place:
+        before = resource.getrusage(resource.RUSAGE_CHILDREN)
+        start = time.monotonic()
+        done = run(place.csv, "--output", place.page)
+        wall = time.monotonic() - start
+        after = resource.getrusage(resource.RUSAGE_CHILDREN)
+        assert done.returncode == 0
+        spent = after.ru_utime + after.ru_stime - before.ru_utime - before.ru_stime
+        print(f"100,000 rows: passed, {spent:.2f} s of a processor, {wall:.2f} s in all")
+
+
+def pictures(page):
+    """Each SVG by xmllint, where it is installed."""
+    if not shutil.which("xmllint"):
+        print("pictures: skipped, xmllint is not installed")
+        return
+    found = re.findall(r"<svg .*?</svg>", page)
+    whole = "<all>" + "".join(found) + "</all>"
+    done = subprocess.run(["xmllint", "--noout", "-"], input=whole.encode(), capture_output=True, timeout=60)
+    assert done.returncode == 0 and found, done.stderr
+    print(f"{len(found)} pictures by xmllint: passed")
+
+
+def main():
+    random_profiles()
+    odd_profiles()
+    each_byte_changed()
+    faults()
+    many_rows()
+    pictures(see(profile(random.Random(4), 300), "pictures"))
+
+
+main()
