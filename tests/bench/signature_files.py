@@ -11,8 +11,8 @@ import tempfile
 from random import Random
 from subprocess import DEVNULL
 
+from lib.costs import cost_of
 from lib.large_signatures import HOSTILE, write
-from lib.processes import measure
 from lib.program import PROGRAM
 from registries import measure_contents
 
@@ -23,7 +23,7 @@ LIMIT_SECONDS, LIMIT_MEMORY, LIMIT_FINISH, LIMIT_HOSTILE = 1.5, 64_000_000, 5, 2
 
 def conversion(path, target, err):
     """The status, seconds and memory of `registry`."""
-    status, seconds, _, memory = measure([PROGRAM, "registry", path, "--output", target], err=err)
+    status, seconds, _, memory = cost_of([PROGRAM, "registry", path, "--output", target], err=err)
     return status, seconds, memory
 
 

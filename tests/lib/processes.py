@@ -1,8 +1,6 @@
-"""What a process uses: memory and processor time."""
+"""What /proc has of a process: memory and processor time."""
 
 import os
-import subprocess
-import time
 
 TICKS = os.sysconf("SC_CLK_TCK")
 
@@ -35,13 +33,3 @@ def processor_milliseconds(process):
     """The milliseconds that the process's first thread used a processor so far, more exactly than in ticks."""
     with open(f"/proc/{process.pid}/schedstat", encoding="ascii") as file:
         return int(file.read().split()[0]) / 1e6
-
-
-def measure(words, out=subprocess.DEVNULL, err=subprocess.DEVNULL):
-    """Runs a command to its end: its status, the seconds that it took, those of a processor, and its greatest memory in
-    bytes, which is at least what this process ever had."""
-    start = time.perf_counter()
-    process = subprocess.Popen(words, stdin=subprocess.DEVNULL, stdout=out, stderr=err)
-    _, status, used = os.wait4(process.pid, 0)
-    process.returncode = os.waitstatus_to_exitcode(status)
-    return process.returncode, time.perf_counter() - start, used.ru_utime + used.ru_stime, used.ru_maxrss * 1024

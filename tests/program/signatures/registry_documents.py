@@ -20,9 +20,8 @@ BYTES = b"<&>\"\0\xff"
 FAULT = re.compile("fault: (NotWellFormed|Doctype|TooDeep|TooManyAttributes|Encoding) at ([0-9]+)\n")
 
 SMALL = b"""<?xml version="1.0"?>
-<FFSignatureFile Version='2'><InternalSignatureCollection><InternalSignature ID='1'><ByteSequence Reference="BOFoffset">
-<SubSequence Position="1" SubSeqMaxOffset="0"><Sequence>6&#x31;<![CDATA[62]]></Sequence></SubSequence></ByteSequence></InternalSignature>
-</InternalSignatureCollection><!-- one --><FileFormatCollection><FileFormat ID="1" PUID="f/1" Name="A &lt; B"/></FileFormatCollection></FFSignatureFile>
+<FFSignatureFile Version='2'><!-- one --><FileFormatCollection><FileFormat ID="1" PUID="f/1" Name="A &lt; B">
+<Extension>6&#x31;<![CDATA[<2]]></Extension><?p i?></FileFormat></FileFormatCollection><a/></FFSignatureFile>
 """
 
 

@@ -4,8 +4,8 @@ import tempfile
 import unittest
 
 from conversions import PARTLY, left_out, rows_of, run
+from lib.costs import cost_of
 from lib.large_signatures import BYTES, FULL, HOSTILE, write
-from lib.processes import measure
 from lib.program import PROGRAM
 from signature_file import read_signature_file
 
@@ -22,7 +22,7 @@ class Large(unittest.TestCase):
     def cost(self):
         """Makes the registry of the file: the status, the seconds of a processor and the memory, and what was said."""
         with open(self.said, "wb") as err:
-            status, _, seconds, memory = measure([PROGRAM, "registry", self.path, "--output", self.target, "--quiet"], err=err)
+            status, _, seconds, memory = cost_of([PROGRAM, "registry", self.path, "--output", self.target, "--quiet"], err=err)
         with open(self.said, encoding="utf-8") as file:
             return status, seconds, memory, file.read()
 
