@@ -61,9 +61,14 @@ fn what_is_left_out_is_listed(rt: HostRuntime) {
             assert!(rt; made.left_out[2] == left_out(0, Item::Extension(0), Why::BadExtension));
             assert!(rt; made.left_out[3] == left_out(0, Item::Priority(1), Why::OverItself));
             assert!(rt; made.left_out[4] == left_out(0, Item::Priority(2), Why::NoSuchFormat));
-            assert!(rt; made.left_out[5] == left_out(0, Item::Signature(1), Why::Signature(Reason::NoSequence)));
+            assert!(rt;
+                made.left_out[5]
+                    == left_out(0, Item::Signature(1), Why::Signature(Reason::NoSequence))
+            );
             assert!(rt; made.left_out[6] == left_out(0, Item::Signature(3), Why::NoSuchSignature));
-            assert!(rt; made.left_out[7] == left_out(0, Item::Signature(4), Why::SeveralSignatures));
+            assert!(rt;
+                made.left_out[7] == left_out(0, Item::Signature(4), Why::SeveralSignatures)
+            );
         }
     }
 }
