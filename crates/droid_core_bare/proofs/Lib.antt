@@ -1,0 +1,4 @@
+pub mod ByPlace
+pub mod BareNodes
+pub mod BareVerdicts
+pub mod BareEnds
