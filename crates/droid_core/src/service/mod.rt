@@ -6,7 +6,7 @@ ghost use Rattle.std.specs.NonZero.{non_zero_usize_get};
 ghost use Rattle.droid_core.specs.Cached.{KeepsText, cache_size_of, cached_in, caches};
 ghost use Rattle.droid_core.specs.KeptBytes.{IsAtMost, kept_bytes_of, most_bytes_of, piece_size_of};
 ghost use Rattle.droid_core.specs.Running.{Runs};
-ghost use Rattle.droid_core.specs.Standing.{StandsFor, limits_of, registry_of};
+ghost use Rattle.droid_core.specs.Standing.{Stand, StandsFor, limits_of, registry_of};
 ghost use Rattle.droid_core_requests.specs.KeptTexts.{is_followed};
 ghost use Rattle.droid_core_requests.specs.Standing.{limits_given};
 ghost use Rattle.droid_frame.specs.Replies.{HasReplySpelling};
@@ -97,7 +97,19 @@ impl Service {
             store: Store::in_memory(alloc)?,
             files: UnfinishedFiles::new(alloc, limits.unfinished)?,
         };
-        let recent = RecentReplies::new(alloc, places)?;
+        Ok(Service::of(holdings, places)?)
+    }
+
+    /// Makes a service of what one keeps, which caches up to `places` replies. It stands for what that stands for. Fails
+    /// only if there is no memory.
+    pub fn of(holdings: Holdings, places: NonZeroUsize) -> Result<Service, AllocError>
+        ensures stands { IfOk result (λ service. (setting : Setting) (history : History) → Stand setting holdings history
+            → StandsFor setting service history) }
+        ensures limits { IfOk result (λ service. limits_of service ≡ limits_given holdings.limits) }
+        ensures registry { IfOk result (λ service. registry_of service ≡ holdings.registry) }
+        ensures cache { IfOk result (λ service. cache_size_of service ≡ non_zero_usize_get places) }
+    {
+        let recent = RecentReplies::new(holdings.alloc, places)?;
         Ok(Service {
             holdings,
             recent,
