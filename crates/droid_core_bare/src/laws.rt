@@ -1,8 +1,10 @@
 //! Laws of bare worlds. Each is the contract of a function that does nothing, and is proved with it.
 
-ghost use Rattle.std.specs.Prelude.{◌≡◌, ℕ, ℤ, List, Some, true, false};
+ghost use Rattle.std.specs.Prelude.{◌≡◌, ◌++◌, ◌∷◌, ℕ, List, true, false};
 ghost use Rattle.droid_core_bare.specs.BareFiles.{FinishesBare};
 ghost use Rattle.droid_core_bare.specs.BareWorlds.{Bare, HaveEnded, bare_verdict, bare_world, needs_bytes};
+ghost use Rattle.droid_core_bare.specs.Ending.{Ends, IsEnded};
+ghost use Rattle.droid_core_spec.specs.Histories.{Entry, History, IsLegal, world_of};
 ghost use Rattle.droid_core_spec.specs.Judging.{Accepted, judge};
 ghost use Rattle.droid_core_spec.specs.Setting.{Setting};
 ghost use Rattle.droid_core_spec.specs.Verdicts.{is_command};
@@ -36,4 +38,11 @@ pub fn a_bare_file_is_finished_by_its_finding()
 pub fn ended_files_need_no_bytes()
     ensures ended { (bare : Bare) (world : World) → HaveEnded bare world → bare_world bare world ≡ world }
     ensures empty { (bare : Bare) → bare_world bare empty_world ≡ empty_world }
+{}
+
+/// A file that was finished or abandoned in a legal history has ended in its world.
+pub fn an_ended_file_stays_so()
+    ensures ended { (setting : Setting) (before later : History) (entry : Entry) (profile file : ℕ) → IsLegal setting (before ++ entry ∷ later) → Ends entry profile file
+        → IsEnded (world_of setting (before ++ entry ∷ later)) profile file }
+    ensures all { (bare : Bare) (world : World) → ((profile file : ℕ) → bare profile file ≡ true → IsEnded world profile file) → HaveEnded bare world }
 {}
