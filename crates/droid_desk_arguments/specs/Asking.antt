@@ -32,6 +32,7 @@ pub record IsProfile (rows : List Row) (options : ProfileOptions) : Type 0 where
   pub manifest : option_map (λ path. path.now) options.manifest ≡ first_of (codes "manifest") rows
   pub checksums : has_no_checksums options.hash (option_map (λ path. path.now) options.manifest) ≡ false
   pub skipped : option_map (λ path. path.now) options.skipped ≡ first_of (codes "skipped") rows
+  pub report : option_map (λ path. path.now) options.report ≡ first_of (codes "report") rows
   pub quiet : IsFlag (one_of (codes "quiet") rows) options.quiet
 
 -- where a submission goes, and how long it waits for the service
@@ -52,6 +53,7 @@ pub record IsSubmit (rows : List Row) (options : SubmitOptions) : Type 0 where
   pub hash : IsHash (first_of (codes "hash") rows) options.hash
   pub export : option_map (λ path. path.now) options.export ≡ first_of (codes "export") rows
   pub skipped : option_map (λ path. path.now) options.skipped ≡ first_of (codes "skipped") rows
+  pub report : option_map (λ path. path.now) options.report ≡ first_of (codes "report") rows
   pub quiet : IsFlag (one_of (codes "quiet") rows) options.quiet
 
 -- the registry of everyday formats is asked for beside a file

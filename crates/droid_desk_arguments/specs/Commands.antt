@@ -47,16 +47,20 @@ export_option = option_named (codes "export")
 abbrev pub skipped_option : Rule
 skipped_option = option_named (codes "skipped")
 
+-- where a page of the profile goes
+abbrev pub report_option : Rule
+report_option = option_named (codes "report")
+
 -- what is profiled, and by what
 abbrev pub profile_input : App
 profile_input = with_rule (with_rule (with_rule (new_app (codes "profile")) folder_word) registry_option) limit_option
 
--- what is done with each file
+-- what is done with each file, and where the CSV goes
 abbrev pub profile_files : App
-profile_files = with_rule (with_rule profile_input (flag_named (codes "match-all"))) hash_option
+profile_files = with_rule (with_rule (with_rule profile_input (flag_named (codes "match-all"))) hash_option) output_option
 
 abbrev pub profile_command : App
-profile_command = with_rule (with_rule (with_rule (with_rule profile_files output_option) manifest_option) skipped_option) (flag_named (codes "quiet"))
+profile_command = with_rule (with_rule (with_rule (with_rule profile_files manifest_option) skipped_option) report_option) (flag_named (codes "quiet"))
 
 -- what is submitted, and where it goes
 abbrev pub submit_input : App
@@ -72,7 +76,7 @@ submit_files =
     with_rule (with_rule (with_rule (with_rule submit_connection piece_size_option) limit_option) (flag_named (codes "match-all"))) hash_option
 
 abbrev pub submit_command : App
-submit_command = with_rule (with_rule (with_rule submit_files export_option) skipped_option) (flag_named (codes "quiet"))
+submit_command = with_rule (with_rule (with_rule (with_rule submit_files export_option) skipped_option) report_option) (flag_named (codes "quiet"))
 
 abbrev pub against_option : Rule
 against_option = needed (option_named (codes "against"))

@@ -9,8 +9,9 @@ ghost use Rattle.droid_desk_options.specs.Made.{Makes};
 use crate::arguments::Asked;
 use crate::profile_help::{
     FOLDER_HELP, HASH_HELP, LEFT_OUT_HELP, MANIFEST_HELP, MATCH_ALL_HELP, OUTPUT_HELP,
-    OWN_REGISTRY_HELP, PROFILE_ABOUT, PROFILE_HELP, QUIET_HELP,
+    OWN_REGISTRY_HELP, PAGE_HELP, PROFILE_ABOUT, PROFILE_HELP, QUIET_HELP,
 };
+use crate::report::REPORT;
 use clap::{ArgMatches, Command};
 use droid_desk_options::{
     Builder, FOLDER, HashKind, LIMIT, REGISTRY, flag, flag_of, folder, hash_of, limit, named,
@@ -55,6 +56,8 @@ pub struct ProfileOptions<'a> {
     pub manifest: Option<&'a str>,
     /// The path of the file for what was skipped, or `None` for no such file.
     pub skipped: Option<&'a str>,
+    /// The path of the page, or `None` for no page.
+    pub report: Option<&'a str>,
     /// Whether neither progress nor the summary is printed.
     pub quiet: bool,
 }
@@ -81,6 +84,7 @@ fn profile_options<'a>(profile: &ArgMatches<'a>) -> Option<ProfileOptions<'a>>
         return None;
     }
     let skipped = profile.get_str(SKIPPED);
+    let report = profile.get_str(REPORT);
     let quiet = flag_of(profile, QUIET);
     Some(ProfileOptions {
         folder,
@@ -91,6 +95,7 @@ fn profile_options<'a>(profile: &ArgMatches<'a>) -> Option<ProfileOptions<'a>>
         output,
         manifest,
         skipped,
+        report,
         quiet,
     })
 }
@@ -119,6 +124,7 @@ pub(crate) fn profile<'a>(alloc: Global) -> Result<Command<'a>, AllocError>
         .option(named(alloc, OUTPUT, "FILE", OUTPUT_HELP))
         .option(named(alloc, MANIFEST, "FILE", MANIFEST_HELP))
         .option(named(alloc, SKIPPED, "FILE", LEFT_OUT_HELP))
+        .option(named(alloc, REPORT, "PAGE", PAGE_HELP))
         .option(flag(alloc, QUIET, QUIET_HELP))
         .made
 }

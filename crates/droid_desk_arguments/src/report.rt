@@ -15,7 +15,7 @@ use clap::{ArgMatches, Command};
 use droid_desk_options::{Builder, named, word};
 use std::alloc::{AllocError, Global};
 
-// The names of the command and of its option.
+// The names of the command, which is also an option of other commands, and of its option.
 pub(crate) const REPORT: &str = "report";
 
 const TITLE: &str = "title";

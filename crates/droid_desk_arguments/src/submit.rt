@@ -9,9 +9,10 @@ ghost use Rattle.droid_desk_options.specs.Made.{Makes};
 use crate::arguments::Asked;
 use crate::profile::{DEFAULT_LIMIT, HASH, MATCH_ALL, QUIET, SKIPPED};
 use crate::profile_help::{HASH_HELP, MATCH_ALL_HELP, QUIET_HELP};
+use crate::report::REPORT;
 use crate::submit_help::{
     EXPORT_HELP, NAME_HELP, PIECE_SIZE_HELP, SKIPPED_HELP, SUBMIT_ABOUT, SUBMIT_CLIENT_HELP,
-    SUBMIT_FOLDER_HELP, SUBMIT_HELP, SUBMIT_PORT_HELP, TIMEOUT_HELP, WAIT_HELP,
+    SUBMIT_FOLDER_HELP, SUBMIT_HELP, SUBMIT_PAGE_HELP, SUBMIT_PORT_HELP, TIMEOUT_HELP, WAIT_HELP,
 };
 use clap::builder::ValueParser;
 use clap::{Arg, ArgMatches, Command};
@@ -77,6 +78,8 @@ pub struct SubmitOptions<'a> {
     pub export: Option<&'a str>,
     /// The path of the file for what was skipped, or `None` for no such file.
     pub skipped: Option<&'a str>,
+    /// The path of the page, or `None` for no page.
+    pub report: Option<&'a str>,
     /// Whether neither progress nor the summary is printed.
     pub quiet: bool,
 }
@@ -101,6 +104,7 @@ fn submit_options<'a>(submit: &ArgMatches<'a>) -> Option<SubmitOptions<'a>>
     let hash = hash_of(hash_word)?;
     let export = submit.get_str(EXPORT);
     let skipped = submit.get_str(SKIPPED);
+    let report = submit.get_str(REPORT);
     let quiet = flag_of(submit, QUIET);
     Some(SubmitOptions {
         folder,
@@ -112,6 +116,7 @@ fn submit_options<'a>(submit: &ArgMatches<'a>) -> Option<SubmitOptions<'a>>
         hash,
         export,
         skipped,
+        report,
         quiet,
     })
 }
@@ -147,6 +152,7 @@ pub(crate) fn submit<'a>(alloc: Global) -> Result<Command<'a>, AllocError>
         .option(named(alloc, HASH, "HASH", HASH_HELP))
         .option(named(alloc, EXPORT, "FILE", EXPORT_HELP))
         .option(named(alloc, SKIPPED, "FILE", SKIPPED_HELP))
+        .option(named(alloc, REPORT, "PAGE", SUBMIT_PAGE_HELP))
         .option(flag(alloc, QUIET, QUIET_HELP))
         .made
 }

@@ -10,4 +10,5 @@ returns c =
     let made_6 = c.option-6.ensures _ _ made_5 c.named-2.ensures.rule c.named-2.ensures.local in
     let made_7 = c.option-7.ensures _ _ made_6 c.named-3.ensures.rule c.named-3.ensures.local in
     let made_8 = c.option-8.ensures _ _ made_7 c.named-4.ensures.rule c.named-4.ensures.local in
-    c.option-9.ensures _ _ made_8 c.flag-2.ensures.rule c.flag-2.ensures.local
+    let made_9 = c.option-9.ensures _ _ made_8 c.named-5.ensures.rule c.named-5.ensures.local in
+    c.option-10.ensures _ _ made_9 c.flag-2.ensures.rule c.flag-2.ensures.local
