@@ -112,13 +112,17 @@ IsAskedBy name rows (Submit options) = (name ≡ codes "submit") × IsSubmit row
 IsAskedBy name rows (Verify options) = (name ≡ codes "verify") × IsVerify rows options
 IsAskedBy name rows (Report options) = (name ≡ codes "report") × IsReport rows options
 IsAskedBy name rows (Script registry) = (name ≡ codes "script") × IsSource rows registry
-IsAskedBy name rows (Run registry) = (name ≡ codes "run") × IsSource rows registry
-IsAskedBy name rows (Serve registry port connections) =
+IsAskedBy name rows (Run registry journal) =
+    (name ≡ codes "run") × IsSource rows registry
+    × (option_map (λ path. path.now) journal ≡ first_of (codes "journal") rows)
+IsAskedBy name rows (Serve registry journal port connections) =
     (name ≡ codes "serve") × IsSource rows registry
+    × (option_map (λ path. path.now) journal ≡ first_of (codes "journal") rows)
     × (option_map number_of (one_of (codes "port") rows) ≡ Some port)
     × IsNumberOr 32 1 (one_of (codes "connections") rows) connections × IsOneByOne rows
-IsAskedBy name rows (ServeMany registry port options) =
+IsAskedBy name rows (ServeMany registry journal port options) =
     (name ≡ codes "serve") × IsSource rows registry
+    × (option_map (λ path. path.now) journal ≡ first_of (codes "journal") rows)
     × (option_map number_of (one_of (codes "port") rows) ≡ Some port) × IsMany rows options
 IsAskedBy name rows (Send port client first) =
     (name ≡ codes "send") × (option_map number_of (one_of (codes "port") rows) ≡ Some port)

@@ -99,8 +99,12 @@ report_command = with_rule (with_rule (with_rule (new_app (codes "report")) (wor
 abbrev pub script_command : App
 script_command = with_rule (with_rule (new_app (codes "script")) everyday_flag) registry_option
 
+-- the file that keeps what a service accepts
+abbrev pub journal_option : Rule
+journal_option = option_named (codes "journal")
+
 abbrev pub run_command : App
-run_command = with_rule (with_rule (new_app (codes "run")) everyday_flag) registry_option
+run_command = with_rule (with_rule (with_rule (new_app (codes "run")) everyday_flag) registry_option) journal_option
 
 abbrev pub serve_numbers : App
 serve_numbers = with_rule (with_rule (new_app (codes "serve")) port_option) connections_option
@@ -109,7 +113,7 @@ abbrev pub serve_many : App
 serve_many = with_rule (with_rule (with_rule (with_rule serve_numbers at_once_option) idle_option) (flag_named (codes "forever"))) (flag_named (codes "verbose"))
 
 abbrev pub serve_command : App
-serve_command = with_rule (with_rule serve_many everyday_flag) registry_option
+serve_command = with_rule (with_rule (with_rule serve_many everyday_flag) registry_option) journal_option
 
 abbrev pub send_command : App
 send_command = with_rule (with_rule (with_rule (new_app (codes "send")) port_option) client_option) first_option

@@ -12,17 +12,17 @@ use crate::no_command::{NoCommand, unused_words};
 use crate::profile::{HASH, PROFILE, ProfileOptions, profile, profile_asked};
 use crate::report::{REPORT, ReportOptions, report, report_asked};
 use crate::stream_help::{
-    AT_ONCE_HELP, CLIENT_HELP, CONNECTIONS_HELP, FIRST_HELP, FOREVER_HELP, IDLE_HELP, RUN_ABOUT,
-    RUN_HELP, SEND_ABOUT, SEND_HELP, SEND_PORT_HELP, SERVE_ABOUT, SERVE_HELP, SERVE_PORT_HELP,
-    VERBOSE_HELP,
+    AT_ONCE_HELP, CLIENT_HELP, CONNECTIONS_HELP, FIRST_HELP, FOREVER_HELP, IDLE_HELP, JOURNAL_HELP,
+    RUN_ABOUT, RUN_HELP, SEND_ABOUT, SEND_HELP, SEND_PORT_HELP, SERVE_ABOUT, SERVE_HELP,
+    SERVE_PORT_HELP, VERBOSE_HELP,
 };
 use crate::submit::{SUBMIT, SubmitOptions, submit, submit_asked};
 use crate::verify::{VERIFY, VerifyOptions, mistake_in_verify, verify, verify_asked};
 use clap::error::ErrorKind;
 use clap::{ArgMatches, Command, Error};
 use droid_desk_options::{
-    Builder, CLIENT, EVERYDAY, PORT, RegistrySource, client, flag, hash_of, number, port, registry,
-    source_of,
+    Builder, CLIENT, EVERYDAY, PORT, RegistrySource, client, flag, hash_of, named, number, port,
+    registry, source_of,
 };
 use std::alloc::{AllocError, Global};
 
@@ -38,6 +38,8 @@ const SEND: &str = "send";
 pub(crate) const CONNECTIONS: &str = "connections";
 
 const FIRST: &str = "first";
+
+const JOURNAL: &str = "journal";
 
 /// How many connections `serve` serves by default.
 pub(crate) const DEFAULT_CONNECTIONS: u32 = 1;
@@ -81,19 +83,22 @@ pub enum Asked<'a> {
     Script {
         registry: RegistrySource<'a>,
     },
-    /// Answer the frames of standard input.
+    /// Answer the frames of standard input. What is accepted is kept in the file `journal`, if one is named.
     Run {
         registry: RegistrySource<'a>,
+        journal: Option<&'a str>,
     },
-    /// Serve this many connections to a port.
+    /// Serve this many connections to a port, with a journal as `Run`.
     Serve {
         registry: RegistrySource<'a>,
+        journal: Option<&'a str>,
         port: u16,
         connections: u32,
     },
-    /// Serve many connections to a port at once.
+    /// Serve many connections to a port at once, with a journal as `Run`.
     ServeMany {
         registry: RegistrySource<'a>,
+        journal: Option<&'a str>,
         port: u16,
         options: ManyOptions,
     },
@@ -207,7 +212,8 @@ fn run_asked<'a>(run: &ArgMatches<'a>) -> Option<Asked<'a>>
     ensures { IfSome result (λ asked. IsAskedBy (codes "run") (rows_of (found_of run.now)) asked) }
 {
     let registry = source_of(run)?;
-    Some(Asked::Run { registry })
+    let journal = run.get_str(JOURNAL);
+    Some(Asked::Run { registry, journal })
 }
 
 fn serve_asked<'a>(serve: &ArgMatches<'a>) -> Option<Asked<'a>>
@@ -217,10 +223,12 @@ fn serve_asked<'a>(serve: &ArgMatches<'a>) -> Option<Asked<'a>>
         return serve_many_asked(serve);
     }
     let registry = source_of(serve)?;
+    let journal = serve.get_str(JOURNAL);
     let port = serve.get_one(PORT)?;
     let connections = serve.get_one(CONNECTIONS).unwrap_or(DEFAULT_CONNECTIONS);
     Some(Asked::Serve {
         registry,
+        journal,
         port,
         connections,
     })
@@ -230,10 +238,12 @@ fn serve_many_asked<'a>(serve: &ArgMatches<'a>) -> Option<Asked<'a>>
     ensures { IfSome result (λ asked. IsAskedBy (codes "serve") (rows_of (found_of serve.now)) asked) }
 {
     let registry = source_of(serve)?;
+    let journal = serve.get_str(JOURNAL);
     let port = serve.get_one(PORT)?;
     let options = many_options(serve)?;
     Some(Asked::ServeMany {
         registry,
+        journal,
         port,
         options,
     })
@@ -294,6 +304,7 @@ fn run<'a>(alloc: Global) -> Result<Command<'a>, AllocError>
     Builder::new(alloc, RUN, RUN_ABOUT, RUN_HELP)
         .option(flag(alloc, EVERYDAY, EVERYDAY_HELP))
         .option(registry(alloc, REGISTRY_HELP))
+        .option(named(alloc, JOURNAL, "FILE", JOURNAL_HELP))
         .made
 }
 
@@ -309,6 +320,7 @@ fn serve<'a>(alloc: Global) -> Result<Command<'a>, AllocError>
         .option(flag(alloc, VERBOSE, VERBOSE_HELP))
         .option(flag(alloc, EVERYDAY, EVERYDAY_HELP))
         .option(registry(alloc, REGISTRY_HELP))
+        .option(named(alloc, JOURNAL, "FILE", JOURNAL_HELP))
         .made
 }
 

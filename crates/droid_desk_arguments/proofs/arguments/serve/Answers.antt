@@ -9,4 +9,5 @@ returns c =
     let made_5 = c.option-5.ensures _ _ made_4 c.flag.ensures.rule c.flag.ensures.local in
     let made_6 = c.option-6.ensures _ _ made_5 c.flag-2.ensures.rule c.flag-2.ensures.local in
     let made_7 = c.option-7.ensures _ _ made_6 c.flag-3.ensures.rule c.flag-3.ensures.local in
-    c.option-8.ensures _ _ made_7 c.registry.ensures.rule c.registry.ensures.local
+    let made_8 = c.option-8.ensures _ _ made_7 c.registry.ensures.rule c.registry.ensures.local in
+    c.option-9.ensures _ _ made_8 c.named.ensures.rule c.named.ensures.local
