@@ -3,7 +3,8 @@ use Rattle.std.specs.Prelude.{◌≡◌, ◌&&◌, ℕ, Bool, true, false, List,
 use Rattle.clap.specs.Words.{Row, Text, first_of, one_of, subcommand_of}
 use Rattle.droid_desk_arguments.specs.Commands.{program}
 use Rattle.droid_desk_arguments.specs.declared.arguments.Asked.{Asked}
-use Rattle.droid_desk_arguments.specs.declared.arguments.Asked.TheVariants.{Profile, Submit, Verify, Report, Script, Run, Serve, ServeMany, Send}
+use Rattle.droid_desk_arguments.specs.declared.arguments.Asked.TheVariants.{Profile, Submit, Verify, Report, Registry, Script, Run, Serve, ServeMany, Send}
+use Rattle.droid_desk_arguments.specs.declared.conversion.RegistryOptions.{RegistryOptions}
 use Rattle.droid_desk_arguments.specs.declared.many.ManyOptions.{ManyOptions}
 use Rattle.droid_desk_arguments.specs.declared.profile.ProfileOptions.{ProfileOptions}
 use Rattle.droid_desk_arguments.specs.declared.report.ReportOptions.{ReportOptions}
@@ -86,6 +87,12 @@ pub record IsReport (rows : List Row) (options : ReportOptions) : Type 0 where
   pub title : option_map (λ text. text.now) options.title ≡ first_of (codes "title") rows
   pub output : option_map (λ path. path.now) options.output ≡ first_of (codes "output") rows
 
+-- the options of `registry`
+pub record IsConversion (rows : List Row) (options : RegistryOptions) : Type 0 where
+  pub file : Some options.file.now ≡ first_of (codes "file") rows
+  pub output : option_map (λ path. path.now) options.output ≡ first_of (codes "output") rows
+  pub quiet : IsFlag (one_of (codes "quiet") rows) options.quiet
+
 -- how many connections are served: there is no end, or this many
 abbrev pub IsCount : List Row → Option ℕ → Type 0
 IsCount rows None = IsFlag (one_of (codes "forever") rows) true × (first_of (codes "connections") rows ≡ None)
@@ -111,6 +118,7 @@ IsAskedBy name rows (Profile options) = (name ≡ codes "profile") × IsProfile 
 IsAskedBy name rows (Submit options) = (name ≡ codes "submit") × IsSubmit rows options
 IsAskedBy name rows (Verify options) = (name ≡ codes "verify") × IsVerify rows options
 IsAskedBy name rows (Report options) = (name ≡ codes "report") × IsReport rows options
+IsAskedBy name rows (Registry options) = (name ≡ codes "registry") × IsConversion rows options
 IsAskedBy name rows (Script registry) = (name ≡ codes "script") × IsSource rows registry
 IsAskedBy name rows (Run registry journal) =
     (name ≡ codes "run") × IsSource rows registry

@@ -96,6 +96,10 @@ verify_command = with_rule (with_rule (with_rule verify_files limit_option) (fla
 abbrev pub report_command : App
 report_command = with_rule (with_rule (with_rule (new_app (codes "report")) (word_named (codes "profile"))) (option_named (codes "title"))) output_option
 
+-- what a registry is made of, and where it goes
+abbrev pub registry_command : App
+registry_command = with_rule (with_rule (with_rule (new_app (codes "registry")) (word_named (codes "file"))) output_option) (flag_named (codes "quiet"))
+
 abbrev pub script_command : App
 script_command = with_rule (with_rule (new_app (codes "script")) everyday_flag) registry_option
 
@@ -122,10 +126,11 @@ send_command = with_rule (with_rule (with_rule (new_app (codes "send")) port_opt
 abbrev pub top_command : App → App
 top_command a = record a { top = record a.top { subcommand_required = true; has_version = true } }
 
--- the program with its eight commands
+-- the program with all its commands
 abbrev pub program : App
 program =
     with_subcommand
+    (with_subcommand
     (with_subcommand
     (with_subcommand
     (with_subcommand
@@ -136,6 +141,7 @@ program =
     submit_command.top)
     verify_command.top)
     report_command.top)
+    registry_command.top)
     script_command.top)
     run_command.top)
     serve_command.top)

@@ -6,6 +6,7 @@ ghost use Rattle.droid_desk_arguments.specs.Asking.{IsAsked, IsAskedBy, WordsAsk
 ghost use Rattle.droid_desk_arguments.specs.Commands.{program, run_command, script_command, send_command, serve_command, top_command};
 ghost use Rattle.droid_desk_options.specs.Made.{Makes};
 
+use crate::conversion::{RegistryOptions, conversion, registry_asked};
 use crate::help::{ABOUT, EVERYDAY_HELP, HELP, REGISTRY_HELP, SCRIPT_ABOUT, SCRIPT_HELP};
 use crate::many::{AT_ONCE, FOREVER, IDLE, ManyOptions, VERBOSE, is_one_by_one, many_options};
 use crate::no_command::{NoCommand, unused_words};
@@ -21,8 +22,8 @@ use crate::verify::{VERIFY, VerifyOptions, mistake_in_verify, verify, verify_ask
 use clap::error::ErrorKind;
 use clap::{ArgMatches, Command, Error};
 use droid_desk_options::{
-    Builder, CLIENT, EVERYDAY, PORT, RegistrySource, client, flag, hash_of, named, number, port,
-    registry, source_of,
+    Builder, CLIENT, EVERYDAY, PORT, REGISTRY, RegistrySource, client, flag, hash_of, named,
+    number, port, registry, source_of,
 };
 use std::alloc::{AllocError, Global};
 
@@ -79,6 +80,8 @@ pub enum Asked<'a> {
     Verify(VerifyOptions<'a>),
     /// Make a page of a profile.
     Report(ReportOptions<'a>),
+    /// Make a registry of a signature file.
+    Registry(RegistryOptions<'a>),
     /// Run a script.
     Script {
         registry: RegistrySource<'a>,
@@ -189,6 +192,9 @@ fn asked_by<'a>(matches: &ArgMatches<'a>) -> Option<Asked<'a>>
     if let Some(report) = matches.subcommand_matches(REPORT) {
         return report_asked(report);
     }
+    if let Some(registry) = matches.subcommand_matches(REGISTRY) {
+        return registry_asked(registry);
+    }
     if let Some(script) = matches.subcommand_matches(SCRIPT) {
         return script_asked(script);
     }
@@ -270,6 +276,7 @@ fn command<'a>(alloc: Global) -> Result<Command<'a>, AllocError>
         .command(submit(alloc))
         .command(verify(alloc))
         .command(report(alloc))
+        .command(conversion(alloc))
         .command(script(alloc))
         .command(run(alloc))
         .command(serve(alloc))
