@@ -3,7 +3,7 @@ use Rattle.std.specs.Prelude.{◌≡◌, ◌&&◌, ℕ, Bool, true, false, List,
 use Rattle.clap.specs.Words.{Row, Text, first_of, one_of, subcommand_of}
 use Rattle.droid_desk_arguments.specs.Commands.{program}
 use Rattle.droid_desk_arguments.specs.declared.arguments.Asked.{Asked}
-use Rattle.droid_desk_arguments.specs.declared.arguments.Asked.TheVariants.{Profile, Submit, Verify, Report, Registry, Script, Run, Serve, ServeMany, Send}
+use Rattle.droid_desk_arguments.specs.declared.arguments.Asked.TheVariants.{Profile, Submit, Verify, Report, Registry, Script, Run, Serve, ServeMany, Send, Compact}
 use Rattle.droid_desk_arguments.specs.declared.conversion.RegistryOptions.{RegistryOptions}
 use Rattle.droid_desk_arguments.specs.declared.many.ManyOptions.{ManyOptions}
 use Rattle.droid_desk_arguments.specs.declared.profile.ProfileOptions.{ProfileOptions}
@@ -136,6 +136,7 @@ IsAskedBy name rows (Send port client first) =
     (name ≡ codes "send") × (option_map number_of (one_of (codes "port") rows) ≡ Some port)
     × (option_map number_of (one_of (codes "client") rows) ≡ Some client)
     × IsNumberOr 64 1 (one_of (codes "first") rows) first
+IsAskedBy name rows (Compact file) = (name ≡ codes "compact") × (Some file.now ≡ first_of (codes "file") rows)
 
 -- a parse came to this command, and its options ask for that
 pub record IsAsked (entered : Option (Text × List Row)) (asked : Asked) : Type 0 where
