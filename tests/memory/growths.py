@@ -32,6 +32,7 @@ TESTS = {
     "droid_store_tests": ["memory::each_growth_of_the_store"],
     "droid_fixity_manifest_tests": ["growths::each_growth_of_a_list", "growths::each_growth_of_a_manifest", "growths::each_growth_of_a_text"],
     "droid_profile_tests": ["memory::each_allocation"],
+    "droid_desk_verify_tests": ["memory::each_allocation"],
     "droid_fixity_tests": ["memory::each_growth_of_a_report", "memory::each_growth_of_a_list", "memory::each_growth_of_a_profile"],
 }
 # with fewer allocations, the library did not count them
