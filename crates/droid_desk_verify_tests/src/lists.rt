@@ -22,6 +22,7 @@ pub(crate) fn list_text(alloc: Global, asked: Asked) -> Result<Vec<u8>, AllocErr
 
 const NAMES: &[u8] =
     b"ID,PARENT_ID,URI,FILE_PATH,NAME,METHOD,STATUS,SIZE,TYPE,EXT,LAST_MODIFIED,EXTENSION_MISMATCH,";
+
 const MORE_NAMES: &[u8] = b",FORMAT_COUNT,PUID,MIME_TYPE,FORMAT_NAME,FORMAT_VERSION\n";
 
 /// Returns the name of the column of hashes.

@@ -156,7 +156,10 @@ fn moved(asked: Asked, row: &Row, steps: u16) -> Option<(&'static Row, &'static 
     if !has_hash(asked) || row.3 != EntryKind::File {
         return None;
     }
-    match (only(asked, row.4, steps, false), only(asked, row.4, steps, true)) {
+    match (
+        only(asked, row.4, steps, false),
+        only(asked, row.4, steps, true),
+    ) {
         (Some(from), Some(to)) => Some((from, to)),
         _ => None,
     }
@@ -180,6 +183,10 @@ fn only(asked: Asked, content: usize, steps: u16, is_new: bool) -> Option<&'stat
 fn is_lone(asked: Asked, row: &Row, steps: u16, is_new: bool) -> bool {
     let before = listed_at(asked, row.0, steps).is_some();
     let after = found_at(asked, row.0, steps).is_some();
-    let is_there = if is_new { is_in(row, steps) } else { is_in(row, 0) };
+    let is_there = if is_new {
+        is_in(row, steps)
+    } else {
+        is_in(row, 0)
+    };
     row.3 == EntryKind::File && is_there && before != is_new && after == is_new
 }

@@ -4,13 +4,7 @@ use droid_tree::EntryKind;
 
 /// A file's bytes; the length that its folder lists, as a number and as text; and the digests of its bytes, which Python's
 /// `hashlib` computed: MD5 and SHA-256.
-pub(crate) type Content = (
-    &'static [u8],
-    u64,
-    &'static str,
-    &'static str,
-    &'static str,
-);
+pub(crate) type Content = (&'static [u8], u64, &'static str, &'static str, &'static str);
 
 pub(crate) const CONTENTS: &[Content] = &[
     (
@@ -183,13 +177,17 @@ const NAMED: u16 = 32768;
 
 /// All steps, and none.
 pub(crate) const STEPS: [u16; 17] = [
-    0, CHANGED, LONGER, COPIED, MISSING, MOVED, FOLDER, FILE, GROWN, LINK, NEW, PIPE, SHUT, SEALED, TWINS, TOUCHED, NAMED,
+    0, CHANGED, LONGER, COPIED, MISSING, MOVED, FOLDER, FILE, GROWN, LINK, NEW, PIPE, SHUT, SEALED,
+    TWINS, TOUCHED, NAMED,
 ];
 
 /// Why an entry is unreadable.
 pub(crate) const UNREAD: &str = "it could not be opened or read";
+
 pub(crate) const EXCHANGED: &str = "it changed while it was read";
+
 pub(crate) const KIND: &str = "neither a folder nor a regular file, or it can't be looked at";
+
 pub(crate) const NAME: &str = "its name is no UTF-8";
 
 /// An entry: its path, its folder's path, its name, its type, the place of its content, its moment, why it is unreadable,
@@ -207,6 +205,7 @@ pub(crate) type Row = (
 );
 
 const A_FILE: EntryKind = EntryKind::File;
+
 const A_FOLDER: EntryKind = EntryKind::Folder;
 
 /// The table, in order of path.
@@ -231,7 +230,17 @@ pub(crate) const ROWS: &[Row] = &[
     (b"/moved", "", b"moved", A_FILE, 5, 0, "", MOVED, 0),
     (b"/new", "", b"new", A_FILE, 0, 0, "", NEW, 0),
     (b"/pipe", "", b"pipe", A_FILE, 11, 0, "", 0, PIPE),
-    (b"/pipe", "", b"pipe", EntryKind::Other, 17, 0, KIND, PIPE, 0),
+    (
+        b"/pipe",
+        "",
+        b"pipe",
+        EntryKind::Other,
+        17,
+        0,
+        KIND,
+        PIPE,
+        0,
+    ),
     (b"/s", "", b"s", A_FOLDER, 17, 0, "", 0, SHUT),
     (b"/s", "", b"s", A_FOLDER, 17, 0, UNREAD, SHUT, 0),
     (b"/s/t", "/s", b"t", A_FILE, 12, 0, "", 0, SHUT),
