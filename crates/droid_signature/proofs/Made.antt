@@ -1,12 +1,12 @@
 -- What the code makes.
 use Rattle.std.proofs.Common.{◌≡◌, ◌∙◌, ℕ, ◌≤◌, List, ◌++◌, length, Ok, sym, ap, subst, append_assoc}
-use Rattle.droid_pronom.specs.RegistryFile.{File}
+use Rattle.droid_signature_combinations.specs.RegistryFile.{File}
 use Rattle.droid_signature_combinations.specs.SignatureRows.{flat}
-use Rattle.droid_signature_rows.specs.RegistryTables.{extension_lines, file_of, format_lines, priority_lines, registry_of, signature_lines}
-use Rattle.droid_signature_rows.proofs.StepsOfTables.{tables_read}
-use Rattle.droid_signature_spec.specs.Records.{FileRecord}
-use Rattle.droid_signature_tables.specs.Formats.{formats_of}
-use Rattle.droid_signature_tables.specs.declared.left_out.LeftOut.{LeftOut}
+use Rattle.droid_signature_combinations.specs.RegistryTables.{extension_lines, file_of, format_lines, priority_lines, registry_of, signature_lines}
+use Rattle.droid_signature_combinations.proofs.StepsOfTables.{tables_read}
+use Rattle.droid_signature_combinations.specs.Records.{FileRecord}
+use Rattle.droid_signature_combinations.specs.Formats.{formats_of}
+use Rattle.droid_signature_combinations.specs.table_types.left_out.LeftOut.{LeftOut}
 use Rattle.droid_signature.specs.AllTables.{AreTablesOf, all_left, all_text, kept_in}
 use Rattle.droid_signature.specs.Conversion.{IsMadeOf, Parts, tables_of}
 use Rattle.droid_signature.specs.declared.tables.AllTables.{AllTables}

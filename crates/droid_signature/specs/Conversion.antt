@@ -1,21 +1,21 @@
 -- The registry of a whole signature file.
 use Rattle.std.specs.Prelude.{◌≡◌, ℕ, ◌<◌, ◌≤◌, List, ◌++◌, length, Ok, Some, slice_get}
 use Rattle.std.specs.List.{AllByRecursion}
-use Rattle.droid_pronom.specs.Found.{Hits, IsHit}
-use Rattle.droid_pronom.specs.Registry.{Contents}
-use Rattle.droid_pronom.specs.RegistryFile.{File}
+use Rattle.droid_signature_combinations.specs.Found.{Hits, IsHit}
+use Rattle.droid_signature_combinations.specs.Registry.{Contents}
+use Rattle.droid_signature_combinations.specs.RegistryFile.{File}
 use Rattle.droid_signature_combinations.specs.SignatureRows.{flat}
 use Rattle.droid_signature_combinations.specs.Signatures.{LeavesSignature, TakesSignature, all_signatures}
-use Rattle.droid_signature_rows.specs.RegistryTables.{ExtensionRow, PriorityRow, SignatureRow, Tables, file_of, registry_of}
-use Rattle.droid_signature_spec.specs.Meaning.{FormatHits}
-use Rattle.droid_signature_spec.specs.Records.{FileRecord}
-use Rattle.droid_signature_tables.specs.Extensions.{LeavesExtension, TakesExtension, all_extensions}
-use Rattle.droid_signature_tables.specs.Formats.{LeavesFormat, Placed, TakesFormat, formats_of, placed}
-use Rattle.droid_signature_tables.specs.Priorities.{LeavesPriority, TakesPriority, all_priorities}
-use Rattle.droid_signature_tables.specs.Sifting.{Sifted}
-use Rattle.droid_signature_tables.specs.declared.left_out.Item.TheVariants as items
-use Rattle.droid_signature_tables.specs.declared.left_out.LeftOut.{LeftOut}
-use Rattle.droid_signature_tables.specs.declared.left_out.Why.{Why}
+use Rattle.droid_signature_combinations.specs.RegistryTables.{ExtensionRow, PriorityRow, SignatureRow, Tables, file_of, registry_of}
+use Rattle.droid_signature_combinations.specs.Meaning.{FormatHits}
+use Rattle.droid_signature_combinations.specs.Records.{FileRecord}
+use Rattle.droid_signature_combinations.specs.Extensions.{LeavesExtension, TakesExtension, all_extensions}
+use Rattle.droid_signature_combinations.specs.Formats.{LeavesFormat, Placed, TakesFormat, formats_of, placed}
+use Rattle.droid_signature_combinations.specs.Priorities.{LeavesPriority, TakesPriority, all_priorities}
+use Rattle.droid_signature_combinations.specs.Sifting.{Sifted}
+use Rattle.droid_signature_combinations.specs.table_types.left_out.Item.TheVariants as items
+use Rattle.droid_signature_combinations.specs.table_types.left_out.LeftOut.{LeftOut}
+use Rattle.droid_signature_combinations.specs.table_types.left_out.Why.{Why}
 
 -- a signature of the format at a place of the file is left out
 pub record IsSignatureOf (place : ℕ) (it : LeftOut) : Type 0 where

@@ -5,8 +5,7 @@ ghost use Rattle.droid_signature.specs.Conversion.{IsMadeOf, IsTooLong};
 ghost use Rattle.droid_signature.specs.declared.conversion.ConversionFault.TheVariants as faults;
 
 use crate::tables::{AllTables, left_out_of, tables_of, text_of};
-use droid_signature_spec::SignatureFile;
-use droid_signature_tables::LeftOut;
+use droid_signature_combinations::{LeftOut, SignatureFile};
 use std::alloc::{AllocError, AllocFailed, Global};
 
 /// The most bytes of a registry file.

@@ -3,10 +3,9 @@
 ghost use Rattle.std.specs.Prelude.{◌≡◌, ◌++◌, IfOk, OnOk};
 ghost use Rattle.droid_signature.specs.AllTables.{AreTablesOf, all_left, all_text};
 
-use droid_signature_combinations::{Outcomes, SignatureTable, list_signatures};
-use droid_signature_spec::SignatureFile;
-use droid_signature_tables::{
-    Keeping, LeftOut, Table, ids_of, keep_formats, list_extensions, list_priorities,
+use droid_signature_combinations::{
+    Keeping, LeftOut, Outcomes, SignatureFile, SignatureTable, Table, ids_of, keep_formats,
+    list_extensions, list_priorities, list_signatures,
 };
 use std::alloc::{AllocError, Global};
 

@@ -3,15 +3,15 @@ use Rattle.std.proofs.Common.{◌≡◌, ◌∙◌, ℕ, zero, suc, ◌+◌, ◌
 use Rattle.std.specs.List.{flat_map, AllByRecursion}
 use Rattle.std.proofs.lemmas.List.{append-nil}
 use Rattle.std.proofs.lemmas.List.Concat.{flat_map-append}
-use Rattle.droid_export.specs.Csv.{line}
-use Rattle.droid_pronom.specs.Patterns.{Element}
-use Rattle.droid_pronom.specs.types.rows.Offsets.{Offsets}
-use Rattle.droid_signature_patterns.specs.Choices.{AreAllTaken, AreReadAs, IsTaken}
-use Rattle.droid_signature_patterns.specs.Parts.{row_patterns}
-use Rattle.droid_signature_patterns.specs.declared.choices.Choices.{Choices}
-use Rattle.droid_signature_rows.specs.RegistryTables.{SequenceFits, SequenceRow, SignatureRow, sequence_count, sequence_of, signature_fields, signature_lines}
-use Rattle.droid_signature_spec.specs.Records.{ByteSequenceRecord, SignatureRecord}
-use Rattle.droid_signature_spec.specs.Sequences.{choices}
+use Rattle.droid_signature_tables.specs.Csv.{line}
+use Rattle.droid_signature_tables.specs.Patterns.{Element}
+use Rattle.droid_signature_tables.specs.pronom_types.rows.Offsets.{Offsets}
+use Rattle.droid_signature_tables.specs.Choices.{AreAllTaken, AreReadAs, IsTaken}
+use Rattle.droid_signature_tables.specs.Parts.{row_patterns}
+use Rattle.droid_signature_tables.specs.choice_types.choices.Choices.{Choices}
+use Rattle.droid_signature_tables.specs.RegistryTables.{SequenceFits, SequenceRow, SignatureRow, sequence_count, sequence_of, signature_fields, signature_lines}
+use Rattle.droid_signature_tables.specs.Records.{ByteSequenceRecord, SignatureRecord}
+use Rattle.droid_signature_tables.specs.Sequences.{choices}
 use Rattle.droid_signature_tables.specs.Formats.{puid_in}
 use Rattle.droid_signature_tables.specs.Sifting.{Sifted, by_place, left_out, none, taken}
 use Rattle.droid_signature_tables.specs.declared.left_out.LeftOut.{LeftOut}

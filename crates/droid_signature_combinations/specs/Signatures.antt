@@ -1,8 +1,8 @@
 -- Which signatures the registry has.
 use Rattle.std.specs.Prelude.{◌≡◌, ◌⊎◌, ℕ, ◌+◌, ◌*◌, ◌<◌, ◌≤◌, List, [], ◌∷◌, length, map, Some, slice_get}
-use Rattle.droid_signature_patterns.specs.Choices.{IsReasonOf}
-use Rattle.droid_signature_rows.specs.RegistryTables.{SequenceRow, SignatureRow, sequence_count, signature_lines}
-use Rattle.droid_signature_spec.specs.Records.{SignatureRecord}
+use Rattle.droid_signature_tables.specs.Choices.{IsReasonOf}
+use Rattle.droid_signature_tables.specs.RegistryTables.{SequenceRow, SignatureRow, sequence_count, signature_lines}
+use Rattle.droid_signature_tables.specs.Records.{SignatureRecord}
 use Rattle.droid_signature_tables.specs.Formats.{Placed, puid_in}
 use Rattle.droid_signature_tables.specs.Holders.{holder}
 use Rattle.droid_signature_tables.specs.Sifting.{IsLeft, Sifted, by_place}
