@@ -10,5 +10,7 @@ pub use Rattle.droid_signature_combinations.specs.table_types
 pub mod Conversion
 -- The signatures that no format names.
 pub mod Unnamed
+-- All that a registry does not have of a signature file.
+pub mod AllLeftOut
 -- For proofs: all tables.
 pub mod AllTables

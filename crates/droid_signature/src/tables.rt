@@ -63,7 +63,8 @@ pub(crate) fn left_out_of(alloc: Global, tables: &AllTables<'_>) -> Result<Vec<L
     Ok(left)
 }
 
-fn push_all(left: &mut Vec<LeftOut>, more: &[LeftOut]) -> Result<(), AllocError>
+/// Appends all of these.
+pub(crate) fn push_all(left: &mut Vec<LeftOut>, more: &[LeftOut]) -> Result<(), AllocError>
     ensures { OnOk result (left.new.items ≡ left.old.items ++ more.now) }
 {
     for it in more {

@@ -55,4 +55,4 @@ returns c = λ signatures xs place at signature only taken signs.
     ∙ ap (λ n. old ++ lines_below puid all n) whole
     ∙ ap (λ t. old ++ t) (lines_are place puid all rows.lists (ways all) rows.are (omega arith))
     ∙ ap (λ n. old ++ signature_lines (rows_below place puid rows.lists n)) (sym same))
-    (omega arith) (omega arith) refl (omega arith) (omega arith)
+    (omega arith) (omega arith) (omega arith) refl (omega arith) (omega arith)
