@@ -126,7 +126,7 @@ impl Display for ExtensionText<'_> {
 
 /// Returns the extension at a place among a format's.
 fn extension_at(format: Option<&FileFormat>, at: usize) -> Option<&str>
-    ensures { extension_by (option_map (λ text. text.now) result) ≡ extension_text (option_copied format) at }
+    ensures { extension_by (option_map (λ text. text.now) result) ≡ extension_text (option_copied format.entry) at }
 {
     let format = format?;
     match format.extensions().get(at) {

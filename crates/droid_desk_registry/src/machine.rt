@@ -15,6 +15,7 @@ use std::os::unix::fs::MetadataExt;
 const BYTES_LIMIT: usize = 67_108_864;
 
 /// The files of this machine, standard output and standard error.
+#[derive(Drop)]
 pub(crate) struct Machine<'a, R> {
     pub rt: &'a R,
     /// The path of the signature file.
@@ -131,8 +132,16 @@ fn unput(fault: OutputFault) -> Unput {
 
 /// Returns whether two paths lead to the same file.
 fn is_same_file<R: Files>(rt: &R, first: &str, second: &str) -> bool {
-    match (fs::metadata(rt, first), fs::metadata(rt, second)) {
-        (Ok(one), Ok(other)) => one.dev() == other.dev() && one.ino() == other.ino(),
+    match (identity_of(rt, first), identity_of(rt, second)) {
+        (Some(one), Some(other)) => one == other,
         _ => false,
+    }
+}
+
+/// Returns the device of a file and its number there, if there is one.
+fn identity_of<R: Files>(rt: &R, path: &str) -> Option<(u64, u64)> {
+    match fs::metadata(rt, path) {
+        Ok(found) => Some((found.dev(), found.ino())),
+        Err(_) => None,
     }
 }
