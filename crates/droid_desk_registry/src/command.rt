@@ -45,11 +45,13 @@ pub fn convert_file<P: Places>(alloc: Global, places: &mut P, quiet: bool) -> Re
 fn write_conversion<P: Places>(places: &mut P, conversion: &Conversion) -> RegistryEnding
     ensures { Writes P.does conversion.now places.old result places.new }
 {
-    if let Err(why) = places.put(Part::Registry, conversion.csv.as_slice()) {
-        return RegistryEnding::NoRegistry(why);
+    match places.put(Part::Registry, conversion.csv.as_slice()) {
+        Ok(()) => {}
+        Err(why) => return RegistryEnding::NoRegistry(why),
     }
-    if let Err(why) = places.put(Part::Note, conversion.note.as_bytes()) {
-        return RegistryEnding::NoNote(why);
+    match places.put(Part::Note, conversion.note.as_bytes()) {
+        Ok(()) => {}
+        Err(why) => return RegistryEnding::NoNote(why),
     }
     places.tell(conversion.report.as_str());
     ending_of(conversion.is_partial)
