@@ -1,5 +1,5 @@
 -- How the command ends (this project's own).
-use Rattle.std.specs.Prelude.{ℕ, List, ◌++◌, Option, Some, None, codes}
+use Rattle.std.specs.Prelude.{ℕ, List, Option, Some, None, codes}
 use Rattle.droid_signature.specs.file_types.fault.FileFault.{FileFault}
 use Rattle.droid_signature.specs.file_types.fault.FileFault.TheVariants as files
 use Rattle.droid_signature.specs.xml_types.problem.Problem.{Problem}

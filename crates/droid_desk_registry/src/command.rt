@@ -1,6 +1,7 @@
 //! The command.
 
 ghost use Rattle.std.specs.Prelude.{◌≡◌};
+ghost use Rattle.droid_desk_registry.specs.Machines.{IsMachineRun};
 ghost use Rattle.droid_desk_registry.specs.Runs.{Runs, Writes, ending_of};
 
 use crate::conversion::{Conversion, conversion_of};
@@ -21,6 +22,7 @@ pub fn registry_command<R>(
 ) -> RegistryEnding
 where
     R: Files<File = File> + Print + Eprint + AllocGlobal,
+    ensures { IsMachineRun quiet result }
 {
     let mut places = Machine { rt, file, output };
     convert_file(rt.alloc(), &mut places, quiet)
