@@ -14,12 +14,7 @@ use std::fs::{File, Files};
 /// Makes a registry of PRONOM's signature file `file`, writes it to the file `output` or to standard output, and prints on
 /// standard error what it has and what it does not have; with `quiet` the numbers alone. Beside a file goes the file
 /// `output`.txt, with a line that says which registry it is. Each is complete at the end, or as it was before.
-pub fn registry_command<R>(
-    rt: &R,
-    file: &str,
-    output: Option<&str>,
-    quiet: bool,
-) -> RegistryEnding
+pub fn registry_command<R>(rt: &R, file: &str, output: Option<&str>, quiet: bool) -> RegistryEnding
 where
     R: Files<File = File> + Print + Eprint + AllocGlobal,
     ensures { IsMachineRun quiet result }

@@ -27,11 +27,7 @@ pub struct Conversion {
 }
 
 /// Makes a registry of the bytes of a signature file. With `quiet` the report has the numbers alone.
-pub fn conversion_of(
-    alloc: Global,
-    quiet: bool,
-    bytes: &[u8],
-) -> Result<Conversion, RegistryEnding>
+pub fn conversion_of(alloc: Global, quiet: bool, bytes: &[u8]) -> Result<Conversion, RegistryEnding>
     ensures { Converts quiet bytes.now result }
 {
     let file = match read(alloc, bytes) {
@@ -61,7 +57,14 @@ fn described(
     let left_out = all_left_out(alloc, file, made.left_out.as_slice())?;
     let digest = digest_of(alloc, made.csv.as_slice())?;
     let note = note_of(alloc, file, digest.as_str())?;
-    let report = report_of(alloc, quiet, file, &made, left_out.as_slice(), digest.as_str())?;
+    let report = report_of(
+        alloc,
+        quiet,
+        file,
+        &made,
+        left_out.as_slice(),
+        digest.as_str(),
+    )?;
     Ok(Conversion {
         csv: made.csv,
         note,

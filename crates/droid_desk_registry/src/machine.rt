@@ -77,7 +77,11 @@ fn open_file<R: Files<File = File>>(rt: &R, path: &str) -> Result<File, ErrorKin
 
 /// Writes to standard output.
 fn put_on_output<R: Print>(rt: &R, bytes: &[u8]) -> Result<(), Unput> {
-    match write_all(&mut Noted::new(io::writer(rt)), bytes, &mut WriteState::new()) {
+    match write_all(
+        &mut Noted::new(io::writer(rt)),
+        bytes,
+        &mut WriteState::new(),
+    ) {
         Ok(()) => Ok(()),
         Err(_) => Err(Unput::Unwritten),
     }

@@ -38,7 +38,11 @@ impl Display for NoteLine<'_> {
     #[tactic(auto, unfolding(crate::specs::Reports::note_text))]
     fn fmt<W: Write>(&self, f: &mut Formatter<W>) -> fmt::Result {
         let described = Described(self.file);
-        writeln!(f, "signature file: {described}; registry: MD5 {}", self.digest)
+        writeln!(
+            f,
+            "signature file: {described}; registry: MD5 {}",
+            self.digest
+        )
     }
 }
 
@@ -129,10 +133,7 @@ impl Display for TakenLine {
         writeln!(
             f,
             "taken: {} formats, {} signatures, {} extensions, {} priorities",
-            taken.formats,
-            taken.signatures,
-            taken.extensions,
-            taken.priorities
+            taken.formats, taken.signatures, taken.extensions, taken.priorities
         )
     }
 }
@@ -294,11 +295,7 @@ fn write_left_out<W: Write>(
     Ok(())
 }
 
-fn write_one<W: Write>(
-    f: &mut Formatter<W>,
-    formats: &[FileFormat],
-    it: LeftOut,
-) -> fmt::Result
+fn write_one<W: Write>(f: &mut Formatter<W>, formats: &[FileFormat], it: LeftOut) -> fmt::Result
     ensures { WritesOnOk W.write_str_gives f.old result (left_line formats.now it) f.new }
 {
     let format = format_at(formats, it.format);

@@ -6,7 +6,8 @@ use droid_desk_progress::Shown;
 use droid_signature::{FileFault, Problem, Wrong};
 use std::io::{self, ErrorKind};
 
-const NO_MEMORY: &str = "out of memory: close other programs, or allow this one more, and try again";
+const NO_MEMORY: &str =
+    "out of memory: close other programs, or allow this one more, and try again";
 
 impl RegistryEnding {
     /// Prints the fault to standard error, and behind it a sentence that says what happened and what to do.

@@ -4,15 +4,15 @@
 //! list of what the registry cannot hold, each with its reason.
 #![tactic(auto)]
 
-mod omissions;
 mod conversion;
+mod omissions;
 mod tables;
 mod unnamed;
 
-pub use omissions::all_left_out;
 pub use conversion::{ConversionFault, Converted, Taken, convert};
 pub use droid_signature_combinations::{
     FileFault, FileFormat, Item, LeftOut, Problem, Reason, SignatureFile, UnknownName, UnknownPart,
     Why, Wrong, read,
 };
+pub use omissions::all_left_out;
 pub use unnamed::unnamed_signatures;

@@ -17,8 +17,8 @@ mod tally;
 mod words;
 
 pub use droid_signature_spec::{
-    Anchor, FileFormat, Fragment, InternalSignature, OffsetRange, Offsets, Reference, SequenceRecord,
-    SignatureFile, SubSequence, UnknownName, UnknownPart, is_puid,
+    Anchor, FileFormat, Fragment, InternalSignature, OffsetRange, Offsets, Reference,
+    SequenceRecord, SignatureFile, SubSequence, UnknownName, UnknownPart, is_puid,
 };
 pub use droid_xml::Problem;
 pub use fault::{FileFault, Wrong};

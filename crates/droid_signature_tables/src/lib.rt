@@ -13,8 +13,8 @@ mod row_text;
 mod table;
 
 pub use droid_signature_patterns::{
-    Anchor, Choices, FileFault, FileFormat, InternalSignature, Problem, Reason, SignatureFile, Stop,
-    UnknownName, UnknownPart, Wrong, choices_of, read,
+    Anchor, Choices, FileFault, FileFormat, InternalSignature, Problem, Reason, SignatureFile,
+    Stop, UnknownName, UnknownPart, Wrong, choices_of, read,
 };
 pub use extensions::list_extensions;
 pub use formats::{Keeping, Kept, keep_formats, puid_of};

@@ -40,10 +40,10 @@ fn shown(alloc: Global, text: &[u8]) -> Result<String, AllocError> {
 
 #[test]
 fn each_kind_of_piece_is_given(rt: HostRuntime) -> Result<(), Fail> {
-    let text = b"<?xml version='1.0'?><!--c--><a b='1&lt;2\t3' d=\"'\"><e/>t&amp;&#x41;<![CDATA[<&]]></a><?p q?>";
+    let text =
+        b"<?xml version='1.0'?><!--c--><a b='1&lt;2\t3' d=\"'\"><e/>t&amp;&#x41;<![CDATA[<&]]></a><?p q?>";
     let pieces = shown(rt.alloc(), text)?;
-    assert_eq!(
-        rt;
+    assert_eq!(rt;
         pieces.as_str(),
         "comment c;start a b=1<2 3 d=';start e and end;text t;reference &;reference A;data <&;end a;instruction p q;"
     );

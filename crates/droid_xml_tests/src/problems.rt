@@ -31,10 +31,7 @@ const ROWS: &[Row] = &[
         text: "<a:b c:d=']]>' e = \"&#x10FFFF;\"/>",
         line: 0,
     },
-    Row {
-        text: "",
-        line: 1,
-    },
+    Row { text: "", line: 1 },
     Row {
         text: "\n\n x<a/>",
         line: 1,
@@ -117,14 +114,26 @@ fn is_read(alloc: Global, text: &str) -> bool {
 #[test]
 fn each_text_is_read_or_wrong_in_its_line(rt: HostRuntime) -> Result<(), Fail> {
     for row in ROWS {
-        assert_eq!(rt; wrong_line(rt.alloc(), row.text), row.line, "in {}", row.text);
-        assert_eq!(rt; is_read(rt.alloc(), row.text), row.line == 0, "in {}", row.text);
+        assert_eq!(rt;
+            wrong_line(rt.alloc(), row.text),
+            row.line,
+            "in {}",
+            row.text
+        );
+        assert_eq!(rt;
+            is_read(rt.alloc(), row.text),
+            row.line == 0,
+            "in {}",
+            row.text
+        );
     }
     Ok(())
 }
 
 #[test]
-fn a_document_type_and_another_encoding_have_problems_of_their_own(rt: HostRuntime) -> Result<(), Fail> {
+fn a_document_type_and_another_encoding_have_problems_of_their_own(
+    rt: HostRuntime,
+) -> Result<(), Fail> {
     let doctype = problem_of(rt.alloc(), "<!DOCTYPE a><a/>");
     assert_eq!(rt; doctype, (Some(Problem::Doctype), 1));
     let encoding = problem_of(rt.alloc(), "<?xml version='1.0' encoding='latin-1'?><a/>");
