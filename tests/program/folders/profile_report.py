@@ -120,7 +120,7 @@ class Page(InFolder):
 
     def test_no_such_place(self):
         """Nothing is read or written then."""
-        for path in (self.work + b"/none/page.html", self.top, b"/dev/null", b""):
+        for path in (self.work + b"/none/page.html", self.top, b"/dev/null"):
             status, out, err = profile(self.top, "--output", self.out, "--report", path)
             self.assertEqual((status, out, lines(err, b"fault: ")), (4, b"", [b"Output"]), path)
         self.only()
