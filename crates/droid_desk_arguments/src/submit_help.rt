@@ -53,8 +53,8 @@ that the service still has the profile. It sends up to sixteen requests ahead of
 At the end the client reads the profile's CSV, even without --export, and compares it with the
 folder. Standard output has the profile's number. Standard error has what was skipped, what differs,
 what is in the profile and not in the folder, and the progress, as by `profile`. PAGE gets the page
-that `droid_desk report` makes of the CSV. Each FILE and PAGE is complete, or as it was before; it must
-lie outside DIR.
+that `droid_desk report` makes of the CSV. Each FILE and PAGE is complete, or as it was before, has a
+path of its own, and must lie outside DIR.
 
 Exit status:
 
@@ -75,7 +75,8 @@ Exit status:
        Folders    new folders appeared meanwhile: run the command again
        Disturbed  other requests came between the parts of the CSV, a hundred times
        Write      a FILE or PAGE could not be written
-       Output     a FILE or PAGE lies inside DIR, or could not be created or replaced
+       Output     a FILE or PAGE lies inside DIR, is another one of them, or could not be created or
+                  replaced
        Memory     memory ran out, here or in the service
      or by another refusal of a request, such as NoSuchProfile, NoSuchNode, NotAFolder, NumberReused,
      Store or Malformed; `droid_desk script --help` lists all refusals
