@@ -119,3 +119,32 @@ class InFolder(unittest.TestCase):
         self.assertEqual([row["FILE_PATH"] for row in found], [row["FILE_PATH"] for row in rows])
         for due, row in zip(rows, found):
             self.assertEqual({name: row[name] for name in due}, due)
+
+
+class InChangingFolder(InFolder):
+    """A test with three files, one of which something else takes the place of while the program reads them."""
+
+    PATH = b"/in/b.txt"
+
+    def setUp(self):
+        super().setUp()
+        self.other = self.work + b"/other"
+
+    def make(self, kind):
+        """Makes the tree, and what takes the file's place: another of its size and moment, a pipe, or a link to such a file."""
+        shutil.rmtree(self.top)
+        self.folder(b"/in")
+        for path, content in ((b"/in/a.txt", b"one"), (self.PATH, b"two"), (b"/in/c.txt", b"three")):
+            self.file(path, content)
+        if kind == "file":
+            self.file(b"/../other", b"six")
+        elif kind == "pipe":
+            os.mkfifo(self.other)
+        else:
+            self.file(b"/../target", b"six")
+            os.symlink(self.work + b"/target", self.other)
+
+    def exchanging(self, look):
+        """The variables with which it takes the file's place before this look at it (tests/program/folders/changes.c)."""
+        places = {"EXCHANGED_BY": self.other, "EXCHANGED_TO": self.top + self.PATH}
+        return {"EXCHANGED": "b.txt", "EXCHANGED_LOOK": str(look)} | {name: os.fsdecode(path) for name, path in places.items()}
