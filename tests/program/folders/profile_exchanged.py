@@ -65,6 +65,26 @@ class Exchanged(InChangingFolder):
                     self.check(command, self.ended(command, **self.exchanging(look)), reason)
                     self.assertFalse(os.path.lexists(self.other))
 
+    def test_link_in_the_middle(self):
+        """A folder is exchanged for a link to another one while it is listed. What lies in it is looked at and read through
+        the folder that was opened, so the profile is that of the first one."""
+        self.make("file")
+        self.folder(b"/../target")
+        for name in (b"/a.txt", b"/b.txt", b"/c.txt"):
+            self.file(b"/../target" + name, b"of another folder")
+        link, there = self.work + b"/link", self.top + b"/in"
+        os.symlink(self.work + b"/target", link)
+        due = profile(self.top, "--quiet")
+        paths = {"EXCHANGED_BY": os.fsdecode(link), "EXCHANGED_TO": os.fsdecode(there), "EXCHANGED_BOTH": "1"}
+        for look in range(1, 3):
+            with self.subTest(look=look):
+                status, skipped, text = self.ended("profile", EXCHANGED="b.txt", EXCHANGED_LOOK=str(look), **paths)
+                self.assertTrue(os.path.islink(there))
+                self.assertEqual((status, skipped, text), (due[0], [], due[1]))
+                os.unlink(there)
+                os.rename(link, there)
+                os.symlink(self.work + b"/target", link)
+
 
 if __name__ == "__main__":
     unittest.main()
