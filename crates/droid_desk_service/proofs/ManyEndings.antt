@@ -5,17 +5,17 @@ use Rattle.droid_desk_arguments.specs.declared.many.ManyOptions.{ManyOptions}
 use Rattle.droid_desk_service.specs.Fresh.{IsMade, IsNoService, IsUnmade}
 use Rattle.droid_desk_service.specs.Many.{EndsServing, ManyEndsAs, ServesFresh, many_ending_of, rules_named}
 use Rattle.droid_desk_service.specs.declared.ending.Ending.{Ending}
-use Rattle.droid_desk_service.specs.declared.ending.Ending.TheVariants.{Done, Registry, NoService, Script, Stream, Send, Socket, BadLine}
-use Rattle.droid_wire.specs.Events.{Event}
-use Rattle.droid_wire.specs.Histories.{History}
-use Rattle.droid_wire.specs.ManyConnections.{ServesMany, ServesSome}
-use Rattle.droid_wire.specs.Setting.{Setting}
-use Rattle.droid_wire.specs.Standing.{limits_of, registry_of}
-use Rattle.droid_wire.specs.core_types.service.Service.{Service}
-use Rattle.droid_wire.specs.declared.serve_fault.ServeFault.TheVariants as serve_faults
-use Rattle.droid_wire.specs.turn_types.rules.Rules.{Rules}
-use Rattle.droid_wire.specs.turn_types.served.Served.{Served}
-use Rattle.droid_wire.specs.turn_types.served.Served.TheVariants as ways
+use Rattle.droid_desk_service.specs.declared.ending.Ending.TheVariants.{Done, Registry, NoService, Script, Stream, Send, Socket, Journal, BadLine}
+use Rattle.droid_wire_journal.specs.wire.Events.{Event}
+use Rattle.droid_wire_journal.specs.wire.Histories.{History}
+use Rattle.droid_wire_journal.specs.wire.ManyConnections.{ServesMany, ServesSome}
+use Rattle.droid_wire_journal.specs.wire.Setting.{Setting}
+use Rattle.droid_wire_journal.specs.wire.Standing.{limits_of, registry_of}
+use Rattle.droid_wire_journal.specs.wire.core_types.service.Service.{Service}
+use Rattle.droid_wire_journal.specs.wire.declared.serve_fault.ServeFault.TheVariants as serve_faults
+use Rattle.droid_wire_journal.specs.wire.turn_types.rules.Rules.{Rules}
+use Rattle.droid_wire_journal.specs.wire.turn_types.served.Served.{Served}
+use Rattle.droid_wire_journal.specs.wire.turn_types.served.Served.TheVariants as ways
 
 some_of : {C : Type 0} (does : C → Event → C → Type 0) (rules : Rules) (setting : Setting) (history : History) (connections later : C) (after : Service) (result : Served)
     → ServesMany does rules setting history connections later after result → ServesSome rules setting history after result
@@ -59,6 +59,7 @@ ends_unmade options (Script fault) cause unmade = absurd unmade
 ends_unmade options (Stream fault) cause unmade = absurd unmade
 ends_unmade options (Send fault) cause unmade = absurd unmade
 ends_unmade options Socket cause unmade = absurd unmade
+ends_unmade options (Journal fault) cause unmade = absurd unmade
 ends_unmade options BadLine cause unmade = absurd unmade
 ends_unmade options Done cause unmade = absurd unmade
 
@@ -69,6 +70,7 @@ widened (Script fault) none = none
 widened (Stream fault) none = none
 widened (Send fault) none = none
 widened Socket none = none
+widened (Journal fault) none = none
 widened BadLine none = none
 widened Done none = none
 

@@ -1,11 +1,11 @@
 //! A service as the machine of a journal.
 
 ghost use Rattle.std.specs.Prelude.{◌≡◌, true, false};
-ghost use Rattle.droid_core.specs.Verdicts.{is_refused};
+ghost use Rattle.droid_core_spec.specs.Verdicts.{is_refused};
 
-use droid_core::Service;
+use droid_wire::Service;
 use droid_frame::{Frame, Reply};
-use droid_journal::{Handled, Machine};
+use droid_journal_disk::{Handled, Machine};
 
 /// The kinds of requests below this one are commands, which change the service if they are accepted.
 const QUERIES: u8 = 7;
@@ -21,7 +21,7 @@ pub struct ServiceMachine {
 }
 
 impl Machine for ServiceMachine {
-    ghost use Rattle.droid_core.specs.Setting as settings;
+    ghost use Rattle.droid_wire.specs.Setting as settings;
     ghost use Rattle.droid_journal_service.specs.Histories.{GivesReply, StandsForRecords};
 
     ghost Setting = { settings.Setting };
