@@ -6,10 +6,10 @@ ghost use Rattle.droid_wire.specs.Setting.{Setting};
 ghost use Rattle.droid_wire.specs.Standing.{StandsFor};
 ghost use Rattle.droid_frame.specs.Replies.{HasReplySpelling};
 ghost use Rattle.droid_journal_disk.specs.journal.Opening.{HasHeader, IsBegun, IsKept, WasDamaged, WasFound, WasRefuted};
-ghost use Rattle.droid_journal_disk.specs.journal.Standing.{Keeps};
+ghost use Rattle.droid_journal_disk.specs.journal.Standing.{IsSettled, Keeps};
 ghost use Rattle.droid_journal_disk.specs.chain.Chains.{NotByChance};
 ghost use Rattle.droid_journal_disk.specs.chain.Records.{Record};
-ghost use Rattle.droid_journal_service.specs.Histories.{GivesReply, IsBetween, IsHistoryOf};
+ghost use Rattle.droid_journal_service.specs.Histories.{GivesReply, IsBetween, IsHistoryOf, StandsForRecords};
 ghost use Rattle.droid_journal_service.specs.Standing.{AnswersIn, IsLeft, IsNextOr, KeepsHistory, StandsForHistory};
 
 use crate::service_machine::ServiceMachine;
@@ -55,13 +55,21 @@ impl<F: LogFile + Drop> ServiceJournal<F> {
         ensures other_header { IsErrOf result Fault.Header → (s : List ℕ) → F.has file s → (HasHeader header.now s → ⊥) × ((count : ℕ) → IsBegun header.now s count → ⊥) }
     {
         let mut file = file;
-        let fresh = ServiceMachine { service: fresh };
+        let fresh = ServiceMachine::new(fresh);
         match open(alloc, &mut file, header, fresh) {
-            Ok(opened) => Ok(ServiceJournal {
-                journal: Journal::new(alloc, file, opened),
-            }),
+            Ok(opened) => Ok(ServiceJournal::begun(Journal::new(alloc, file, opened))),
             Err(fault) => Err(fault),
         }
+    }
+
+    /// Begins with a journal that was read.
+    fn begun(journal: Journal<F, ServiceMachine>) -> ServiceJournal<F>
+        ensures { (setting : Setting) (header : List ℕ) (records : List Record) → IsSettled F.has F.kept (λ machine its. StandsForRecords setting machine.service its) header journal records
+            → IsSettled F.has F.kept (λ machine its. StandsForRecords setting machine.service its) header result.journal records }
+    {
+        let mut journal = journal;
+        journal.machine.live = true;
+        ServiceJournal { journal }
     }
 
     /// Handles a request and returns its reply.
@@ -108,9 +116,9 @@ pub fn crash_and_reopen<F: Tears + Drop>(
         → IfOk result (λ after. (history : History) × StandsForHistory F.has F.kept setting header.now after.journal history history × IsBetween synced history all) }
 {
     let ServiceJournal { journal } = before;
-    let fresh = ServiceMachine { service: fresh };
+    let fresh = ServiceMachine::new(fresh);
     match droid_journal_disk::crash_and_reopen(alloc, journal, header, tail, fresh) {
-        Ok(journal) => Ok(ServiceJournal { journal }),
+        Ok(journal) => Ok(ServiceJournal::begun(journal)),
         Err(fault) => Err(fault),
     }
 }

@@ -1,7 +1,10 @@
 //! A service as the machine of a journal.
 
-ghost use Rattle.std.specs.Prelude.{◌≡◌, true, false};
+ghost use Rattle.std.specs.Prelude.{◌≡◌, IsSome, true, false};
 ghost use Rattle.droid_core_spec.specs.Verdicts.{is_refused};
+ghost use Rattle.droid_wire.specs.Histories.{History, kept};
+ghost use Rattle.droid_wire.specs.Setting.{Setting};
+ghost use Rattle.droid_wire.specs.Standing.{StandsFor};
 
 use droid_wire::Service;
 use droid_frame::{Frame, Reply};
@@ -13,11 +16,36 @@ const QUERIES: u8 = 7;
 /// A service as the machine of a journal. It stands for records if it stands for the history of their requests.
 ///
 /// An accepted command goes into the journal unless the service has its reply cached, since then it came again. One whose
-/// reply is kept but no longer cached goes in once more, and changes nothing when it is read.
+/// reply is kept but no longer cached goes in once more, and changes nothing when it is read. Which replies are cached depends
+/// on what came again too, and that is not in the journal. So while a journal is read every accepted command belongs to it.
 #[derive(Drop)]
 pub struct ServiceMachine {
     /// The service.
     pub service: Service,
+    /// Whether the journal was read: what is handled now is new.
+    pub live: bool,
+}
+
+impl ServiceMachine {
+    /// Makes a machine of a service, for which a journal is to be read.
+    pub(crate) fn new(service: Service) -> ServiceMachine
+        ensures service { result.service ≡ service }
+    {
+        ServiceMachine {
+            service,
+            live: false,
+        }
+    }
+
+    /// Whether a request came before for sure, by its client and number.
+    fn knows(&self, client: u32, number: u64) -> bool
+        ensures kept { (setting : Setting) (history : History) → StandsFor setting self.now.service history → result ≡ true → IsSome (kept history client number) }
+    {
+        if !self.live {
+            return false;
+        }
+        self.service.is_cached(client, number)
+    }
 }
 
 impl Machine for ServiceMachine {
@@ -31,7 +59,7 @@ impl Machine for ServiceMachine {
     ghost gives = { GivesReply };
 
     fn handle(&mut self, frame: Frame) -> Handled {
-        let known = self.service.is_cached(frame.client, frame.number);
+        let known = self.knows(frame.client, frame.number);
         let commands = frame.kind < QUERIES;
         let reply = self.service.handle(frame);
         let accepted = belongs(commands, known, &reply);

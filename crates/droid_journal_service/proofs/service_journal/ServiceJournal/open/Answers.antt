@@ -8,7 +8,7 @@ pub returns-in-Ok-clause-opened : goal.returns-in-Ok-clause-opened
 returns-in-Ok-clause-opened g c = λ setting s fresh here.
     let stands : StandsForRecords setting c.args.fresh [] = record { history = []; its = no_history setting; stands = fresh } in
     let found = c.in-Ok.ensures.opened s here in
-    let settled = c.new.ensures.settled setting c.args.header.now found.0 (found.2 setting stands).0 in
+    let settled = c.begun.ensures setting c.args.header.now found.0 (c.new.ensures.settled setting c.args.header.now found.0 (found.2 setting stands).0) in
     let its = settled.machine.its in (
       found.0,
       settled.machine.history,
@@ -21,7 +21,7 @@ pub returns-in-Ok-clause-reopened : goal.returns-in-Ok-clause-reopened
 returns-in-Ok-clause-reopened g c = λ setting s synced all fresh here left.
     let stands : StandsForRecords setting c.args.fresh [] = record { history = []; its = no_history setting; stands = fresh } in
     let opened = c.in-Ok.ensures.reopened setting s left.first left.written here stands left.fit left.front left.chance in
-    let settled = c.new.ensures.settled setting c.args.header.now opened.0 opened.1 in
+    let settled = c.begun.ensures setting c.args.header.now opened.0 (c.new.ensures.settled setting c.args.header.now opened.0 opened.1) in
     let its = settled.machine.its in (
       settled.machine.history,
       record { first = opened.0; records = opened.0; stands = settled; on_disk = its; accepted = its },
