@@ -27,16 +27,6 @@ pub struct ServiceMachine {
 }
 
 impl ServiceMachine {
-    /// Makes a machine of a service, for which a journal is to be read.
-    pub(crate) fn new(service: Service) -> ServiceMachine
-        ensures service { result.service ≡ service }
-    {
-        ServiceMachine {
-            service,
-            live: false,
-        }
-    }
-
     /// Whether a request came before for sure, by its client and number.
     fn knows(&self, client: u32, number: u64) -> bool
         ensures kept { (setting : Setting) (history : History) → StandsFor setting self.now.service history → result ≡ true → IsSome (kept history client number) }

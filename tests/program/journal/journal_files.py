@@ -88,6 +88,15 @@ class Starts(InJournal):
         code, written, said = run_journal(self.path, ASKED[0] + b"\3" + bytes(17))
         self.assertEqual((code, written, faults(said)), (4, by_model(ASKED[:1]), b"fault: BadVersion\n"))
 
+    def test_a_repeat_that_is_no_longer_cached(self):
+        """The service caches 256 replies, and which ones depends on repeats, that are not in the journal. A command that came
+        again when its reply was not cached has two records; a start reads both, also where it has the reply cached."""
+        asked = [create(1)] + [folder(number, b"%d" % number) for number in range(2, 4)]
+        asked += asked[:2] + [folder(number, b"%d" % number) for number in range(4, 258)] + asked[2:3]
+        self.assertEqual(run_journal(self.path, b"".join(asked)), (0, by_model(asked), b""))
+        self.assertEqual(len(read(contents(self.path)).records), 258)
+        self.assertEqual(run_journal(self.path, b"".join(asked)), (0, by_model(asked), b""))
+
     def test_many_turns(self):
         """More frames than one turn has, in one stream."""
         asked = [create(1)] + [folder(number, b"%d" % number) for number in range(2, 1_000)]
