@@ -1,6 +1,6 @@
 -- A service that is made with a registry that was read.
 use Rattle.std.proofs.Common.{◌≡◌, ℕ, List, Option, Some, None, Result, Ok, Err, IfOk, IfErr, IfSome, refl}
-use Rattle.droid_wire_journal.specs.wire.core_types.service.Service.{Service}
+use Rattle.droid_wire.specs.core_types.service.Service.{Service}
 use Rattle.droid_desk_service.specs.Fresh.{IsMadeOf, IsMadeWith, IsNoService, IsNotMadeOf}
 use Rattle.droid_desk_service.specs.declared.ending.Ending.{Ending}
 use Rattle.droid_desk_service.specs.declared.ending.Ending.TheVariants.{Done, Registry, NoService, Script, Stream, Send, Socket, Journal, BadLine}

@@ -2,14 +2,14 @@
 use Rattle.std.proofs.Common.{◌≡◌, ℕ, ◌+◌, ◌≤◌, List, [], ◌++◌, length, take, drop, refl, sym, ap, subst, ◌∙◌, append_assoc, arith}
 use Rattle.std.proofs.lemmas.List.{append-nil, drop_all, drop_at, length-append, length-drop, length-take, take_at}
 use Rattle.droid_desk_service.specs.Journals.{IsHeaderOf, header_text}
-use Rattle.droid_wire_journal.specs.service.Standing.{IsLeft}
-use Rattle.droid_wire_journal.specs.service.Headers.{IsMemoryOrRead}
-use Rattle.droid_wire_journal.specs.service.chain.Chains.{chain_bytes, first_check}
-use Rattle.droid_wire_journal.specs.service.journal.Opening.{HasHeader}
-use Rattle.droid_wire_journal.specs.service.journal.declared.fault.Fault.{Fault}
-use Rattle.droid_wire_journal.specs.service.journal.declared.fault.Fault.TheVariants as faults
-use Rattle.droid_wire_journal.specs.wire.Histories.{History}
-use Rattle.droid_wire_journal.specs.wire.Setting.{Setting}
+use Rattle.droid_wire.specs.with_journal.service.Standing.{IsLeft}
+use Rattle.droid_wire.specs.with_journal.service.Headers.{IsMemoryOrRead}
+use Rattle.droid_wire.specs.with_journal.service.chain.Chains.{chain_bytes, first_check}
+use Rattle.droid_wire.specs.with_journal.service.journal.Opening.{HasHeader}
+use Rattle.droid_wire.specs.with_journal.service.journal.declared.fault.Fault.{Fault}
+use Rattle.droid_wire.specs.with_journal.service.journal.declared.fault.Fault.TheVariants as faults
+use Rattle.droid_wire.specs.Histories.{History}
+use Rattle.droid_wire.specs.Setting.{Setting}
 
 -- `text` is what the header begins with
 module _ (registry text random s made : List ℕ) (text_is : text ≡ header_text registry) (full : length random ≡ 16)

@@ -5,11 +5,11 @@ use Rattle.droid_desk_service.specs.Fresh.{IsNotMadeOf}
 use Rattle.droid_desk_service.specs.JournalEndings.{IsUnopened, JournalEndsAs, ServesSteps, journal_ending_of}
 use Rattle.droid_desk_service.specs.declared.ending.Ending.{Ending}
 use Rattle.droid_desk_service.specs.declared.ending.Ending.TheVariants.{Done, Registry, NoService, Script, Stream, Send, Socket, Journal, BadLine}
-use Rattle.droid_wire_journal.specs.service.journal.declared.fault.Fault.{Fault}
-use Rattle.droid_wire_journal.specs.wire.declared.serve_fault.ServeFault.TheVariants as serve_faults
-use Rattle.droid_wire_journal.specs.wire.turn_types.rules.Rules.{Rules}
-use Rattle.droid_wire_journal.specs.wire.turn_types.served.Served.{Served}
-use Rattle.droid_wire_journal.specs.wire.turn_types.served.Served.TheVariants as ways
+use Rattle.droid_wire.specs.with_journal.service.journal.declared.fault.Fault.{Fault}
+use Rattle.droid_wire.specs.declared.serve_fault.ServeFault.TheVariants as serve_faults
+use Rattle.droid_wire.specs.turn_types.rules.Rules.{Rules}
+use Rattle.droid_wire.specs.turn_types.served.Served.{Served}
+use Rattle.droid_wire.specs.turn_types.served.Served.TheVariants as ways
 
 unsettled : (rules : Rules) (fault : Option Fault) → JournalEndsAs rules (journal_ending_of ways.Unsettled fault) None
 unsettled rules None = tt

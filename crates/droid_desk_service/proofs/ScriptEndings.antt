@@ -10,8 +10,8 @@ use Rattle.droid_lines_script.specs.declared.script_fault.ScriptFault.{ScriptFau
 use Rattle.droid_lines_script.specs.declared.script_fault.ScriptFault.TheVariants.{TooLong, Read, Memory, Write}
 use Rattle.droid_lines.specs.Tallies.{Counts}
 use Rattle.droid_lines.specs.declared.tally.Tally.{Tally}
-use Rattle.droid_wire_journal.specs.wire.core_types.service.Service.{Service}
-use Rattle.droid_wire_journal.specs.wire.Setting.{Setting}
+use Rattle.droid_wire.specs.core_types.service.Service.{Service}
+use Rattle.droid_wire.specs.Setting.{Setting}
 use Rattle.droid_desk_service.specs.Endings.{ending_of, EndsAs, EndsOver, PrintsAll, RunsWith}
 use Rattle.droid_desk_service.specs.Fresh.{IsNotMadeOf}
 use Rattle.droid_lines.specs.Lines.{lines_of}

@@ -2,7 +2,7 @@
 use Rattle.std.proofs.Common.{◌≡◌, ℕ, Bool, true, false, cond, eqb, List, Option, Result, Ok, Err, IfOk, IfErr, refl, ap, arith}
 use Rattle.std.specs.Prelude.{IsErrOf}
 use Rattle.std.proofs.lemmas.Bool.{eqb-true, eqb-false}
-use Rattle.droid_wire_journal.specs.wire.Cores.{Core}
+use Rattle.droid_wire.specs.Cores.{Core}
 use Rattle.droid_desk_service.specs.declared.ending.Ending.TheVariants.{Done, BadLine, Send}
 use Rattle.droid_desk_service.specs.Sends.{SendEndsAs, sending_end_of}
 use Rattle.droid_lines_send.specs.declared.send_fault.SendFault.{SendFault}

@@ -1,19 +1,19 @@
 -- What the end of a stream says of the program's ending.
 use Rattle.std.proofs.Common.{◌≡◌, ℕ, cond, eqb, List, [], Option, Some, None, Result, Ok, Err, IfSome, ap, ◌∙◌}
 use Rattle.std.specs.Prelude.{IsErrOf, IsErrAnd}
-use Rattle.droid_wire_journal.specs.wire.core_types.service.Service.{Service}
+use Rattle.droid_wire.specs.core_types.service.Service.{Service}
 use Rattle.droid_desk_service.specs.declared.ending.Ending.TheVariants.{Stream}
 use Rattle.droid_desk_service.specs.Streams.{ConnectionGives, StreamEndsAs, stream_ending_of, stream_turns}
-use Rattle.droid_wire_journal.specs.wire.Histories.{History}
-use Rattle.droid_wire_journal.specs.wire.Setting.{Setting}
+use Rattle.droid_wire.specs.Histories.{History}
+use Rattle.droid_wire.specs.Setting.{Setting}
 use Rattle.std.specs.Io.KnownBytes.{prepend_known}
 use Rattle.std.specs.Io.Buffered.{reader_buffer, reader_capacity, reader_inner, reader_remaining}
 use Rattle.std.specs.declared.io.buffered.BufReader.{BufReader}
 use Rattle.std.proofs.KnownBytes.{prepend_known-nil}
-use Rattle.droid_wire_journal.specs.wire.Serving.{Outcome}
-use Rattle.droid_wire_journal.specs.wire.declared.ended.Ended.{Ended}
-use Rattle.droid_wire_journal.specs.wire.declared.serve_fault.ServeFault.{ServeFault}
-use Rattle.droid_wire_journal.specs.wire.declared.serve_fault.ServeFault.TheVariants as faults
+use Rattle.droid_wire.specs.Serving.{Outcome}
+use Rattle.droid_wire.specs.declared.ended.Ended.{Ended}
+use Rattle.droid_wire.specs.declared.serve_fault.ServeFault.{ServeFault}
+use Rattle.droid_wire.specs.declared.serve_fault.ServeFault.TheVariants as faults
 
 pub stream_ends : (known left old new : Option (List ℕ)) (setting : Setting) (history : History) (after : Service) (r : Result Ended ServeFault)
     → IfSome known (λ input. Outcome setting history stream_turns input left old new after r)

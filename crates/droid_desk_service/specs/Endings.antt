@@ -5,14 +5,14 @@ use Rattle.std.specs.Io.KnownBytes.{Keeps}
 use Rattle.droid_desk_service.specs.declared.ending.Ending.{Ending}
 use Rattle.droid_desk_service.specs.declared.journal_fault.JournalFault.{JournalFault}
 use Rattle.droid_desk_service.specs.declared.journal_fault.JournalFault.TheVariants as journal_faults
-use Rattle.droid_wire_journal.specs.service.journal.declared.fault.Fault.TheVariants as faults
+use Rattle.droid_wire.specs.with_journal.service.journal.declared.fault.Fault.TheVariants as faults
 use Rattle.droid_desk_service.specs.declared.ending.Ending.TheVariants.{Done, Registry, NoService, Script, Stream, Send, Socket, Journal, BadLine}
 use Rattle.droid_lines_script.specs.declared.script_fault.ScriptFault.{ScriptFault}
 use Rattle.droid_lines_script.specs.declared.script_fault.ScriptFault.TheVariants.{TooLong, Read, Memory, Write}
-use Rattle.droid_wire_journal.specs.wire.core_types.service.Service.{Service}
-use Rattle.droid_wire_journal.specs.wire.Identified.{IsOf}
-use Rattle.droid_wire_journal.specs.wire.Limits.{Limits}
-use Rattle.droid_wire_journal.specs.wire.Setting.{Setting}
+use Rattle.droid_wire.specs.core_types.service.Service.{Service}
+use Rattle.droid_wire.specs.Identified.{IsOf}
+use Rattle.droid_wire.specs.Limits.{Limits}
+use Rattle.droid_wire.specs.Setting.{Setting}
 use Rattle.droid_lines.specs.Lines.{lines_of}
 use Rattle.droid_lines.specs.declared.tally.Tally.{Tally}
 use Rattle.droid_pronom.specs.Registry.{Contents}
@@ -21,8 +21,8 @@ use Rattle.droid_pronom.specs.declared.registry.fault.RegistryFault.{RegistryFau
 use Rattle.droid_pronom.specs.declared.registry.fault.RegistryFault.TheVariants as registry_faults
 use Rattle.droid_store.specs.declared.fault.StoreFault.{StoreFault}
 use Rattle.droid_store.specs.declared.fault.StoreFault.TheVariants as store_faults
-use Rattle.droid_wire_journal.specs.wire.declared.serve_fault.ServeFault.{ServeFault}
-use Rattle.droid_wire_journal.specs.wire.declared.serve_fault.ServeFault.TheVariants as serve_faults
+use Rattle.droid_wire.specs.declared.serve_fault.ServeFault.{ServeFault}
+use Rattle.droid_wire.specs.declared.serve_fault.ServeFault.TheVariants as serve_faults
 use Rattle.droid_lines_send.specs.Faults.{frame_fault_name}
 use Rattle.droid_lines_script.specs.Scripts.{RunsAll, RunsFront, IsTooLong, is_bad}
 

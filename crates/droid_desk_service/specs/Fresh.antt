@@ -1,11 +1,11 @@
 -- A fresh service: its registry and limits, and why none is made.
 use Rattle.std.specs.Prelude.{◌≡◌, ℕ, List, [], Option, IfSome, Ok}
-use Rattle.droid_wire_journal.specs.wire.Standing.{StandsFor, limits_of, registry_of}
-use Rattle.droid_wire_journal.specs.wire.core_types.service.Service.{Service}
+use Rattle.droid_wire.specs.Standing.{StandsFor, limits_of, registry_of}
+use Rattle.droid_wire.specs.core_types.service.Service.{Service}
 use Rattle.droid_desk_service.specs.Endings.{IsFaultOf, IsProgramSetting, program_limits}
 use Rattle.droid_desk_service.specs.declared.ending.Ending.{Ending}
 use Rattle.droid_desk_service.specs.declared.ending.Ending.TheVariants.{Done, Registry, NoService, Script, Stream, Send, Socket, Journal, BadLine}
-use Rattle.droid_wire_journal.specs.wire.Setting.{Setting}
+use Rattle.droid_wire.specs.Setting.{Setting}
 use Rattle.droid_pronom.specs.Registry.{Contents}
 use Rattle.droid_pronom.specs.RegistryFile.{File}
 

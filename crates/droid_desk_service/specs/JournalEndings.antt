@@ -5,23 +5,23 @@ use Rattle.droid_desk_service.specs.declared.ending.Ending.{Ending}
 use Rattle.droid_desk_service.specs.declared.ending.Ending.TheVariants.{Done, Registry, NoService, Script, Stream, Send, Socket, Journal, BadLine}
 use Rattle.droid_desk_service.specs.declared.journal_fault.JournalFault.TheVariants.{Closed}
 use Rattle.droid_frame.specs.declared.stream.fault.FrameFault.TheVariants as frame_faults
-use Rattle.droid_wire_journal.specs.Serving.{AnswersJournal, ServesJournal}
-use Rattle.droid_wire_journal.specs.declared.journal_handler.JournalHandler.{JournalHandler}
-use Rattle.droid_wire_journal.specs.pipe_types.pipe.Pipe.{Pipe}
-use Rattle.droid_wire_journal.specs.service.Standing.{StandsForHistory}
-use Rattle.droid_wire_journal.specs.service.journal.declared.fault.Fault.{Fault}
-use Rattle.droid_wire_journal.specs.service.journal.declared.fault.Fault.TheVariants as faults
-use Rattle.droid_wire_journal.specs.turns.Steps.{Step}
-use Rattle.droid_wire_journal.specs.turns.Turns.{ServesAll}
-use Rattle.droid_wire_journal.specs.wire.Events.{Event}
-use Rattle.droid_wire_journal.specs.wire.Histories.{History}
-use Rattle.droid_wire_journal.specs.wire.Setting.{Setting}
-use Rattle.droid_wire_journal.specs.wire.declared.serve_fault.ServeFault.TheVariants as serve_faults
-use Rattle.droid_wire_journal.specs.wire.turn_types.departure.Departure.{Departure}
-use Rattle.droid_wire_journal.specs.wire.turn_types.departure.Departure.TheVariants as departures
-use Rattle.droid_wire_journal.specs.wire.turn_types.rules.Rules.{Rules}
-use Rattle.droid_wire_journal.specs.wire.turn_types.served.Served.{Served}
-use Rattle.droid_wire_journal.specs.wire.turn_types.served.Served.TheVariants as ways
+use Rattle.droid_wire.specs.with_journal.Serving.{AnswersJournal, ServesJournal}
+use Rattle.droid_wire.specs.with_journal.declared.journal_handler.JournalHandler.{JournalHandler}
+use Rattle.droid_wire.specs.with_journal.pipe_types.pipe.Pipe.{Pipe}
+use Rattle.droid_wire.specs.with_journal.service.Standing.{StandsForHistory}
+use Rattle.droid_wire.specs.with_journal.service.journal.declared.fault.Fault.{Fault}
+use Rattle.droid_wire.specs.with_journal.service.journal.declared.fault.Fault.TheVariants as faults
+use Rattle.droid_wire.specs.with_journal.turns.Steps.{Step}
+use Rattle.droid_wire.specs.with_journal.turns.Turns.{ServesAll}
+use Rattle.droid_wire.specs.Events.{Event}
+use Rattle.droid_wire.specs.Histories.{History}
+use Rattle.droid_wire.specs.Setting.{Setting}
+use Rattle.droid_wire.specs.declared.serve_fault.ServeFault.TheVariants as serve_faults
+use Rattle.droid_wire.specs.turn_types.departure.Departure.{Departure}
+use Rattle.droid_wire.specs.turn_types.departure.Departure.TheVariants as departures
+use Rattle.droid_wire.specs.turn_types.rules.Rules.{Rules}
+use Rattle.droid_wire.specs.turn_types.served.Served.{Served}
+use Rattle.droid_wire.specs.turn_types.served.Served.TheVariants as ways
 
 -- connections one by one, so many of them, each for as long as it stays
 abbrev pub rules_one_by_one : ℕ → Rules

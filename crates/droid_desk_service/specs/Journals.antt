@@ -1,14 +1,14 @@
 -- The journal of the program's service (this project's own).
 use Rattle.std.specs.Prelude.{◌≡◌, ℕ, List, [], ◌∷◌, ◌++◌, codes, length}
 use Rattle.md5.specs.Md5.{md5}
-use Rattle.droid_wire_journal.specs.service.Histories.{GivesReply, IsHistoryOf}
-use Rattle.droid_wire_journal.specs.service.Standing.{StandsForHistory}
-use Rattle.droid_wire_journal.specs.service.chain.Records.{Record}
-use Rattle.droid_wire_journal.specs.service.declared.service_machine.ServiceMachine.{ServiceMachine}
-use Rattle.droid_wire_journal.specs.service.journal.Opening.{WasDamaged, WasFound, WasRefuted}
-use Rattle.droid_wire_journal.specs.service.journal.declared.journal.Journal.{Journal}
-use Rattle.droid_wire_journal.specs.wire.Histories.{History}
-use Rattle.droid_wire_journal.specs.wire.Setting.{Setting}
+use Rattle.droid_wire.specs.with_journal.service.Histories.{GivesReply, IsHistoryOf}
+use Rattle.droid_wire.specs.with_journal.service.Standing.{StandsForHistory}
+use Rattle.droid_wire.specs.with_journal.service.chain.Records.{Record}
+use Rattle.droid_wire.specs.with_journal.service.declared.service_machine.ServiceMachine.{ServiceMachine}
+use Rattle.droid_wire.specs.with_journal.service.journal.Opening.{WasDamaged, WasFound, WasRefuted}
+use Rattle.droid_wire.specs.with_journal.service.journal.declared.journal.Journal.{Journal}
+use Rattle.droid_wire.specs.Histories.{History}
+use Rattle.droid_wire.specs.Setting.{Setting}
 
 -- what a journal begins with: a line that says what it is, a line with the limits of its service, and the MD5 (RFC 1321) of
 -- the bytes of the registry

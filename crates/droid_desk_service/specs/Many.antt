@@ -7,16 +7,16 @@ use Rattle.droid_desk_service.specs.declared.ending.Ending.{Ending}
 use Rattle.droid_desk_service.specs.declared.ending.Ending.TheVariants.{Done, Registry, NoService, Script, Stream, Send, Socket, Journal, BadLine}
 use Rattle.droid_frame.specs.declared.stream.fault.FrameFault.TheVariants as frame_faults
 use Rattle.droid_pronom.specs.Registry.{Contents}
-use Rattle.droid_wire_journal.specs.wire.Events.{Event}
-use Rattle.droid_wire_journal.specs.wire.Histories.{History}
-use Rattle.droid_wire_journal.specs.wire.ManyConnections.{ServesMany, ServesSome}
-use Rattle.droid_wire_journal.specs.wire.Setting.{Setting}
-use Rattle.droid_wire_journal.specs.wire.Standing.{StandsFor, limits_of, registry_of}
-use Rattle.droid_wire_journal.specs.wire.core_types.service.Service.{Service}
-use Rattle.droid_wire_journal.specs.wire.declared.serve_fault.ServeFault.TheVariants as serve_faults
-use Rattle.droid_wire_journal.specs.wire.turn_types.rules.Rules.{Rules}
-use Rattle.droid_wire_journal.specs.wire.turn_types.served.Served.{Served}
-use Rattle.droid_wire_journal.specs.wire.turn_types.served.Served.TheVariants as ways
+use Rattle.droid_wire.specs.Events.{Event}
+use Rattle.droid_wire.specs.Histories.{History}
+use Rattle.droid_wire.specs.ManyConnections.{ServesMany, ServesSome}
+use Rattle.droid_wire.specs.Setting.{Setting}
+use Rattle.droid_wire.specs.Standing.{StandsFor, limits_of, registry_of}
+use Rattle.droid_wire.specs.core_types.service.Service.{Service}
+use Rattle.droid_wire.specs.declared.serve_fault.ServeFault.TheVariants as serve_faults
+use Rattle.droid_wire.specs.turn_types.rules.Rules.{Rules}
+use Rattle.droid_wire.specs.turn_types.served.Served.{Served}
+use Rattle.droid_wire.specs.turn_types.served.Served.TheVariants as ways
 
 -- the rules that the options name; the time is in milliseconds
 abbrev pub rules_named : ManyOptions → Rules

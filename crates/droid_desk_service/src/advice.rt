@@ -5,7 +5,7 @@ use droid_lines_script::ScriptFault;
 use droid_lines_send::SendFault;
 use droid_pronom::RegistryFault;
 use droid_store::StoreFault;
-use droid_wire_journal::ServeFault;
+use droid_wire::ServeFault;
 use std::io::ErrorKind;
 
 const NO_MEMORY: &str =

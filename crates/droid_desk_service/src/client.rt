@@ -2,7 +2,7 @@
 
 ghost use Rattle.std.specs.Prelude.{◌≡◌, ◌<◌, ◌^◌, None, length};
 ghost use Rattle.droid_frame.specs.Seen.{IsSound, ReportsFault};
-ghost use Rattle.droid_wire_journal.specs.wire.Cores.{new_core};
+ghost use Rattle.droid_wire.specs.Cores.{new_core};
 ghost use Rattle.droid_frame.specs.InTurn.{AtMost, ReportsFaultInTurn};
 ghost use Rattle.droid_lines.specs.Lines.{lines_of};
 ghost use Rattle.droid_lines_send.specs.Along.{ReadsReply, WritesPrinted, WritesRequest};
@@ -12,7 +12,7 @@ use crate::ending::{Ending, after_lines};
 use droid_frame::{FrameFault, SteadyRead, SteadyWrite};
 use droid_lines::Tally;
 use droid_lines_send::{SendFault, send};
-use droid_wire_journal::Client;
+use droid_wire::Client;
 use std::alloc::Global;
 
 /// Sends the requests of lines under numbers from `first` on, and returns how the program ends by that.

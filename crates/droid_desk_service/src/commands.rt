@@ -14,7 +14,7 @@ use droid_desk_arguments::RegistrySource;
 use droid_frame::{FrameFault, NUMBER_LIMIT, Noted};
 use droid_lines_send::SendFault;
 use droid_pronom_common::common_registry;
-use droid_wire_journal::{ServeFault, Service};
+use droid_wire::{ServeFault, Service};
 use std::fs::Files;
 use std::io::{self, BufReader};
 use std::net::{Ipv4Addr, Net, TcpListener, TcpStream};

@@ -1,14 +1,14 @@
 //! Connections, served one after the other over one service.
 
 ghost use Rattle.std.specs.Prelude.{◌≡◌, ◌+◌, ◌-◌, ◌*◌, ℕ, OnErr, OnOk};
-ghost use Rattle.droid_wire_journal.specs.wire.Standing.{StandsFor, limits_of, registry_of};
-ghost use Rattle.droid_wire_journal.specs.wire.Histories.{History};
-ghost use Rattle.droid_wire_journal.specs.wire.Setting.{Setting};
-ghost use Rattle.droid_wire_journal.specs.wire.Serving.{GoesOnFrom};
+ghost use Rattle.droid_wire.specs.Standing.{StandsFor, limits_of, registry_of};
+ghost use Rattle.droid_wire.specs.Histories.{History};
+ghost use Rattle.droid_wire.specs.Setting.{Setting};
+ghost use Rattle.droid_wire.specs.Serving.{GoesOnFrom};
 ghost use Rattle.droid_desk_service.specs.Streams.{CameTo};
 
 use crate::ending::Ending;
-use droid_wire_journal::Service;
+use droid_wire::Service;
 use std::alloc::Global;
 use std::io;
 

@@ -9,7 +9,7 @@ use droid_lines_script::ScriptFault;
 use droid_lines_send::{SendFault, frame_fault_name};
 use droid_pronom::RegistryFault;
 use droid_store::StoreFault;
-use droid_wire_journal::ServeFault;
+use droid_wire::ServeFault;
 use std::io;
 
 /// How the program ends.

@@ -7,7 +7,7 @@ ghost use Rattle.droid_desk_service.specs.Fresh.{IsMadeOf, IsMadeWith, IsNoServi
 use crate::ending::Ending;
 use droid_frame::SteadyRead;
 use droid_pronom::{Registry, RegistryFault};
-use droid_wire_journal::{Limits, Service};
+use droid_wire::{Limits, Service};
 use std::alloc::Global;
 
 /// The limits of the program's service.

@@ -3,14 +3,14 @@
 ghost use Rattle.std.specs.Prelude.{◌≡◌, ◌≤◌, ℕ, List, [], IfOk, IsErrOf, length};
 ghost use Rattle.md5.specs.Md5.{md5};
 ghost use Rattle.droid_desk_service.specs.Journals.{IsDamaged, IsHeaderOf, IsOpened, IsRefuted, header_text};
-ghost use Rattle.droid_wire_journal.specs.service.Histories.{IsBetween};
-ghost use Rattle.droid_wire_journal.specs.service.Standing.{IsLeft, StandsForHistory};
-ghost use Rattle.droid_wire_journal.specs.service.journal.Opening.{HasHeader, IsKept};
-ghost use Rattle.droid_wire_journal.specs.wire.Histories.{History};
-ghost use Rattle.droid_wire_journal.specs.wire.Setting.{Setting};
-ghost use Rattle.droid_wire_journal.specs.wire.Standing.{StandsFor};
+ghost use Rattle.droid_wire.specs.with_journal.service.Histories.{IsBetween};
+ghost use Rattle.droid_wire.specs.with_journal.service.Standing.{IsLeft, StandsForHistory};
+ghost use Rattle.droid_wire.specs.with_journal.service.journal.Opening.{HasHeader, IsKept};
+ghost use Rattle.droid_wire.specs.Histories.{History};
+ghost use Rattle.droid_wire.specs.Setting.{Setting};
+ghost use Rattle.droid_wire.specs.Standing.{StandsFor};
 
-use droid_wire_journal::{Fault, LogFile, Service, ServiceJournal, header_for};
+use droid_wire::{Fault, LogFile, Service, ServiceJournal, header_for};
 use md5::{Digest, Md5};
 use std::alloc::{AllocError, Global};
 

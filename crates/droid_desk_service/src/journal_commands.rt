@@ -18,7 +18,7 @@ use droid_desk_arguments::{ManyOptions, RegistrySource};
 use droid_frame::{InputFault, Noted, Retries, SteadyRead, read_some, read_to_end};
 use droid_pronom::RegistryFault;
 use droid_pronom_common::common_registry;
-use droid_wire_journal::{
+use droid_wire::{
     DiskLog, FileDrive, JournalHandler, Pipe, Rules, ServeFault, Service, ServiceJournal,
 };
 use droid_wire_net::{Sockets, Verbosity};
@@ -177,7 +177,7 @@ where
     };
     let drive = match FileDrive::open(rt, path) {
         Ok(drive) => drive,
-        Err(fault) => return Err(JournalFault::from(fault)),
+        Err(fault) => return Err(JournalFault::of_disk(fault)),
     };
     match open_journal(rt.alloc(), DiskLog { drive }, registry, &random, service) {
         Ok(journal) => Ok(journal),
@@ -192,7 +192,10 @@ fn random_bytes<R: Files>(rt: &R) -> Result<[u8; 16], ErrorKind> {
         Ok(file) => file,
         Err(error) => return Err(error.kind()),
     };
-    match read_some(&mut Noted::new(file), &mut bytes, &mut Retries::new()) {
+    let mut reader = Noted::new(file);
+    let mut retries = Retries::new();
+    let read = read_some(&mut reader, &mut bytes, &mut retries);
+    match read {
         Ok(16) => Ok(bytes),
         _ => Err(ErrorKind::UnexpectedEof),
     }

@@ -3,7 +3,7 @@
 ghost use Rattle.std.specs.Prelude.{◌≡◌};
 ghost use Rattle.droid_desk_service.specs.Endings.{journal_status_of};
 
-use droid_wire_journal::{DiskFault, Fault};
+use droid_wire::{DiskFault, Fault};
 use std::io::{self, ErrorKind};
 
 /// Why a journal ends the program.
@@ -19,17 +19,16 @@ pub enum JournalFault {
     Closed(Fault),
 }
 
-impl From<DiskFault> for JournalFault {
-    fn from(fault: DiskFault) -> JournalFault {
+impl JournalFault {
+    /// Says why a journal's file could not be opened.
+    pub(crate) fn of_disk(fault: DiskFault) -> JournalFault {
         match fault {
             DiskFault::InUse => JournalFault::InUse,
             DiskFault::NotAFile => JournalFault::NotAFile,
             DiskFault::Unopened(kind) => JournalFault::Unopened(kind),
         }
     }
-}
 
-impl JournalFault {
     /// Returns the exit status.
     pub fn status(&self) -> u8
         ensures { result ≡ journal_status_of self.now }

@@ -6,7 +6,7 @@ ghost use Rattle.droid_desk_service.specs.JournalEndings.{EndsAnsweringJournal, 
 use crate::ending::Ending;
 use crate::journal_fault::JournalFault;
 use droid_frame::{FrameFault, SteadyRead, SteadyWrite};
-use droid_wire_journal::{
+use droid_wire::{
     Connections, Departure, Fault, JournalHandler, LogFile, Pipe, Rules, ServeFault, Served,
     answer_journal, serve_journal,
 };

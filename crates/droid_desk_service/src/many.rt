@@ -3,7 +3,7 @@
 ghost use Rattle.std.specs.Prelude.{◌≡◌, true, false};
 ghost use Rattle.droid_desk_service.specs.Fresh.{IsMade};
 ghost use Rattle.droid_desk_service.specs.Many.{EndsServing, ManyEndsAs, many_ending_of, rules_named};
-ghost use Rattle.droid_wire_journal.specs.wire.Standing.{limits_of, registry_of};
+ghost use Rattle.droid_wire.specs.Standing.{limits_of, registry_of};
 
 use crate::commands::note_sample;
 use crate::ended::Ended;
@@ -11,7 +11,7 @@ use crate::ending::Ending;
 use crate::registry::service_for;
 use droid_desk_arguments::{ManyOptions, RegistrySource};
 use droid_frame::FrameFault;
-use droid_wire_journal::{Connections, Rules, ServeFault, Served, Service, ServiceHandler, serve_many};
+use droid_wire::{Connections, Rules, ServeFault, Served, Service, ServiceHandler, serve_many};
 use droid_wire_net::{Sockets, Verbosity};
 use std::alloc::Global;
 use std::fs::Files;

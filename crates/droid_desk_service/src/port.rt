@@ -2,16 +2,16 @@
 
 ghost use Rattle.std.specs.Prelude.{◌≡◌, Option, List, ℕ, IfErr, IfSome, OnOk};
 ghost use Rattle.std.specs.IoError.{error_kind};
-ghost use Rattle.droid_wire_journal.specs.wire.Standing.{StandsFor, limits_of, registry_of};
-ghost use Rattle.droid_wire_journal.specs.wire.Histories.{History};
-ghost use Rattle.droid_wire_journal.specs.wire.Setting.{Setting};
-ghost use Rattle.droid_wire_journal.specs.wire.Serving.{GoesOnFrom};
+ghost use Rattle.droid_wire.specs.Standing.{StandsFor, limits_of, registry_of};
+ghost use Rattle.droid_wire.specs.Histories.{History};
+ghost use Rattle.droid_wire.specs.Setting.{Setting};
+ghost use Rattle.droid_wire.specs.Serving.{GoesOnFrom};
 ghost use Rattle.droid_desk_service.specs.Streams.{ConnectionGives, stream_turns};
 
 use crate::connections::Connections;
 use crate::stream::{TURNS, serve_connection};
 use droid_frame::{Noted, SteadyWrite};
-use droid_wire_journal::Service;
+use droid_wire::Service;
 use std::alloc::Global;
 use std::io::{self, BufReader, ErrorKind, Read};
 use std::net::TcpListener;

@@ -11,7 +11,7 @@ use droid_desk_arguments::RegistrySource;
 use droid_frame::Noted;
 use droid_pronom::Registry;
 use droid_pronom_common::common_registry;
-use droid_wire_journal::Service;
+use droid_wire::Service;
 use std::fs::{self, Files, OpenFile};
 use std::io::ErrorKind;
 

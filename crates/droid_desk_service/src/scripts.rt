@@ -2,8 +2,8 @@
 
 ghost use Rattle.std.specs.Prelude.{◌≡◌, ◌≢◌, [], None, Some, length, IfSome};
 ghost use Rattle.droid_frame.specs.Seen.{IsSound, ReportsFault};
-ghost use Rattle.droid_wire_journal.specs.wire.Setting.{Setting};
-ghost use Rattle.droid_wire_journal.specs.wire.Standing.{StandsFor};
+ghost use Rattle.droid_wire.specs.Setting.{Setting};
+ghost use Rattle.droid_wire.specs.Standing.{StandsFor};
 ghost use Rattle.droid_lines.specs.Lines.{lines_of};
 ghost use Rattle.droid_desk_service.specs.Sample.{sample};
 ghost use Rattle.droid_frame.specs.InTurn.{AtMost, ReportsFaultInTurn};
@@ -17,7 +17,7 @@ use droid_frame::{SteadyRead, SteadyWrite};
 use droid_lines::Tally;
 use droid_lines_script::{ScriptFault, script};
 use droid_pronom::RegistryFault;
-use droid_wire_journal::Service;
+use droid_wire::Service;
 use std::alloc::Global;
 
 /// Runs a script over a fresh service that identifies files by the sample registry.

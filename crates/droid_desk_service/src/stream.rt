@@ -2,17 +2,17 @@
 
 ghost use Rattle.std.specs.Prelude.{◌≡◌, ◌≤◌, ℕ, None, IfSome};
 ghost use Rattle.droid_frame.specs.Seen.{IsSound};
-ghost use Rattle.droid_wire_journal.specs.wire.Standing.{StandsFor, limits_of, registry_of};
-ghost use Rattle.droid_wire_journal.specs.wire.Histories.{History};
-ghost use Rattle.droid_wire_journal.specs.wire.Setting.{Setting};
+ghost use Rattle.droid_wire.specs.Standing.{StandsFor, limits_of, registry_of};
+ghost use Rattle.droid_wire.specs.Histories.{History};
+ghost use Rattle.droid_wire.specs.Setting.{Setting};
 ghost use Rattle.droid_frame.specs.InTurn.{ReportsFaultInTurn};
-ghost use Rattle.droid_wire_journal.specs.wire.Turns.{ReadsFrame, WritesReply};
-ghost use Rattle.droid_wire_journal.specs.wire.Serving.{GoesOnFrom};
+ghost use Rattle.droid_wire.specs.Turns.{ReadsFrame, WritesReply};
+ghost use Rattle.droid_wire.specs.Serving.{GoesOnFrom};
 ghost use Rattle.droid_desk_service.specs.Streams.{ConnectionGives, StreamEndsAs, stream_ending_of};
 
 use crate::ending::Ending;
 use droid_frame::{FrameFault, SteadyRead, SteadyWrite};
-use droid_wire_journal::{Ended, ServeFault, Service, serve};
+use droid_wire::{Ended, ServeFault, Service, serve};
 use std::alloc::Global;
 
 /// The most frames of a stream that are answered.

@@ -10,15 +10,15 @@ use Rattle.droid_frame.specs.Bodies.{request_kind}
 use Rattle.droid_frame.specs.Fields.{IsBytes}
 use Rattle.droid_frame.specs.Values.{request_in, request_value}
 use Rattle.droid_frame.proofs.RequestLaws.{value_is_spelled}
-use Rattle.droid_core_spec.proofs.Judged.{judged}
-use Rattle.droid_core_spec.proofs.Meetings.{answer_by, next_by, whatever_meets}
-use Rattle.droid_wire.specs.Histories.{Entry, Handles, History, Meeting, New, answer, command, history_with, kept, meeting, next, reply_to, world_of}
-use Rattle.droid_core_spec.specs.Judging.{Accepted, Answered, Refuses, Verdict}
-use Rattle.droid_core_spec.specs.MemoryFaults.{is_out_of_memory}
-use Rattle.droid_wire.specs.Setting.{Setting}
-use Rattle.droid_wire.specs.Standing.{StandsFor}
-use Rattle.droid_core_spec.specs.Verdicts.{MayCome, is_command, is_refused}
-use Rattle.droid_wire.specs.core_types.service.Service.{Service}
+use Rattle.droid_core.proofs.Judged.{judged}
+use Rattle.droid_core.proofs.Meetings.{answer_by, next_by, whatever_meets}
+use Rattle.droid_core.specs.Histories.{Entry, Handles, History, Meeting, New, answer, command, history_with, kept, meeting, next, reply_to, world_of}
+use Rattle.droid_core.specs.Judging.{Accepted, Answered, Refuses, Verdict}
+use Rattle.droid_core.specs.MemoryFaults.{is_out_of_memory}
+use Rattle.droid_core.specs.Setting.{Setting}
+use Rattle.droid_core.specs.Standing.{StandsFor}
+use Rattle.droid_core.specs.Verdicts.{MayCome, is_command, is_refused}
+use Rattle.droid_core.specs.declared.service.Service.{Service}
 use Rattle.droid_journal_service.specs.Histories.{history_then}
 
 -- the kind of a frame is that of the request that it asks

@@ -7,10 +7,10 @@ use Rattle.droid_frame.specs.Streams.{IsReadable}
 use Rattle.droid_frame.specs.types.frame.Frame.{Frame}
 use Rattle.droid_frame.specs.types.reply.Reply.{Reply}
 use Rattle.droid_frame.proofs.FrameLaws.{reported_frame}
-use Rattle.droid_core_spec.proofs.Meetings.{next_by, whatever_meets}
-use Rattle.droid_wire.specs.Histories.{Entry, HasReply, History, Meeting, New, answer, entry_of, history_from, history_with, is_under, kept, meeting, next}
-use Rattle.droid_core_spec.specs.Judging.{Accepted, Answered, Refuses, Verdict}
-use Rattle.droid_wire.specs.Setting.{Setting}
+use Rattle.droid_core.proofs.Meetings.{next_by, whatever_meets}
+use Rattle.droid_core.specs.Histories.{Entry, HasReply, History, Meeting, New, answer, entry_of, history_from, history_with, is_under, kept, meeting, next}
+use Rattle.droid_core.specs.Judging.{Accepted, Answered, Refuses, Verdict}
+use Rattle.droid_core.specs.Setting.{Setting}
 use Rattle.droid_journal_disk.specs.journal.Machines.{extended, record_of}
 use Rattle.droid_journal_disk.specs.chain.Fronts.{IsFront}
 use Rattle.droid_journal_disk.specs.chain.Records.{Record}

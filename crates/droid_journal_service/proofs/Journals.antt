@@ -3,9 +3,9 @@ use Rattle.std.proofs.Common.{◌≡◌, ◌⊎◌, ℕ, Bool, true, false, Opti
 use Rattle.std.specs.Prelude.{MatchBool}
 use Rattle.droid_frame.specs.types.frame.Frame.{Frame}
 use Rattle.droid_frame.specs.types.reply.Reply.{Reply}
-use Rattle.droid_wire.specs.Histories.{Handles, History, answer, command, next}
-use Rattle.droid_core_spec.specs.MemoryFaults.{is_out_of_memory}
-use Rattle.droid_wire.specs.Setting.{Setting}
+use Rattle.droid_core.specs.Histories.{Handles, History, answer, command, next}
+use Rattle.droid_core.specs.MemoryFaults.{is_out_of_memory}
+use Rattle.droid_core.specs.Setting.{Setting}
 use Rattle.droid_journal_disk.specs.journal.Machines.{Answers, extended, record_of}
 use Rattle.droid_journal_disk.specs.journal.Standing.{Keeps, Stands, WroteOne}
 use Rattle.droid_journal_disk.specs.journal.declared.journal.Journal.{Journal}

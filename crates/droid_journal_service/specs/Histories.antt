@@ -5,10 +5,10 @@ use Rattle.droid_frame.specs.ReplyFrames.{reply_frame}
 use Rattle.droid_frame.specs.Streams.{IsReadable}
 use Rattle.droid_frame.specs.types.frame.Frame.{Frame}
 use Rattle.droid_frame.specs.types.reply.Reply.{Reply}
-use Rattle.droid_wire.specs.Histories.{Handles, History, HasReply, answer, history_from, next}
-use Rattle.droid_wire.specs.Setting.{Setting}
-use Rattle.droid_wire.specs.Standing.{StandsFor}
-use Rattle.droid_wire.specs.core_types.service.Service.{Service}
+use Rattle.droid_core.specs.Histories.{Handles, History, HasReply, answer, history_from, next}
+use Rattle.droid_core.specs.Setting.{Setting}
+use Rattle.droid_core.specs.Standing.{StandsFor}
+use Rattle.droid_core.specs.declared.service.Service.{Service}
 use Rattle.droid_journal_disk.specs.chain.Fronts.{IsFront}
 use Rattle.droid_journal_disk.specs.chain.Records.{Record}
 

@@ -5,8 +5,8 @@ use Rattle.droid_frame.specs.types.frame.Frame.{Frame}
 use Rattle.droid_frame.specs.types.refusal.Refusal.TheVariants.{Malformed, Memory}
 use Rattle.droid_frame.specs.types.reply.Reply.{Reply}
 use Rattle.droid_frame.specs.types.reply.Reply.TheVariants.{Refused}
-use Rattle.droid_wire.specs.Histories.{Handles, History, next}
-use Rattle.droid_wire.specs.Setting.{Setting}
+use Rattle.droid_core.specs.Histories.{Handles, History, next}
+use Rattle.droid_core.specs.Setting.{Setting}
 use Rattle.droid_journal_disk.specs.journal.Standing.{Keeps, Stands}
 use Rattle.droid_journal_disk.specs.journal.Turns.{IsTurn}
 use Rattle.droid_journal_disk.specs.journal.declared.journal.Journal.{Journal}

@@ -3,15 +3,15 @@
 //! [`ServiceJournal`] is a journal over a service. Its clauses speak of histories: what is replied is the answer after the
 //! history so far, [`ServiceJournal::settle`] brings the history to the disk, and a service that is made from the file after
 //! a crash stands for a history that has all that was on the disk, and nothing that was not accepted. The crate re-exports
-//! both ends of a stream, and the file of a journal.
+//! the service, and the file of a journal.
 #![tactic(auto)]
 
 mod service_journal;
 mod service_machine;
 
+pub use droid_core::{Limits, Service};
 pub use droid_journal_disk::{
     DiskFault, DiskLog, Drive, DriveError, Fault, FileDrive, FileError, LogFile, Tears, header_for,
 };
-pub use droid_wire::{Client, Ended, Limits, ServeFault, Service, ServiceHandler, serve, serve_many};
 pub use service_journal::{ServiceJournal, crash_and_reopen};
 pub use service_machine::ServiceMachine;

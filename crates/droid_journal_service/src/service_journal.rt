@@ -1,9 +1,9 @@
 //! A service with its journal, in histories.
 
 ghost use Rattle.std.specs.Prelude.{◌≡◌, ◌≤◌, ◌++◌, ◌⊎◌, ℕ, List, [], None, IfOk, IsErr, IsErrOf, IsSome, OnErr, OnOk, length};
-ghost use Rattle.droid_wire.specs.Histories.{History};
-ghost use Rattle.droid_wire.specs.Setting.{Setting};
-ghost use Rattle.droid_wire.specs.Standing.{StandsFor};
+ghost use Rattle.droid_core.specs.Histories.{History};
+ghost use Rattle.droid_core.specs.Setting.{Setting};
+ghost use Rattle.droid_core.specs.Standing.{StandsFor};
 ghost use Rattle.droid_frame.specs.Replies.{HasReplySpelling};
 ghost use Rattle.droid_journal_disk.specs.journal.Opening.{HasHeader, IsBegun, IsKept, WasDamaged, WasFound, WasRefuted};
 ghost use Rattle.droid_journal_disk.specs.journal.Standing.{IsSettled, Keeps};
@@ -13,7 +13,7 @@ ghost use Rattle.droid_journal_service.specs.Histories.{GivesReply, IsBetween, I
 ghost use Rattle.droid_journal_service.specs.Standing.{AnswersIn, IsLeft, IsNextOr, KeepsHistory, StandsForHistory};
 
 use crate::service_machine::ServiceMachine;
-use droid_wire::Service;
+use droid_core::Service;
 use droid_frame::{Frame, Reply};
 use droid_journal_disk::{Fault, Journal, LogFile, Tears, open};
 use std::alloc::Global;

@@ -1,12 +1,12 @@
 //! A service as the machine of a journal.
 
 ghost use Rattle.std.specs.Prelude.{◌≡◌, IsSome, true, false};
-ghost use Rattle.droid_core_spec.specs.Verdicts.{is_refused};
-ghost use Rattle.droid_wire.specs.Histories.{History, kept};
-ghost use Rattle.droid_wire.specs.Setting.{Setting};
-ghost use Rattle.droid_wire.specs.Standing.{StandsFor};
+ghost use Rattle.droid_core.specs.Verdicts.{is_refused};
+ghost use Rattle.droid_core.specs.Histories.{History, kept};
+ghost use Rattle.droid_core.specs.Setting.{Setting};
+ghost use Rattle.droid_core.specs.Standing.{StandsFor};
 
-use droid_wire::Service;
+use droid_core::Service;
 use droid_frame::{Frame, Reply};
 use droid_journal_disk::{Handled, Machine};
 
@@ -39,7 +39,7 @@ impl ServiceMachine {
 }
 
 impl Machine for ServiceMachine {
-    ghost use Rattle.droid_wire.specs.Setting as settings;
+    ghost use Rattle.droid_core.specs.Setting as settings;
     ghost use Rattle.droid_journal_service.specs.Histories.{GivesReply, StandsForRecords};
 
     ghost Setting = { settings.Setting };

@@ -4,8 +4,8 @@ use Rattle.std.proofs.lemmas.Bool.{false≢true}
 use Rattle.std.proofs.lemmas.List.{append-nil}
 use Rattle.droid_frame.specs.types.frame.Frame.{Frame}
 use Rattle.droid_frame.specs.types.reply.Reply.{Reply}
-use Rattle.droid_journal_service.specs.wire.Histories.{History}
-use Rattle.droid_journal_service.specs.wire.Setting.{Setting}
+use Rattle.droid_journal_service.specs.core.Histories.{History}
+use Rattle.droid_journal_service.specs.core.Setting.{Setting}
 use Rattle.droid_journal_service.specs.journal.declared.journal.Journal.{Journal}
 use Rattle.droid_journal_service.specs.chain.Records.{Record}
 use Rattle.droid_journal_service.specs.Standing.{AnswersIn, KeepsHistory, StandsForHistory}

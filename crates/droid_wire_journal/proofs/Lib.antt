@@ -1,4 +1,4 @@
-pub use Rattle.droid_journal_service.proofs.wire as wire
+pub use Rattle.droid_journal_service.proofs.core as core
 pub mod Answering
 pub mod Going
 pub mod Splits

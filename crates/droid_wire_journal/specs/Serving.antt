@@ -2,8 +2,8 @@
 use Rattle.std.specs.Prelude.{◌≡◌, ◌⊎◌, ℕ, List, [], ◌∷◌, ◌++◌, Option}
 use Rattle.droid_frame.specs.types.frame.Frame.{Frame}
 use Rattle.droid_frame.specs.types.reply.Reply.{Reply}
-use Rattle.droid_journal_service.specs.wire.Histories.{History, next}
-use Rattle.droid_journal_service.specs.wire.Setting.{Setting}
+use Rattle.droid_journal_service.specs.core.Histories.{History, next}
+use Rattle.droid_journal_service.specs.core.Setting.{Setting}
 use Rattle.droid_journal_service.specs.chain.Records.{Record}
 use Rattle.droid_journal_service.specs.Standing.{AnswersIn, KeepsHistory}
 use Rattle.droid_wire_journal.specs.Handling.{HandlesSo, SettlesSo}

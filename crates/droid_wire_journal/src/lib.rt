@@ -1,6 +1,5 @@
 //! Many connections, served by a service whose accepted requests are on the disk before their replies are written. The
-//! crate re-exports both ends of a stream, and the file of a journal, so that a program that serves one names this crate
-//! alone.
+//! crate re-exports the service, the file of a journal, and the loop.
 #![tactic(auto)]
 
 mod journal_handler;
@@ -8,10 +7,12 @@ mod serving;
 mod stream;
 
 pub use droid_journal_service::{
-    Client, DiskFault, DiskLog, Drive, DriveError, Ended, Fault, FileDrive, FileError, LogFile, Limits, ServeFault,
-    Service, ServiceHandler, ServiceJournal, ServiceMachine, Tears, crash_and_reopen, header_for, serve, serve_many,
+    DiskFault, DiskLog, Drive, DriveError, Fault, FileDrive, FileError, Limits, LogFile, Service,
+    ServiceJournal, ServiceMachine, Tears, crash_and_reopen, header_for,
 };
-pub use droid_wire_pipe::{Came, Connections, Departure, Pipe, Rules, Served, Took, WaitFault};
+pub use droid_wire_pipe::{
+    Came, Connections, Departure, Handler, Pipe, Rules, Served, Took, WaitFault, serve_in_turns,
+};
 pub use journal_handler::JournalHandler;
 pub use serving::serve_journal;
 pub use stream::answer_journal;

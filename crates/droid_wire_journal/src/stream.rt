@@ -1,8 +1,8 @@
 //! One stream, answered by a service with a journal.
 
 ghost use Rattle.std.specs.Prelude.{ℕ, List};
-ghost use Rattle.droid_journal_service.specs.wire.Histories.{History};
-ghost use Rattle.droid_journal_service.specs.wire.Setting.{Setting};
+ghost use Rattle.droid_journal_service.specs.core.Histories.{History};
+ghost use Rattle.droid_journal_service.specs.core.Setting.{Setting};
 ghost use Rattle.droid_journal_service.specs.Standing.{StandsForHistory};
 ghost use Rattle.droid_wire_journal.specs.Serving.{AnswersJournal};
 

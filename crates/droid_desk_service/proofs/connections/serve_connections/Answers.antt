@@ -1,7 +1,7 @@
 use Rattle.std.proofs.Common.{◌≡◌, ℕ, ◌+◌, ◌-◌, ◌*◌, ◌≤◌, ap, arith, refl, subst, sym, ◌∙◌, add-mul}
-use Rattle.droid_wire_journal.specs.wire.core_types.service.Service.{Service}
-use Rattle.droid_wire_journal.specs.wire.Serving.{GoesOnFrom}
-use Rattle.droid_wire_journal.proofs.wire.GoingOn.{goes_further, goes_nowhere}
+use Rattle.droid_wire.specs.core_types.service.Service.{Service}
+use Rattle.droid_wire.specs.Serving.{GoesOnFrom}
+use Rattle.droid_wire.proofs.GoingOn.{goes_further, goes_nowhere}
 use Rattle.droid_desk_service.proofs.connections.serve_connections.Goals as goal
 
 -- one more of them

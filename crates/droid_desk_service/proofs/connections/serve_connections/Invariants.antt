@@ -1,9 +1,9 @@
 -- So many connections came, and one service went on over them.
 use Rattle.std.proofs.Common.{◌≡◌, ◌+◌, ◌*◌, ◌≤◌}
-use Rattle.droid_wire_journal.specs.wire.Standing.{StandsFor, limits_of, registry_of}
-use Rattle.droid_wire_journal.specs.wire.Histories.{History}
-use Rattle.droid_wire_journal.specs.wire.Setting.{Setting}
-use Rattle.droid_wire_journal.specs.wire.Serving.{GoesOnFrom}
+use Rattle.droid_wire.specs.Standing.{StandsFor, limits_of, registry_of}
+use Rattle.droid_wire.specs.Histories.{History}
+use Rattle.droid_wire.specs.Setting.{Setting}
+use Rattle.droid_wire.specs.Serving.{GoesOnFrom}
 use Rattle.droid_desk_service.proofs.connections.serve_connections.Given as goal
 
 abbrev pub invariant-loop : goal.invariant-loop

@@ -3,11 +3,11 @@ use Rattle.std.specs.Prelude.{IfOk, IsErrOf}
 use Rattle.std.proofs.lemmas.Result.{IfOk-weaker}
 use Rattle.droid_desk_service.specs.Journals.{IsHeaderOf}
 use Rattle.droid_desk_service.proofs.Headers.{is_header, left_header, no_damage, no_header, no_record, same_header}
-use Rattle.droid_wire_journal.specs.service.Histories.{IsBetween}
-use Rattle.droid_wire_journal.specs.service.Standing.{IsLeft, StandsForHistory}
-use Rattle.droid_wire_journal.specs.service.journal.Opening.{HasHeader}
-use Rattle.droid_wire_journal.specs.service.journal.declared.fault.Fault.TheVariants as faults
-use Rattle.droid_wire_journal.specs.wire.Histories.{History}
+use Rattle.droid_wire.specs.with_journal.service.Histories.{IsBetween}
+use Rattle.droid_wire.specs.with_journal.service.Standing.{IsLeft, StandsForHistory}
+use Rattle.droid_wire.specs.with_journal.service.journal.Opening.{HasHeader}
+use Rattle.droid_wire.specs.with_journal.service.journal.declared.fault.Fault.TheVariants as faults
+use Rattle.droid_wire.specs.Histories.{History}
 use Rattle.droid_desk_service.proofs.journal.open_journal.Goals as goal
 
 pub open-requires-clause-kept : goal.open-requires-clause-kept

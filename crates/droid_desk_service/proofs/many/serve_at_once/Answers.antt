@@ -1,6 +1,6 @@
 use Rattle.std.proofs.Common.{subst}
-use Rattle.droid_wire_journal.specs.wire.ManyConnections.{ServesMany}
-use Rattle.droid_wire_journal.specs.wire.turn_types.rules.Rules.{Rules}
+use Rattle.droid_wire.specs.ManyConnections.{ServesMany}
+use Rattle.droid_wire.specs.turn_types.rules.Rules.{Rules}
 use Rattle.droid_desk_service.proofs.many.serve_at_once.Goals as goal
 
 pub returns-clause-ends : goal.returns-clause-ends

@@ -1,6 +1,6 @@
 use Rattle.std.proofs.Common.{◌≡◌, ℕ, List, Option, IfSome, ap, subst, ◌∙◌}
 use Rattle.std.specs.Io.Buffered.{reader_buffer, reader_capacity, reader_inner, reader_remaining}
-use Rattle.droid_wire_journal.proofs.wire.GoingOn.{goes_nowhere}
+use Rattle.droid_wire.proofs.GoingOn.{goes_nowhere}
 use Rattle.droid_desk_service.specs.Streams.{ConnectionGives}
 use Rattle.droid_desk_service.proofs.StreamEndings.{read_through, served}
 use Rattle.droid_desk_service.proofs.port.serve_stream.Goals as goal

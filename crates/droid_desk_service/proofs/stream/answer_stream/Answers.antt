@@ -1,5 +1,5 @@
 use Rattle.droid_desk_service.proofs.StreamEndings.{of_end, of_written, stream_ends, to_end, to_written}
-use Rattle.droid_wire_journal.specs.wire.Turns.{ReadsFrame, WritesReply}
+use Rattle.droid_wire.specs.Turns.{ReadsFrame, WritesReply}
 use Rattle.droid_frame.proofs.InTurn.{reported_as}
 use Rattle.std.proofs.Common.{◌≤◌}
 use Rattle.droid_desk_service.proofs.stream.answer_stream.Goals as goal

@@ -1,4 +1,4 @@
-use Rattle.droid_wire_journal.proofs.wire.GoingOn.{goes_nowhere}
+use Rattle.droid_wire.proofs.GoingOn.{goes_nowhere}
 use Rattle.droid_desk_service.proofs.port.PortConnections.serve_next.Goals as goal
 
 pub returns-in_default-clause-goes_on : goal.returns-in_default-clause-goes_on
