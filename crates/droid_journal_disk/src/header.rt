@@ -1,7 +1,8 @@
 //! Making a header for a file.
 
-ghost use Rattle.std.specs.Prelude.{◌≡◌, ◌⊎◌, ◌+◌, ◌<◌, ◌≤◌, ◌++◌, ℕ, List, drop, length, take, IfOk};
+ghost use Rattle.std.specs.Prelude.{◌≡◌, ◌⊎◌, ◌+◌, ◌<◌, ◌≤◌, ◌++◌, ℕ, List, drop, length, take, IfErr, IfOk};
 ghost use Rattle.droid_journal.specs.Opening.{HasHeader, IsBegun};
+ghost use Rattle.droid_journal_disk.specs.Headers.{IsMemoryOrRead};
 ghost use Rattle.droid_journal_chain.specs.Fronts.{IsFront};
 
 use droid_journal::{Fault, LogFile};
@@ -28,8 +29,12 @@ pub fn header_for<F: LogFile>(
     // A file that has less, but nothing else, has a part of it.
     ensures begun { (s : List ℕ) → F.has file.now s → IfOk result (λ header. length s < length fixed.now + 16 → IsFront s fixed.now ⊎ IsFront fixed.now s → IsBegun header.items s (length s)) }
     ensures size { IfOk result (λ header. length header.items ≤ 4096) }
+    ensures fault { IfErr result IsMemoryOrRead }
 {
-    let random = random_of(file, fixed.len() as u64, fresh)?;
+    let random = match random_of(file, fixed.len() as u64, fresh) {
+        Ok(random) => random,
+        Err(_) => return Err(Fault::Read),
+    };
     let mut header = Vec::from_slice(alloc, fixed)?;
     header.extend_from_slice(&random)?;
     Ok(header)
