@@ -28,4 +28,4 @@ pub use journal_commands::{
     run_journal_command, serve_journal_command, serve_many_journal_command,
 };
 pub use many::serve_many_command;
-pub use registry::registry_for;
+pub use registry::{no_registry, note_formats, registry_bytes};
