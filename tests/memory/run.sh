@@ -2,7 +2,7 @@
 # Refuses memory to the built program and to the tests of the crates that `rt ci` or `rt test` left in their out/, and
 # counts allocations: run.sh [PROGRAM]
 #   growths               tests of crates, with each allocation refused in turn
-#   commands_refused      `script` in both versions, `profile` and `verify`, in the same way
+#   commands_refused      `script` in both versions, `profile`, `verify` and `registry`, in the same way
 #   requests_refused      streams of frames, in the same way
 #   submissions_refused   `submit`, in the same way
 #   reports_refused       `report`, in the same way

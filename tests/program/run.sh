@@ -13,6 +13,7 @@
 #   journal/run.sh   `run` and `serve` with a journal: kills, power cuts, damage, a full disk, in Python
 #   submissions/run.sh   folders submitted to a port, through connections that are cut, in Python
 #   report/run.sh    pages of profiles, beside the same numbers computed in Python, and in a browser
+#   signatures/run.sh   registries made of signature files, beside a model in Python
 #   identification.py   a file of each shape by random registries, beside the model
 #   install.py    the manual page, the completions and what `make install` writes
 #   readme.sh     the commands of README.md, pasted into a shell
@@ -63,6 +64,7 @@ part sh "$tests/random.sh" "$program"
 part sh "$tests/sizes.sh" "$program"
 part sh "$tests/folders/run.sh" "$program"
 part sh "$tests/report/run.sh" "$program"
+part sh "$tests/signatures/run.sh" "$program"
 part python3 "$tests/identification.py" "$program"
 part python3 "$tests/install.py" "$program"
 # (0 unless it was ended)

@@ -1,13 +1,15 @@
 //! Reads the command line, runs the command that it asks for, and returns the exit status.
 
 use droid_desk_arguments::{
-    Asked, NoCommand, ProfileOptions, RegistrySource, ReportOptions, SubmitOptions, VerifyOptions,
-    unread_words, what_is_asked,
+    Asked, ManyOptions, NoCommand, ProfileOptions, RegistryOptions, RegistrySource, ReportOptions,
+    SubmitOptions, VerifyOptions, unread_words, what_is_asked,
 };
 use droid_desk_folders::{report_profile, submit_folder};
+use droid_desk_registry::registry_command;
 use droid_desk_service::{
-    Ended, no_registry, note_formats, registry_bytes, run_command, script_command, send_command,
-    serve_command, serve_many_command,
+    Ended, no_registry, note_formats, registry_bytes, run_command, run_journal_command,
+    script_command, send_command, serve_command, serve_journal_command, serve_many_command,
+    serve_many_journal_command,
 };
 use droid_desk_verify::{NamedRegistry, profile_folder, verify_folder};
 use std::process::ExitCode;
@@ -36,18 +38,21 @@ fn fulfil(rt: &HostRuntime, asked: Asked<'_>, on_terminal: bool) -> ExitCode {
         Asked::Submit(options) => submit(rt, options, on_terminal),
         Asked::Verify(options) => verify(rt, options, on_terminal),
         Asked::Report(options) => report(rt, options),
+        Asked::Registry(options) => registry(rt, options),
         Asked::Script { registry } => end(rt, &script_command(rt, registry)),
-        Asked::Run { registry } => end(rt, &run_command(rt, registry)),
+        Asked::Run { registry, journal } => end(rt, &answer(rt, registry, journal)),
         Asked::Serve {
             registry,
+            journal,
             port,
             connections,
-        } => end(rt, &serve_command(rt, registry, port, connections)),
+        } => end(rt, &serve(rt, registry, journal, port, connections)),
         Asked::ServeMany {
             registry,
+            journal,
             port,
             options,
-        } => end(rt, &serve_many_command(rt, registry, port, options)),
+        } => end(rt, &serve_many(rt, registry, journal, port, options)),
         Asked::Send {
             port,
             client,
@@ -120,6 +125,49 @@ fn report(rt: &HostRuntime, options: ReportOptions<'_>) -> ExitCode {
     let ending = report_profile(rt, options.profile, options.title, options.output);
     let _ = ending.print(rt, options.profile, options.output);
     ExitCode::from(ending.status())
+}
+
+fn registry(rt: &HostRuntime, options: RegistryOptions<'_>) -> ExitCode {
+    let ending = registry_command(rt, options.file, options.output, options.quiet);
+    let _ = ending.print(rt, options.file, options.output);
+    ExitCode::from(ending.status())
+}
+
+fn answer<'a>(
+    rt: &'a HostRuntime,
+    registry: RegistrySource<'a>,
+    journal: Option<&'a str>,
+) -> Ended<'a> {
+    match journal {
+        Some(path) => run_journal_command(rt, registry, path),
+        None => run_command(rt, registry),
+    }
+}
+
+fn serve<'a>(
+    rt: &'a HostRuntime,
+    registry: RegistrySource<'a>,
+    journal: Option<&'a str>,
+    port: u16,
+    connections: u32,
+) -> Ended<'a> {
+    match journal {
+        Some(path) => serve_journal_command(rt, registry, port, connections, path),
+        None => serve_command(rt, registry, port, connections),
+    }
+}
+
+fn serve_many<'a>(
+    rt: &'a HostRuntime,
+    registry: RegistrySource<'a>,
+    journal: Option<&'a str>,
+    port: u16,
+    options: ManyOptions,
+) -> Ended<'a> {
+    match journal {
+        Some(path) => serve_many_journal_command(rt, registry, port, options, path),
+        None => serve_many_command(rt, registry, port, options),
+    }
 }
 
 fn end(rt: &HostRuntime, ended: &Ended<'_>) -> ExitCode {
