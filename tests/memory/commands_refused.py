@@ -64,20 +64,13 @@ class Refused(InFolder):
         hashed = [line + b" md5" * (b" create " in line) for line in lines]
         self.each_of_a_script(b"".join(b"v2 %s\n" % line for line in hashed))
 
-<<<<<<< HEAD
-    def profile(self, page=False, **variables):
-        """Profiles the folder, with a page or without: the status, the output with the fault, and the files that are there,
-        by name. The page is without the moment when it was made."""
+    def made_by(self, *words, page=False, **variables):
+        """Runs a command with an output file, and a page or none: the status, the output with the fault, and the files that
+        are there, by name. The page is without the moment when it was made."""
         with tempfile.TemporaryDirectory(dir=self.work) as made:
-            path = os.path.join(made, b"profile.csv")
-            words = ["--report", os.path.join(made, b"page.html")] if page else []
-            status, written, said = run("profile", self.top, "--registry", SAMPLE, "--output", path, *words, **variables)
-=======
-    def made_by(self, *words, **variables):
-        """Runs a command with an output file: the status, the output with the fault, and the files that are there, by name."""
-        with tempfile.TemporaryDirectory(dir=self.work) as made:
+            if page:
+                words += ("--report", os.path.join(made, b"page.html"))
             status, written, said = run(*words, "--output", os.path.join(made, b"output"), **variables)
->>>>>>> 416ac72d
             named = b"".join(line for line in said.splitlines(True) if line.startswith(b"fault: "))
             files = {}
             for name in os.listdir(made):
@@ -85,10 +78,10 @@ class Refused(InFolder):
                     files[name] = re.sub(rb" at [^ ]+ \(UTC\)", b"", file.read())
         return status, written + named, files
 
-    def each_output(self, words, names, due, statuses=STATUSES):
+    def each_output(self, words, names, due, statuses=STATUSES, **more):
         """Runs a command with each of its allocations refused. Its output files are complete, or there are none, not even
         unfinished ones; of several the first may be complete without the others."""
-        whole = self.made_by(*words)
+        whole = self.made_by(*words, **more)
         self.assertEqual((whole[0], whole[1], sorted(whole[2])), (due, b"", names))
         self.assertTrue(all(whole[2].values()))
         begun = [{name: whole[2][name] for name in names[:count]} for count in range(len(names))]
@@ -96,7 +89,7 @@ class Refused(InFolder):
         def is_right(status, said, files):
             return (status, said, files) == whole if status == due else status in statuses and said == FAULT and files in begun
 
-        self.each_in_turn(lambda **variables: self.made_by(*words, **variables), is_right, statuses)
+        self.each_in_turn(lambda **variables: self.made_by(*words, **more, **variables), is_right, statuses)
 
     def test_profile(self):
         """Two folders, a file that is identified and one that isn't."""
@@ -110,19 +103,10 @@ class Refused(InFolder):
         self.each_output(["registry", SIGNATURES], [b"output", b"output.txt"], 5, {4, 5, 6})
 
     def test_profile_with_a_page(self):
-        """The page is complete, or there is none, not even an unfinished one; then the CSV is complete or not there."""
+        """The page is made last: if it is there, the CSV is there too."""
         self.folder(b"/outer")
         self.file(b"/outer/first.msg", b"message of a file")
-        whole = self.profile(True)
-        self.assertEqual((whole[0], whole[1], sorted(whole[2])), (0, b"", [b"page.html", b"profile.csv"]))
-        alone = {b"profile.csv": whole[2][b"profile.csv"]}
-
-        def is_right(status, said, files):
-            if status == 0:
-                return (status, said, files) == whole
-            return status in STATUSES and said == FAULT and files in [{}, alone]
-
-        self.each_in_turn(lambda **variables: self.profile(True, **variables), is_right)
+        self.each_output(["profile", self.top, "--registry", SAMPLE], [b"output", b"page.html"], 0, page=True)
 
     def verify(self, listed, *more, **variables):
         """Compares the folder with a list: the status, the output with the fault, and the summary's line on formats."""
