@@ -48,7 +48,6 @@ ends_unopened rules Socket cause unopened = absurd unopened
 ends_unopened rules BadLine cause unopened = absurd unopened
 ends_unopened rules Done cause unopened = absurd unopened
 
-
 not_made : (file : Option (List ℕ)) (ending : Ending) → IsNotMadeOf file ending → IsUnopened ending
 not_made file (Registry fault) not = tt
 not_made file (NoService fault) not = tt

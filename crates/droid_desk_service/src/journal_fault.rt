@@ -69,7 +69,9 @@ impl JournalFault {
         match self {
             JournalFault::Unopened(kind) => eprintln!(rt; "{path}: {kind}"),
             JournalFault::Closed(Fault::Record(at)) => {
-                eprintln!(rt; "{path}: record {at} does not get its reply: restore a copy of the file")
+                eprintln!(rt;
+                    "{path}: record {at} does not get its reply: restore a copy of the file"
+                )
             }
             JournalFault::Closed(Fault::Damage(records)) => eprintln!(rt;
                 "{path}: damaged behind record {records}, and whole records follow: restore a copy of the file"

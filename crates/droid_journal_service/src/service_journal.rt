@@ -55,7 +55,10 @@ impl<F: LogFile + Drop> ServiceJournal<F> {
         ensures other_header { IsErrOf result Fault.Header → (s : List ℕ) → F.has file s → (HasHeader header.now s → ⊥) × ((count : ℕ) → IsBegun header.now s count → ⊥) }
     {
         let mut file = file;
-        let fresh = ServiceMachine { service: fresh, live: false };
+        let fresh = ServiceMachine {
+            service: fresh,
+            live: false,
+        };
         match open(alloc, &mut file, header, fresh) {
             Ok(opened) => Ok(ServiceJournal::begun(Journal::new(alloc, file, opened))),
             Err(fault) => Err(fault),
@@ -116,7 +119,10 @@ pub fn crash_and_reopen<F: Tears + Drop>(
         → IfOk result (λ after. (history : History) × StandsForHistory F.has F.kept setting header.now after.journal history history × IsBetween synced history all) }
 {
     let ServiceJournal { journal } = before;
-    let fresh = ServiceMachine { service: fresh, live: false };
+    let fresh = ServiceMachine {
+        service: fresh,
+        live: false,
+    };
     match droid_journal_disk::crash_and_reopen(alloc, journal, header, tail, fresh) {
         Ok(journal) => Ok(ServiceJournal::begun(journal)),
         Err(fault) => Err(fault),

@@ -15,10 +15,10 @@ ghost use Rattle.droid_wire.specs.Steps.{TurnGives};
 use crate::ended::Ended;
 use crate::reply_frame::send_reply;
 use crate::serve_fault::ServeFault;
-use droid_wire_journal::Service;
 use droid_frame::{
     Arrival, FrameFault, HEADER_LENGTH, SteadyRead, SteadyWrite, read_frame, reply_body_len,
 };
+use droid_wire_journal::Service;
 use std::alloc::Global;
 
 /// Reads up to `turns` frames and answers each with one reply frame of the same version, client and number.
