@@ -10,7 +10,7 @@ import subprocess
 import tempfile
 import unittest
 
-from lib.program import PROGRAM
+from lib.program import EVERYDAY, PROGRAM
 
 # how the program's lines on standard error begin: of a skipped entry, of how many there are, and of how many of these
 # are symbolic links
@@ -22,7 +22,16 @@ NAME = b"its name is no UTF-8"
 UNREAD = b"it could not be opened or read"
 CHANGED = b"it changed while it was read"
 TWICE = b"same name: its folder lists the name twice"
-OWN_REGISTRY = b"registry: the built-in registry of everyday formats"
+
+
+def registry_of(path):
+    """Returns how a registry is named: its path, or the built-in one, and the MD5 of its bytes."""
+    with open(path or EVERYDAY, "rb") as file:
+        digest = hashlib.md5(file.read()).hexdigest().encode()
+    return (path or b"the built-in registry of everyday formats") + b", MD5 " + digest
+
+
+OWN_REGISTRY = b"registry: " + registry_of(None)
 
 
 def profile(*words, **more):

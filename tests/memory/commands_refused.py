@@ -1,6 +1,7 @@
 """Runs `script` over its stored script, in both versions, and `profile` and `verify` of a folder again and again, and refuses
 another of their allocations each time. As many run at once as there are processors."""
 import os
+import re
 import subprocess
 import tempfile
 import unittest
@@ -62,16 +63,18 @@ class Refused(InFolder):
         hashed = [line + b" md5" * (b" create " in line) for line in lines]
         self.each_of_a_script(b"".join(b"v2 %s\n" % line for line in hashed))
 
-    def profile(self, **variables):
-        """Profiles the folder: the status, the output with the fault, and the files that are there, by name."""
+    def profile(self, page=False, **variables):
+        """Profiles the folder, with a page or without: the status, the output with the fault, and the files that are there,
+        by name. The page is without the moment when it was made."""
         with tempfile.TemporaryDirectory(dir=self.work) as made:
             path = os.path.join(made, b"profile.csv")
-            status, written, said = run("profile", self.top, "--registry", SAMPLE, "--output", path, **variables)
+            words = ["--report", os.path.join(made, b"page.html")] if page else []
+            status, written, said = run("profile", self.top, "--registry", SAMPLE, "--output", path, *words, **variables)
             named = b"".join(line for line in said.splitlines(True) if line.startswith(b"fault: "))
             files = {}
             for name in os.listdir(made):
                 with open(os.path.join(made, name), "rb") as file:
-                    files[name] = file.read()
+                    files[name] = re.sub(rb" at [^ ]+ \(UTC\)", b"", file.read())
         return status, written + named, files
 
     def test_profile(self):
@@ -84,6 +87,21 @@ class Refused(InFolder):
         self.assertEqual((whole[0], whole[1], [*whole[2]]), (0, b"", [b"profile.csv"]))
         self.assertTrue(whole[2][b"profile.csv"])
         self.each_in_turn(self.profile, lambda *end: end == whole if end[0] == 0 else end[0] in STATUSES and end[1:] == (FAULT, {}))
+
+    def test_profile_with_a_page(self):
+        """The page is complete, or there is none, not even an unfinished one; then the CSV is complete or not there."""
+        self.folder(b"/outer")
+        self.file(b"/outer/first.msg", b"message of a file")
+        whole = self.profile(True)
+        self.assertEqual((whole[0], whole[1], sorted(whole[2])), (0, b"", [b"page.html", b"profile.csv"]))
+        alone = {b"profile.csv": whole[2][b"profile.csv"]}
+
+        def is_right(status, said, files):
+            if status == 0:
+                return (status, said, files) == whole
+            return status in STATUSES and said == FAULT and files in [{}, alone]
+
+        self.each_in_turn(lambda **variables: self.profile(True, **variables), is_right)
 
     def verify(self, listed, *more, **variables):
         """Compares the folder with a list: the status, the output with the fault, and the summary's line on formats."""

@@ -4,13 +4,12 @@ use droid_desk_arguments::{
     Asked, NoCommand, ProfileOptions, RegistrySource, ReportOptions, SubmitOptions, VerifyOptions,
     unread_words, what_is_asked,
 };
-use droid_desk_folders::submit_folder;
-use droid_desk_report::report_profile;
+use droid_desk_folders::{report_profile, submit_folder};
 use droid_desk_service::{
-    Ended, registry_for, run_command, script_command, send_command, serve_command,
-    serve_many_command,
+    Ended, no_registry, note_formats, registry_bytes, run_command, script_command, send_command,
+    serve_command, serve_many_command,
 };
-use droid_desk_verify::{Registry, profile_folder, verify_folder};
+use droid_desk_verify::{NamedRegistry, profile_folder, verify_folder};
 use std::process::ExitCode;
 use std::{env, io};
 
@@ -58,7 +57,7 @@ fn fulfil(rt: &HostRuntime, asked: Asked<'_>, on_terminal: bool) -> ExitCode {
 }
 
 fn profile(rt: &HostRuntime, options: ProfileOptions<'_>, on_terminal: bool) -> ExitCode {
-    match registry_for(rt, source_of(rt, options.registry)) {
+    match named_registry(rt, options.registry) {
         Ok(registry) => {
             let ending = profile_folder(rt, &registry, options, on_terminal);
             let _ = ending.print(rt, options);
@@ -68,14 +67,24 @@ fn profile(rt: &HostRuntime, options: ProfileOptions<'_>, on_terminal: bool) -> 
     }
 }
 
-/// Returns the registry of a file, or else that of everyday formats. That is printed.
-fn source_of<'a>(rt: &HostRuntime, registry: Option<&'a str>) -> RegistrySource<'a> {
-    match registry {
+/// Reads the registry of a file, or else that of everyday formats.
+fn named_registry<'a>(
+    rt: &HostRuntime,
+    path: Option<&'a str>,
+) -> Result<NamedRegistry<'a>, Ended<'a>> {
+    let source = match path {
         Some(path) => RegistrySource::File(path),
-        None => {
-            let _ = eprintln!(rt; "registry: the built-in registry of everyday formats");
-            RegistrySource::Everyday
+        None => RegistrySource::Everyday,
+    };
+    let bytes = registry_bytes(rt, source)?;
+    match NamedRegistry::parse(rt.alloc(), path, bytes.as_slice()) {
+        Ok(named) => {
+            if let Some(path) = path {
+                note_formats(rt, path, Some(named.registry.len()));
+            }
+            Ok(named)
         }
+        Err(fault) => Err(no_registry(source, fault)),
     }
 }
 
@@ -84,7 +93,7 @@ fn verify(rt: &HostRuntime, options: VerifyOptions<'_>, on_terminal: bool) -> Ex
     if !options.identify || options.quick {
         return verify_by(rt, None, options, on_terminal);
     }
-    match registry_for(rt, source_of(rt, options.registry)) {
+    match named_registry(rt, options.registry) {
         Ok(registry) => verify_by(rt, Some(&registry), options, on_terminal),
         Err(ended) => end(rt, &ended),
     }
@@ -92,7 +101,7 @@ fn verify(rt: &HostRuntime, options: VerifyOptions<'_>, on_terminal: bool) -> Ex
 
 fn verify_by(
     rt: &HostRuntime,
-    registry: Option<&Registry>,
+    registry: Option<&NamedRegistry<'_>>,
     options: VerifyOptions<'_>,
     on_terminal: bool,
 ) -> ExitCode {

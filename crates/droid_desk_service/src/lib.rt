@@ -20,4 +20,4 @@ pub use commands::{run_command, script_command, send_command, serve_command};
 pub use ended::Ended;
 pub use ending::Ending;
 pub use many::serve_many_command;
-pub use registry::registry_for;
+pub use registry::{no_registry, note_formats, registry_bytes};

@@ -1,0 +1,13 @@
+use Rattle.std.proofs.Common.{refl}
+use Rattle.droid_desk_verify.proofs.verification.list_files.Goals as goal
+
+pub returns : goal.returns
+returns g c = record {
+  verified = (
+    _,
+    c.verify_listing.new.profiler,
+    record { tree_is = refl; watcher_is = c.new-watcher.ensures.watcher; none_skipped = c.new-watcher.ensures.none; has_all = c.new-watcher.ensures.all },
+    c.verify_listing.ensures.verified,
+  );
+  stopped = c.verify_listing.ensures.stopped;
+}
