@@ -22,6 +22,9 @@ pub const MANIFEST_HELP: &str =
 pub const LEFT_OUT_HELP: &str =
     "Write what was skipped to this file, as a CSV of paths and reasons, never a part of it";
 
+pub const PAGE_HELP: &str =
+    "Also write a page of the profile to this file, to look at, never a part of it";
+
 pub const QUIET_HELP: &str = "Print neither progress nor the summary";
 
 pub const PROFILE_HELP: &str = "\
@@ -33,6 +36,9 @@ written while DIR is read.
 
 The file of --manifest has a line for each file of the CSV: its checksum, and its path below DIR.
 Check it by `md5sum -c FILE` or, after --hash sha256, by `sha256sum -c FILE`, both run in DIR.
+
+PAGE gets the page that `droid_desk report` makes of the CSV. What is said of a FILE below is true of
+PAGE too.
 
 Symbolic links below DIR are never followed, and are no part of a profile. What can't be profiled has
 no row: sockets and devices; names that are not UTF-8 or that a profile can't have; a name that a
