@@ -60,8 +60,15 @@ where
         Ok(tree) => {
             let verbosity = Verbosity::of(options.quiet, on_terminal);
             let keeps = page.is_some();
-            let (ending, csv) =
-                profile_to_files(rt, &registry.registry, options, verbosity, tree, files, keeps);
+            let (ending, csv) = profile_to_files(
+                rt,
+                &registry.registry,
+                options,
+                verbosity,
+                tree,
+                files,
+                keeps,
+            );
             add_page(rt, registry.name, options, ending, csv, page)
         }
         Err(ending) => {
@@ -143,7 +150,12 @@ where
 }
 
 /// The parts of what was written to: the CSV's writer and its text, the list of checksums, and what was skipped.
-type Parts<'a, R, O> = (O, Option<Vec<u8>>, Option<Output<'a, R>>, Option<Output<'a, R>>);
+type Parts<'a, R, O> = (
+    O,
+    Option<Vec<u8>>,
+    Option<Output<'a, R>>,
+    Option<Output<'a, R>>,
+);
 
 fn parts_of<'a, R: Files, O: Drop>(writers: Writers<'a, R, O>) -> Parts<'a, R, O> {
     let Writers {

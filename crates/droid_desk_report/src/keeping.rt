@@ -39,11 +39,7 @@ impl<O> Keeping<O> {
 fn no_text(alloc: Global, keeps: bool) -> Option<Vec<u8>>
     ensures { IsBegun keeps result }
 {
-    if keeps {
-        Some(Vec::new(alloc))
-    } else {
-        None
-    }
+    if keeps { Some(Vec::new(alloc)) } else { None }
 }
 
 impl<O: Write> Write for Keeping<O> {
