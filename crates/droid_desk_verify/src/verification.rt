@@ -69,11 +69,13 @@ fn read_files<T: Tree + Drop, W: Watcher + ClearLine + Drop, O: SteadyWrite>(
     ensures verified { ReadsTree T.observes W.hears O.contents registry.now options lists tree watcher output.old output.new result }
     ensures stopped { (start : ℕ) → Counts start (O.seen output.old) 0 → ReportsUnwritten start (O.seen output.new) (O.room output.new) result.ending }
 {
+    let watcher = Recorder::new(alloc, watcher);
+    let recipient = ItemKeeper::new(alloc, false, false);
     let mut profiler = Profiler {
         alloc,
         tree,
-        watcher: Recorder::new(alloc, watcher),
-        recipient: ItemKeeper::new(alloc, false, false),
+        watcher,
+        recipient,
     };
     verify_tree(&mut profiler, output, registry, options, lists)
 }
@@ -93,11 +95,14 @@ fn list_files<T: Tree + Drop, W: Watcher + ClearLine + Drop, O: SteadyWrite>(
     ensures stopped { (start : ℕ) → Counts start (O.seen output.old) 0 → ReportsUnwritten start (O.seen output.new) (O.room output.new) result.ending }
 {
     let files = Vec::new(alloc);
+    let tree = NotedFiles { tree, files };
+    let watcher = Recorder::new(alloc, watcher);
+    let recipient = ItemKeeper::new(alloc, false, false);
     let mut profiler = Profiler {
         alloc,
-        tree: NotedFiles { tree, files },
-        watcher: Recorder::new(alloc, watcher),
-        recipient: ItemKeeper::new(alloc, false, false),
+        tree,
+        watcher,
+        recipient,
     };
     verify_listing(&mut profiler, output, registry, options, lists)
 }

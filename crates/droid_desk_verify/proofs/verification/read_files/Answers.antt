@@ -4,7 +4,7 @@ use Rattle.droid_desk_verify.proofs.verification.read_files.Goals as goal
 pub returns : goal.returns
 returns g c = record {
   verified = (
-    _,
+    record { alloc = c.args.alloc; tree = c.args.tree; watcher = c.new-watcher.result; recipient = c.new-recipient.result },
     c.verify_tree.new.profiler,
     record { tree_is = refl; watcher_is = c.new-watcher.ensures.watcher; none_skipped = c.new-watcher.ensures.none; has_all = c.new-watcher.ensures.all },
     c.verify_tree.ensures.verified,
