@@ -70,14 +70,18 @@ module _ {T W O : Type 0} (observes : T → Observation → T → Type 0) (hears
     pub has_all : recorder.has_all ≡ true
 
   -- the tree was read
-  abbrev pub ReadsTree : T → W → O → O → Verified → Type 0
-  ReadsTree tree watcher before after verified =
-      (old new : Profiler T (Recorder W) ItemKeeper) × Begins tree watcher old.tree old.watcher × VerifiesTree old new before after verified
+  pub record ReadsTree (tree : T) (watcher : W) (before after : O) (verified : Verified) : Type 0 where
+    pub old : Profiler T (Recorder W) ItemKeeper
+    pub new : Profiler T (Recorder W) ItemKeeper
+    pub begins : Begins tree watcher old.tree old.watcher
+    pub verifies : VerifiesTree old new before after verified
 
   -- the tree was listed
-  abbrev pub ListsTree : T → W → O → O → Verified → Type 0
-  ListsTree tree watcher before after verified =
-      (old new : Profiler (NotedFiles T) (Recorder W) ItemKeeper) × Begins tree watcher old.tree.tree old.watcher × VerifiesListing old new before after verified
+  pub record ListsTree (tree : T) (watcher : W) (before after : O) (verified : Verified) : Type 0 where
+    pub old : Profiler (NotedFiles T) (Recorder W) ItemKeeper
+    pub new : Profiler (NotedFiles T) (Recorder W) ItemKeeper
+    pub begins : Begins tree watcher old.tree.tree old.watcher
+    pub verifies : VerifiesListing old new before after verified
 
 -- The tree was listed with `--quick`, and otherwise read, with the limit and the matching of the options where formats are
 -- compared.
