@@ -84,5 +84,6 @@ pub record IsConversion (file : FileRecord) (csv : List ℕ) (left : List LeftOu
 pub record IsTooLong (file : FileRecord) : Type 0 where
   pub csv : List ℕ
   pub left : List LeftOut
-  pub made : IsMadeOf file csv left
+  pub taken : Taken
+  pub made : IsConversion file csv left taken
   pub long : 16777216 < length csv
