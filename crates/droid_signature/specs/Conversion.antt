@@ -84,6 +84,5 @@ pub record IsConversion (file : FileRecord) (csv : List ℕ) (left : List LeftOu
 pub record IsTooLong (file : FileRecord) : Type 0 where
   pub csv : List ℕ
   pub left : List LeftOut
-  pub taken : Taken
-  pub made : IsConversion file csv left taken
+  pub made : IsMadeOf file csv left
   pub long : 16777216 < length csv

@@ -92,7 +92,7 @@ fn taken_of(tables: &AllTables<'_>) -> Taken
     ensures { result ≡ taken_in tables.now }
 {
     Taken {
-        formats: tables.formats.kept.as_slice().len() as u64,
+        formats: tables.formats.kept.len() as u64,
         extensions: tables.extensions.count,
         priorities: tables.priorities.count,
         signatures: tables.signatures.taken,

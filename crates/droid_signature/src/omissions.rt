@@ -21,10 +21,11 @@ pub fn all_left_out(
 ) -> Result<Vec<LeftOut>, AllocError>
     ensures { IfOk result (λ all. all.items ≡ all_left_out file.now left_out.now) }
 {
+    let counts = Counts::of(alloc, left_out)?;
     let ids = unnamed_signatures(alloc, file)?;
     let mut all = Vec::new(alloc);
     push_all(&mut all, left_out)?;
-    push_without(alloc, &mut all, file.formats(), left_out)?;
+    push_without(&mut all, file.formats(), &counts)?;
     push_unnamed(&mut all, ids.as_slice())?;
     Ok(all)
 }
@@ -71,14 +72,13 @@ impl Counts {
     fn add(&mut self, place: usize) -> Result<(), AllocError>
         ensures { OnOk result (spec.Adds place self.old self.new) }
     {
-        let before = self.count_at(place);
-        let after = one_more(before);
-        self.counts.insert(place, after)?;
+        let count = one_more(self.at(place));
+        self.counts.insert(place, count)?;
         Ok(())
     }
 
     /// Returns how many signatures of the format at a place are left out.
-    fn count_at(&self, place: usize) -> u64
+    fn at(&self, place: usize) -> u64
         ensures { result ≡ spec.count_at self.now place }
     {
         match self.counts.get(&place) {
@@ -107,20 +107,6 @@ fn holder_of(it: LeftOut) -> Option<usize>
 
 /// Lists the formats that are left without a signature.
 fn push_without(
-    alloc: Global,
-    all: &mut Vec<LeftOut>,
-    formats: &[FileFormat],
-    left_out: &[LeftOut],
-) -> Result<(), AllocError>
-    ensures { OnOk result (all.new.items ≡ all.old.items ++ without left_out.now formats.now) }
-{
-    let counts = Counts::of(alloc, left_out)?;
-    push_by_counts(all, formats, &counts)?;
-    Ok(())
-}
-
-/// Lists the formats of which all signatures are left out.
-fn push_by_counts(
     all: &mut Vec<LeftOut>,
     formats: &[FileFormat],
     counts: &Counts,
@@ -128,7 +114,7 @@ fn push_by_counts(
     ensures { OnOk result ((left : List LeftOut) → AreCountsOf left counts.now → all.new.items ≡ all.old.items ++ without left formats.now) }
 {
     for place in 0..formats.len() {
-        push_if_without(all, place, &formats[place], counts.count_at(place))?;
+        push_if_without(all, place, &formats[place], counts.at(place))?;
     }
     Ok(())
 }

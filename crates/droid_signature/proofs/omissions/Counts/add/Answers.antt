@@ -12,6 +12,6 @@ returns c =
     let old = c.args.self.now in
     record {
       each = λ q.
-          added place q c.one_more-after.result (get_by (nat_cmp q) old.counts) (get_by (nat_cmp q) c.insert.new.self) (c.in_ok-insert.ensures.updates.0 q)
-          ∙ ap (λ n. cond (place == q) n (count_at old q)) (c.one_more-after.ensures ∙ ap (λ n. min (n + 1) (2 ^ 64 - 1)) c.count_at-before.ensures);
+          added place q c.one_more-count.result (get_by (nat_cmp q) old.counts) (get_by (nat_cmp q) c.insert.new.self) (c.in_ok-insert.ensures.updates.0 q)
+          ∙ ap (λ n. cond (place == q) n (count_at old q)) (c.one_more-count.ensures ∙ ap (λ n. min (n + 1) (2 ^ 64 - 1)) c.at.ensures);
     }
