@@ -52,14 +52,14 @@ impl Counts {
     {
         let mut counts = Counts::new(alloc);
         for it in left_out {
-            counts.note(*it)?;
+            counts.note(it)?;
         }
         Ok(counts)
     }
 
     /// Counts one more, if it is a signature of a format.
-    fn note(&mut self, it: LeftOut) -> Result<(), AllocError>
-        ensures { OnOk result ((left : List LeftOut) → AreCountsOf left self.old → AreCountsOf (left ++ it ∷ []) self.new) }
+    fn note(&mut self, it: &LeftOut) -> Result<(), AllocError>
+        ensures { OnOk result ((left : List LeftOut) → AreCountsOf left self.old → AreCountsOf (left ++ it.now ∷ []) self.new) }
     {
         match holder_of(it) {
             Some(place) => self.add(place)?,
@@ -96,8 +96,8 @@ fn one_more(count: u64) -> u64
 }
 
 /// Returns the place of the format of which a signature is left out, if it is a signature of one.
-fn holder_of(it: LeftOut) -> Option<usize>
-    ensures { result ≡ holder_of it.format it.item }
+fn holder_of(it: &LeftOut) -> Option<usize>
+    ensures { result ≡ holder_of it.now.format it.now.item }
 {
     match it.item {
         Item::Signature(_) => it.format,
