@@ -1,5 +1,5 @@
 -- One more is counted.
-use Rattle.std.proofs.Common.{◌∙◌, ◌++◌, ◌∷◌, [], List, take, sym, ap, subst, arith}
+use Rattle.std.proofs.Common.{◌++◌, ◌∷◌, [], List, take, sym, subst, arith}
 use Rattle.std.proofs.lemmas.List.{take_more}
 use Rattle.droid_signature_combinations.specs.table_types.left_out.LeftOut.{LeftOut}
 use Rattle.droid_signature.specs.AllLeftOut.{AreCountsOf}
@@ -9,5 +9,5 @@ pub loop-it-preserved : goal.loop-it-preserved
 loop-it-preserved c =
     let left = c.args.left_out.now in
     let i = c.loop-it.it-index in
-    subst (λ (l : List LeftOut). AreCountsOf l c.note.new.self) (ap (λ y. take i left ++ y ∷ []) c.it-item.is ∙ sym (take_more left i c.it-item.result (omega arith)))
+    subst (λ (l : List LeftOut). AreCountsOf l c.note.new.self) (sym (take_more left i _ (omega arith)))
     (c.in_ok-note.ensures (take i left) c.loop-it.invariant)
