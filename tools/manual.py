@@ -10,6 +10,8 @@ COMMANDS, ARGUMENTS, OPTIONS = "Commands:", "Arguments:", "Options:"
 ROW = re.compile(r" {2,}((?:-\w, )?\S+(?: <\w+>)?|<\w+>|\[\w+\])(?: {2,}(.*))?$")
 # an option in such a name
 OPTION = re.compile(r"--?[\w-]+")
+# names of values that are paths
+PATHS = ("FILE", "DIR", "PAGE", "OUT")
 # values that an option's text lists: `md5 (default), sha256 or none`
 VALUES = re.compile(r": ((?:\w+(?: \(default\))?, )*\w+ or \w+)\b")
 
@@ -131,12 +133,12 @@ def value_cases(commands):
         for spellings, value, text in help.options():
             listed = VALUES.search(text)
             if value:
-                words = listed[1].replace(" (default)", "").replace(",", "").replace(" or ", " ") if listed and value not in ("FILE", "DIR") else ""
+                words = listed[1].replace(" (default)", "").replace(",", "").replace(" or ", " ") if listed and value not in PATHS else ""
                 seen.update((spelling, (value, words)) for spelling in spellings)
     for spelling, (value, words) in seen.items():
         if words:
             yield f"        {spelling}) COMPREPLY=($(compgen -W '{words}' -- \"$current\")); return ;;"
-        elif value in ("FILE", "DIR"):
+        elif value in PATHS:
             yield f"        {spelling}) COMPREPLY=($(compgen -f -- \"$current\")); return ;;"
         else:
             yield f"        {spelling}) COMPREPLY=(); return ;;"

@@ -38,6 +38,7 @@ BELOW_HEADS = {
     "droid_signature_tables": ["droid_pronom_formats"],
     "droid_signature_combinations": ["droid_pronom_formats"],
     "droid_signature": ["droid_pronom_formats"],
+    "droid_desk_registry": ["droid_tree_disk"],
     "droid_desk_report": ["droid_report_page", "droid_tree_disk"],
     "droid_desk_folders": [
         "droid_fixity_lists", "droid_fixity_profile", "droid_tree_connection", "droid_tree_disk", "droid_tree_remote", "droid_tree_submission", "droid_tree_upload",
@@ -51,7 +52,7 @@ SHARED = ["droid_frame_shaky", "droid_frame_vectors", "droid_pronom_sample"]
 AS_IN_STD = {"std", "core", "io", "os", "libc", "bytes"}
 # `rt` sums up the sources of a crate once for each path to it, at every call
 MOST_PATHS = 1500
-MOST_LIBRARIES = 64
+MOST_LIBRARIES = 80
 # each costs the gate a check of its crate
 MOST_EDITS = 45
 

@@ -1,33 +1,94 @@
 """Many desks at once (`serve --at-once`), each figure beside its peer of the same run.
 
-Usage: compare_many.py [PART], with the program's path in DROID_DESK and tests/ on Python's path. Prints a line for each
-of five parts, with its limit. Ends with status 1 if a desk was refused, or waited for longer than it may.
+Usage: compare_many.py [ROUNDS] [PART ..], with the program's path in DROID_DESK and tests/ on Python's path. Prints a
+line for each of five parts, with its limit. The parts `waiting` and `pieces` run so many rounds, 3 if none are named, in
+which both settings take turns, and print medians. Ends with status 1 if a desk was refused, or waited for longer than it
+may.
+
+In all parts and settings the service runs on one processor and the clients on those of other cores: where the scheduler
+puts them on two threads of one core, each slows the other down by a third, and what is measured is the scheduler. On a
+machine of one core nothing is pinned, and the first line says so.
 """
+import os
 import select
 import socket
 import statistics
 import sys
 import threading
 import time
+from typing import NamedTuple
 
 from lib.connections import connect, read_exactly
+from lib.cores import two_sides
 from lib.frames import HEADER, LIMITS, REFUSED, TAKEN, create, file, finish, folder, piece, status
-from lib.processes import resident
+from lib.processes import processor_seconds, resident
 from lib.program import Serve
 
-MIB = 1 << 20
 SEATS = 64
+ROUNDS = 3
 # a Status of no profile, and the length of its reply
 QUESTION = status(1, 1, client=99)
 ANSWERED = HEADER.size + 1
+# the length of a reply with a number
+REPLY = HEADER.size + 4
+
+
+class PinnedServe(Serve):
+    """A service on the processor of its own, if there is one."""
+
+    processor = None
+
+    def __enter__(self):
+        super().__enter__()
+        if self.processor is not None:
+            os.sched_setaffinity(self.process.pid, {self.processor})
+        return self
 
 
 def many(seats=SEATS):
-    return Serve(None, ["--at-once", str(seats), "--forever"], killed=True)
+    return PinnedServe(None, ["--at-once", str(seats), "--forever"], killed=True)
 
 
 def one():
-    return Serve.lasting()
+    return PinnedServe.lasting()
+
+
+def pin():
+    """Puts this process on the processors of the clients, and has services run on one of another core."""
+    processor, clients = two_sides()
+    if processor is None:
+        print("many: one core alone: neither the service nor its clients are pinned", flush=True)
+        return
+    os.sched_setaffinity(0, clients)
+    PinnedServe.processor = processor
+    print(f"many: the service runs on processor {processor}, its clients on {clients}, of other cores", flush=True)
+
+
+class Took(NamedTuple):
+    """What some requests took: seconds by the clock, and of a processor in the service and in the clients."""
+
+    clock: float
+    service: float
+    clients: float
+
+    def __str__(self):
+        """Says what part of the time both were at work: clients that are at work all the time are too slow."""
+        return f"service {self.service / self.clock:.2f} and clients {self.clients / self.clock:.2f} processors"
+
+
+def timed(service, work):
+    """Returns what some work of the clients took."""
+    start, theirs, own = time.perf_counter(), processor_seconds(service.process), time.process_time()
+    work()
+    return Took(
+        time.perf_counter() - start, processor_seconds(service.process) - theirs, time.process_time() - own
+    )
+
+
+def in_turns(rounds, *settings):
+    """Runs each setting in so many rounds, in turns, and returns the runs of the middle by the clock."""
+    runs = [[setting() for setting in settings] for _ in range(rounds)]
+    return [sorted(each)[rounds // 2] for each in zip(*runs)]
 
 
 def reply_of(stream):
@@ -63,7 +124,7 @@ def time_of_questions(port):
     return statistics.median(took)
 
 
-def beside_silent_ones():
+def beside_silent_ones(_rounds):
     with one() as service:
         alone = time_of_questions(service.port)
     with many() as service:
@@ -97,16 +158,30 @@ def make_profiles(port, count, **profile):
 
 
 def send_ahead():
-    """Returns the seconds of one client that sends all of it ahead."""
+    """Has one client send all of it ahead."""
     frames = [frame for rows in zip(*(folders_of(client) for client in range(1, CLIENTS + 1))) for frame in rows]
+    joined = b"".join(frames)
     with one() as service:
         make_profiles(service.port, CLIENTS)
         with connect(service.port) as stream:
-            start = time.perf_counter()
-            sender = threading.Thread(target=stream.sendall, args=(b"".join(frames),), daemon=True)
-            sender.start()
-            read_exactly(stream, len(frames) * (HEADER.size + 4))
-            return time.perf_counter() - start
+            return timed(service, lambda: exchange_all(stream, joined, len(frames) * REPLY))
+
+
+def exchange_all(stream, requests, count):
+    """Sends all requests, and reads so many bytes of replies meanwhile."""
+    sender = threading.Thread(target=stream.sendall, args=(requests,), daemon=True)
+    sender.start()
+    read_all(stream, count)
+
+
+def read_all(stream, count):
+    """Reads this many bytes, and keeps none of them."""
+    room = bytearray(1 << 16)
+    while count:
+        size = stream.recv_into(room, min(count, len(room)))
+        if size == 0:
+            sys.exit("the replies end too early")
+        count -= size
 
 
 def take_turns(streams, requests):
@@ -114,38 +189,44 @@ def take_turns(streams, requests):
     poll = select.epoll()
     by_number = {}
     for stream, rows in zip(streams, requests):
-        by_number[stream.fileno()] = stream, iter(rows)
+        # (a method that is looked up once, and a socket that does not wait, cost less for each request)
+        stream.setblocking(False)
+        following = iter(rows)
+        by_number[stream.fileno()] = stream.recv, stream.send, following
         poll.register(stream, select.EPOLLIN)
-        stream.send(next(by_number[stream.fileno()][1]))
+        stream.send(next(following))
     left = len(streams)
     while left:
         for number, _ in poll.poll():
-            stream, rows = by_number[number]
-            if len(stream.recv(HEADER.size + 4)) != HEADER.size + 4:
+            recv, send, rows = by_number[number]
+            if len(recv(REPLY)) != REPLY:
                 sys.exit("a reply came in parts")
             following = next(rows, None)
             if following is None:
-                poll.unregister(stream)
+                poll.unregister(number)
                 left -= 1
             else:
-                stream.send(following)
+                send(following)
 
 
-def waiting_clients():
-    ahead = send_ahead()
+def wait_for_each():
+    """Has clients that each wait for the reply before they send the next request."""
     with many() as service:
         make_profiles(service.port, CLIENTS)
         streams = [connect(service.port) for _ in range(CLIENTS)]
         for stream in streams:
             stream.setsockopt(socket.IPPROTO_TCP, socket.TCP_NODELAY, 1)
         requests = [folders_of(client) for client in range(1, CLIENTS + 1)]
-        start = time.perf_counter()
-        take_turns(streams, requests)
-        took = time.perf_counter() - start
+        return timed(service, lambda: take_turns(streams, requests))
+
+
+def waiting_clients(rounds):
+    ahead, took = in_turns(rounds, send_ahead, wait_for_each)
     count = CLIENTS * FOLDERS
     print(
-        f"many: {CLIENTS} clients with {FOLDERS} folders each, a wait for each reply: {count / took:.0f} requests a second;"
-        f" one that sends ahead: {count / ahead:.0f}; ratio {ahead / took:.2f}, at least 0.9",
+        f"many: {CLIENTS} clients with {FOLDERS} folders each, a wait for each reply: {count / took.clock:.0f} requests a second"
+        f" ({took}); one that sends ahead: {count / ahead.clock:.0f} ({ahead}); ratio {ahead.clock / took.clock:.2f},"
+        " at least 0.9",
         flush=True,
     )
     return True
@@ -167,10 +248,9 @@ def pieces_of(client):
 def send_pieces(port, clients, ended):
     """Sends the files of these clients on one connection, and notes when the last reply came."""
     with connect(port) as stream:
-        count = len(clients) * (PIECES + 1)
         sender = threading.Thread(target=send_all, args=(stream, clients), daemon=True)
         sender.start()
-        read_exactly(stream, count * (HEADER.size + 4))
+        read_all(stream, len(clients) * (PIECES + 1) * REPLY)
         ended.append(time.perf_counter())
 
 
@@ -180,30 +260,41 @@ def send_all(stream, clients):
             stream.sendall(request)
 
 
-def large_files():
+def send_at_once(port, ended):
+    """Has each client send its file on a connection of its own."""
+    threads = [threading.Thread(target=send_pieces, args=(port, [client], ended)) for client in range(1, CLIENTS + 1)]
+    for thread in threads:
+        thread.start()
+    for thread in threads:
+        thread.join()
+
+
+def pieces_of_one():
     with one() as service:
         make_profiles(service.port, CLIENTS)
-        ended = []
-        start = time.perf_counter()
-        send_pieces(service.port, range(1, CLIENTS + 1), ended)
-        alone = ended[0] - start
+        return timed(service, lambda: send_pieces(service.port, range(1, CLIENTS + 1), []))
+
+
+def pieces_of_many(slowest):
+    """Notes the least of the clients' rates beside their mean."""
     with many() as service:
         make_profiles(service.port, CLIENTS)
         ended = []
         start = time.perf_counter()
-        threads = [threading.Thread(target=send_pieces, args=(service.port, [client], ended)) for client in range(1, CLIENTS + 1)]
-        for thread in threads:
-            thread.start()
-        for thread in threads:
-            thread.join()
-    took = [end - start for end in ended]
-    rates = [PIECE * PIECES / seconds for seconds in took]
-    least = min(rates) / statistics.mean(rates)
+        took = timed(service, lambda: send_at_once(service.port, ended))
+    rates = [PIECE * PIECES / (end - start) for end in ended]
+    slowest.append(min(rates) / statistics.mean(rates))
+    return took
+
+
+def large_files(rounds):
+    slowest = []
+    alone, took = in_turns(rounds, pieces_of_one, lambda: pieces_of_many(slowest))
     total = CLIENTS * PIECE * PIECES
     print(
-        f"many: {CLIENTS} clients with {PIECE * PIECES >> 20} MiB each in pieces of {PIECE >> 10} KiB: {total / max(took) / 1e6:.0f} MB a"
-        f" second; one client with all of it: {total / alone / 1e6:.0f}; ratio {alone / max(took):.2f}, at least 0.95; the slowest"
-        f" client has {least:.2f} of the mean, at least 0.5",
+        f"many: {CLIENTS} clients with {PIECE * PIECES >> 20} MiB each in pieces of {PIECE >> 10} KiB: {total / took.clock / 1e6:.0f} MB a"
+        f" second ({took}); one client with all of it: {total / alone.clock / 1e6:.0f} ({alone}); ratio"
+        f" {alone.clock / took.clock:.2f}, at least 0.95; the slowest client has {min(slowest):.2f} of the mean, at least 0.5",
         flush=True,
     )
     return True
@@ -231,7 +322,7 @@ def dear_pieces(stream):
         return
 
 
-def beside_dear_ones():
+def beside_dear_ones(_rounds):
     worst, count = 0.0, 0
     with many() as service:
         with connect(service.port) as stream:
@@ -290,7 +381,7 @@ def open_and_close(port, rounds):
             stream.close()
 
 
-def opened_and_closed():
+def opened_and_closed(_rounds):
     with many() as service:
         open_and_close(service.port, FIRST)
         before = resident(service.process)
@@ -319,7 +410,11 @@ PARTS = {
 
 
 def main():
-    return 0 if all([PARTS[name]() for name in sys.argv[1:] or PARTS]) else 1
+    rounds, names = ROUNDS, sys.argv[1:]
+    if names and names[0].isdigit():
+        rounds = int(names.pop(0))
+    pin()
+    return 0 if all([PARTS[name](rounds) for name in names or PARTS]) else 1
 
 
 sys.exit(main())

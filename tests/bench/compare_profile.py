@@ -20,7 +20,7 @@ import sys
 import tempfile
 import time
 
-from lib.processes import most_resident
+from lib.processes import measured
 from lib.program import PROGRAM
 
 SEED = 32
@@ -120,21 +120,8 @@ def files_below(top):
 
 
 def profiled(top, target, hash_kind):
-    """Returns the seconds of a profile, and its largest resident memory, which is read fifty times a second."""
-    start = time.perf_counter()
-    memory = 0
-    words = [PROGRAM, "profile", top, "--output", target, "--hash", hash_kind, "--quiet"]
-    with subprocess.Popen(words, stderr=subprocess.DEVNULL) as run:
-        while run.returncode is None:
-            memory = most_resident(run) or memory
-            try:
-                run.wait(0.02)
-            except subprocess.TimeoutExpired:
-                pass
-        seconds = time.perf_counter() - start
-    if run.returncode not in (0, 5):
-        sys.exit(f"the profile of {top} ended with status {run.returncode}")
-    return seconds, memory
+    """Returns the seconds of a profile, and its largest resident memory."""
+    return measured([PROGRAM, "profile", top, "--output", target, "--hash", hash_kind, "--quiet"], (0, 5), stderr=subprocess.DEVNULL)
 
 
 def seconds_of(top, files, other):

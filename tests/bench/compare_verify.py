@@ -18,7 +18,7 @@ import tempfile
 import time
 
 from compare_profile import files_below, make_small
-from lib.processes import most_resident
+from lib.processes import measured
 from lib.program import PROGRAM
 
 ROUNDS = 5
@@ -63,31 +63,23 @@ def compare_library(work):
     print(f"  md5sum -c: {checked:.2f} seconds; ratio {own / checked:.2f}, limit {LIMIT_MD5SUM}", flush=True)
 
 
-def compare_rows(work):
-    top, listed = work + "/rows", work + "/list.csv"
+def small_tree(work, folders_of):
+    """Makes this many folders, each with 1,000 files of 100 bytes, and their profile; returns the paths of both."""
+    top, listed = work + "/small", work + "/list.csv"
     os.mkdir(top)
-    make_small(top, 1_000, 1_000)
+    make_small(top, folders_of, 1_000)
     profile(top, listed)
-    memory = 0
-    start = time.perf_counter()
-    with subprocess.Popen([PROGRAM, "verify", top, "--against", listed, "--quiet"], stdout=subprocess.DEVNULL) as run:
-        while run.returncode is None:
-            memory = most_resident(run) or memory
-            try:
-                run.wait(0.02)
-            except subprocess.TimeoutExpired:
-                pass
-    if run.returncode != 0:
-        sys.exit(f"verify ended with status {run.returncode}")
-    seconds = time.perf_counter() - start
+    return top, listed
+
+
+def compare_rows(work):
+    top, listed = small_tree(work, 1_000)
+    seconds, memory = measured([PROGRAM, "verify", top, "--against", listed, "--quiet"], (0,), stdout=subprocess.DEVNULL)
     print(f"verify: 1000000 rows: {seconds:.2f} seconds, {memory} bytes resident, limit {LIMIT_MEMORY}", flush=True)
 
 
 def compare_quick(work):
-    top, listed = work + "/quick", work + "/list.csv"
-    os.mkdir(top)
-    make_small(top, 65, 1_000)
-    profile(top, listed)
+    top, listed = small_tree(work, 65)
     own, found = medians(
         lambda: seconds_of(PROGRAM, "verify", top, "--against", listed, "--quick", "--quiet"),
         lambda: seconds_of("find", top, "-printf", "%P %s %T@\n"),

@@ -115,4 +115,5 @@ def main():
             measure_memory(place, *parts)
 
 
-main()
+if __name__ == "__main__":
+    main()

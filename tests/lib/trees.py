@@ -10,7 +10,7 @@ import subprocess
 import tempfile
 import unittest
 
-from lib.program import PROGRAM
+from lib.program import EVERYDAY, PROGRAM
 
 # how the program's lines on standard error begin: of a skipped entry, of how many there are, and of how many of these
 # are symbolic links
@@ -22,7 +22,16 @@ NAME = b"its name is no UTF-8"
 UNREAD = b"it could not be opened or read"
 CHANGED = b"it changed while it was read"
 TWICE = b"same name: its folder lists the name twice"
-OWN_REGISTRY = b"registry: the built-in registry of everyday formats"
+
+
+def registry_of(path):
+    """Returns how a registry is named: its path, or the built-in one, and the MD5 of its bytes."""
+    with open(path or EVERYDAY, "rb") as file:
+        digest = hashlib.md5(file.read()).hexdigest().encode()
+    return (path or b"the built-in registry of everyday formats") + b", MD5 " + digest
+
+
+OWN_REGISTRY = b"registry: " + registry_of(None)
 
 
 def profile(*words, **more):
@@ -119,3 +128,32 @@ class InFolder(unittest.TestCase):
         self.assertEqual([row["FILE_PATH"] for row in found], [row["FILE_PATH"] for row in rows])
         for due, row in zip(rows, found):
             self.assertEqual({name: row[name] for name in due}, due)
+
+
+class InChangingFolder(InFolder):
+    """A test with three files, one of which something else takes the place of while the program reads them."""
+
+    PATH = b"/in/b.txt"
+
+    def setUp(self):
+        super().setUp()
+        self.other = self.work + b"/other"
+
+    def make(self, kind):
+        """Makes the tree, and what takes the file's place: another of its size and moment, a pipe, or a link to such a file."""
+        shutil.rmtree(self.top)
+        self.folder(b"/in")
+        for path, content in ((b"/in/a.txt", b"one"), (self.PATH, b"two"), (b"/in/c.txt", b"three")):
+            self.file(path, content)
+        if kind == "file":
+            self.file(b"/../other", b"six")
+        elif kind == "pipe":
+            os.mkfifo(self.other)
+        else:
+            self.file(b"/../target", b"six")
+            os.symlink(self.work + b"/target", self.other)
+
+    def exchanging(self, look):
+        """The variables with which it takes the file's place before this look at it (tests/program/folders/changes.c)."""
+        places = {"EXCHANGED_BY": self.other, "EXCHANGED_TO": self.top + self.PATH}
+        return {"EXCHANGED": "b.txt", "EXCHANGED_LOOK": str(look)} | {name: os.fsdecode(path) for name, path in places.items()}

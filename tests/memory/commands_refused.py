@@ -1,6 +1,7 @@
-"""Runs `script` over its stored script, in both versions, and `profile` and `verify` of a folder again and again, and refuses
-another of their allocations each time. As many run at once as there are processors."""
+"""Runs `script` over its stored script, in both versions, `profile` and `verify` of a folder, and `registry` again and again, and
+refuses another of their allocations each time. As many run at once as there are processors."""
 import os
+import re
 import subprocess
 import tempfile
 import unittest
@@ -10,6 +11,7 @@ from lib.program import PROGRAM, SAMPLE, TOP, faults
 from lib.trees import InFolder
 
 STORED = os.path.join(TOP, "crates", "droid_desk", "stdin")
+SIGNATURES = os.path.join(TOP, "tests", "program", "signatures", "sample.xml")
 FAULT = b"fault: Memory\n"
 # the status without memory: 3 and 6 before the command began, 4 within it, 0 where only a request was refused
 STATUSES = {0, 3, 4, 6}
@@ -35,9 +37,9 @@ def run(*words, given=b"", **variables):
 
 
 class Refused(InFolder):
-    def each_in_turn(self, command, is_right, statuses=STATUSES):
+    def each_in_turn(self, command, is_right, statuses=STATUSES, perhaps=frozenset()):
         """Runs a command with each of its allocations refused. Each end has to be right, and each of these statuses has to
-        occur."""
+        occur, and no other but perhaps some."""
         with tempfile.NamedTemporaryFile("r") as file:
             command(ALLOCATIONS=file.name)
             numbers = range(1, int(file.read()) + 1)
@@ -46,7 +48,7 @@ class Refused(InFolder):
             ended = list(pool.map(lambda number: command(REFUSE=str(number)), numbers))
         wrong = [f"allocation {number} of {len(numbers)}: {end}" for number, end in zip(numbers, ended) if not is_right(*end)]
         self.assertEqual(wrong, [], "\n".join(wrong))
-        self.assertEqual({end[0] for end in ended}, statuses)
+        self.assertEqual({end[0] for end in ended} - perhaps, statuses)
 
     def each_of_a_script(self, script):
         self.each_in_turn(lambda **variables: run("script", given=script, **variables), script_is_right)
@@ -62,28 +64,49 @@ class Refused(InFolder):
         hashed = [line + b" md5" * (b" create " in line) for line in lines]
         self.each_of_a_script(b"".join(b"v2 %s\n" % line for line in hashed))
 
-    def profile(self, **variables):
-        """Profiles the folder: the status, the output with the fault, and the files that are there, by name."""
+    def made_by(self, *words, page=False, **variables):
+        """Runs a command with an output file, and a page or none: the status, the output with the fault, and the files that
+        are there, by name. The page is without the moment when it was made."""
         with tempfile.TemporaryDirectory(dir=self.work) as made:
-            path = os.path.join(made, b"profile.csv")
-            status, written, said = run("profile", self.top, "--registry", SAMPLE, "--output", path, **variables)
+            if page:
+                words += ("--report", os.path.join(made, b"page.html"))
+            status, written, said = run(*words, "--output", os.path.join(made, b"output"), **variables)
             named = b"".join(line for line in said.splitlines(True) if line.startswith(b"fault: "))
             files = {}
             for name in os.listdir(made):
                 with open(os.path.join(made, name), "rb") as file:
-                    files[name] = file.read()
+                    files[name] = re.sub(rb" at [^ ]+ \(UTC\)", b"", file.read())
         return status, written + named, files
 
+    def each_output(self, words, names, due, statuses=STATUSES, perhaps=frozenset(), **more):
+        """Runs a command with each of its allocations refused. Its output files are complete, or there are none, not even
+        unfinished ones; of several the first may be complete without the others."""
+        whole = self.made_by(*words, **more)
+        self.assertEqual((whole[0], whole[1], sorted(whole[2])), (due, b"", names))
+        self.assertTrue(all(whole[2].values()))
+        begun = [{name: whole[2][name] for name in names[:count]} for count in range(len(names))]
+
+        def is_right(status, said, files):
+            return (status, said, files) == whole if status == due else status in statuses and said == FAULT and files in begun
+
+        self.each_in_turn(lambda **variables: self.made_by(*words, **more, **variables), is_right, statuses, perhaps)
+
     def test_profile(self):
-        """Two folders, a file that is identified and one that isn't. The output file is complete, or there is no
-        file, not even an unfinished one."""
+        """Two folders, a file that is identified and one that isn't."""
         self.folder(b"/outer/inner")
         self.file(b"/outer/first.msg", b"message of a file")
         self.file(b"/outer/inner/second", b"nothing that is known")
-        whole = self.profile()
-        self.assertEqual((whole[0], whole[1], [*whole[2]]), (0, b"", [b"profile.csv"]))
-        self.assertTrue(whole[2][b"profile.csv"])
-        self.each_in_turn(self.profile, lambda *end: end == whole if end[0] == 0 else end[0] in STATUSES and end[1:] == (FAULT, {}))
+        self.each_output(["profile", self.top, "--registry", SAMPLE], [b"output"], 0)
+
+    def test_registry(self):
+        """A signature file of which not all is taken."""
+        self.each_output(["registry", SIGNATURES], [b"output", b"output.txt"], 5, {4, 6}, {5})
+
+    def test_profile_with_a_page(self):
+        """The page is made last: if it is there, the CSV is there too."""
+        self.folder(b"/outer")
+        self.file(b"/outer/first.msg", b"message of a file")
+        self.each_output(["profile", self.top, "--registry", SAMPLE], [b"output", b"page.html"], 0, page=True)
 
     def verify(self, listed, *more, **variables):
         """Compares the folder with a list: the status, the output with the fault, and the summary's line on formats."""

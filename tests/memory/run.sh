@@ -2,10 +2,11 @@
 # Refuses memory to the built program and to the tests of the crates that `rt ci` or `rt test` left in their out/, and
 # counts allocations: run.sh [PROGRAM]
 #   growths               tests of crates, with each allocation refused in turn
-#   commands_refused      `script` in both versions, `profile` and `verify`, in the same way
+#   commands_refused      `script` in both versions, `profile`, `verify` and `registry`, in the same way
 #   requests_refused      streams of frames, in the same way
 #   submissions_refused   `submit`, in the same way
 #   reports_refused       `report`, in the same way
+#   journals_refused      `run` with a journal, in the same way
 #   large_allocations     every allocation above a limit refused
 #   long_bodies           allocations for a header whose length is past the limit
 #   costs_of_requests     allocations for a request of each kind, by the table costs_of_requests
@@ -18,5 +19,5 @@ export REFUSING="$work/refuse.so"
 build_library refuse.c "$REFUSING"
 # (the modules are words without spaces)
 # shellcheck disable=SC2086
-run_modules ${MODULES:-growths commands_refused requests_refused submissions_refused reports_refused large_allocations \
+run_modules ${MODULES:-growths commands_refused requests_refused submissions_refused reports_refused journals_refused large_allocations \
     long_bodies costs_of_requests lasting_memory}

@@ -5,7 +5,7 @@
 #   args    the arguments, in one line; a file among them is one of the case's folder
 #   in      standard input          in.sh  or a script that writes it   from  or a path that is opened
 #   out     wanted standard output  out.sh or a script that writes it   to  or a path that it goes to
-#   err     wanted standard error, or err.has, a text that has to be in it
+#   err     wanted standard error   err.sh or a script that writes it   err.has or a text that has to be in it
 #   status  wanted exit status
 set -u
 cases=$(cd "$(dirname "$0")" && pwd)/cases
@@ -47,6 +47,9 @@ wrong_output() {
 wrong_error() {
     if [ -f "$1/err.has" ]; then
         grep -qF -- "$(cat "$1/err.has")" "$work/err" || echo "did not say what it has to on standard error"
+    elif [ -f "$1/err.sh" ]; then
+        sh "$1/err.sh" >"$work/said"
+        cmp -s "$work/said" "$work/err" || echo "said something else on standard error"
     elif [ -f "$1/err" ]; then
         cmp -s "$1/err" "$work/err" || echo "said something else on standard error"
     elif [ -s "$work/err" ]; then

@@ -76,6 +76,11 @@ class Install(unittest.TestCase):
         self.assertEqual(self.completed("profile", "--has"), ["--hash"])
         self.assertEqual(self.completed("profile", "--hash", "s"), ["sha256"])
 
+    def test_paths_are_completed(self):
+        for command in [it for it in COMMANDS if it != "help"]:
+            for option in re.findall(r"(--[a-z-]+) <(?:FILE|PAGE|OUT)>", run(PROGRAM, command, "--help")):
+                self.assertEqual(self.completed(command, option, INSTALL[:-1]), [INSTALL], (command, option))
+
     def test_removed(self):
         """Only what was installed is removed."""
         with tempfile.TemporaryDirectory() as folder:

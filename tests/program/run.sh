@@ -10,8 +10,10 @@
 #   sizes.sh      and on scripts that go past usual sizes
 #   wire/run.sh   frames on standard streams and on connections, in Python
 #   folders/run.sh   profiles of folders of this machine, in Python
+#   journal/run.sh   `run` and `serve` with a journal: kills, power cuts, damage, a full disk, in Python
 #   submissions/run.sh   folders submitted to a port, through connections that are cut, in Python
 #   report/run.sh    pages of profiles, beside the same numbers computed in Python, and in a browser
+#   signatures/run.sh   registries made of signature files, beside a model in Python
 #   identification.py   a file of each shape by random registries, beside the model
 #   install.py    the manual page, the completions and what `make install` writes
 #   readme.sh     the commands of README.md, pasted into a shell
@@ -47,6 +49,7 @@ example() {
 # tests that use ports run one after the other, so that none takes another's port; the rest runs beside them
 {
     part sh "$tests/wire/run.sh" "$program"
+    part sh "$tests/journal/run.sh" "$program"
     part sh "$tests/submissions/run.sh" "$program"
     part sh "$tests/readme.sh" "$program"
 } &
@@ -61,6 +64,7 @@ part sh "$tests/random.sh" "$program"
 part sh "$tests/sizes.sh" "$program"
 part sh "$tests/folders/run.sh" "$program"
 part sh "$tests/report/run.sh" "$program"
+part sh "$tests/signatures/run.sh" "$program"
 part python3 "$tests/identification.py" "$program"
 part python3 "$tests/install.py" "$program"
 # (0 unless it was ended)

@@ -1,16 +1,17 @@
 //! Reads the command line, runs the command that it asks for, and returns the exit status.
 
 use droid_desk_arguments::{
-    Asked, NoCommand, ProfileOptions, RegistrySource, ReportOptions, SubmitOptions, VerifyOptions,
-    unread_words, what_is_asked,
+    Asked, ManyOptions, NoCommand, ProfileOptions, RegistryOptions, RegistrySource, ReportOptions,
+    SubmitOptions, VerifyOptions, unread_words, what_is_asked,
 };
-use droid_desk_folders::submit_folder;
-use droid_desk_report::report_profile;
+use droid_desk_folders::{report_profile, submit_folder};
+use droid_desk_registry::registry_command;
 use droid_desk_service::{
-    Ended, registry_for, run_command, script_command, send_command, serve_command,
-    serve_many_command,
+    Ended, no_registry, note_formats, registry_bytes, run_command, run_journal_command,
+    script_command, send_command, serve_command, serve_journal_command, serve_many_command,
+    serve_many_journal_command,
 };
-use droid_desk_verify::{Registry, profile_folder, verify_folder};
+use droid_desk_verify::{NamedRegistry, profile_folder, verify_folder};
 use std::process::ExitCode;
 use std::{env, io};
 
@@ -37,18 +38,21 @@ fn fulfil(rt: &HostRuntime, asked: Asked<'_>, on_terminal: bool) -> ExitCode {
         Asked::Submit(options) => submit(rt, options, on_terminal),
         Asked::Verify(options) => verify(rt, options, on_terminal),
         Asked::Report(options) => report(rt, options),
+        Asked::Registry(options) => registry(rt, options),
         Asked::Script { registry } => end(rt, &script_command(rt, registry)),
-        Asked::Run { registry } => end(rt, &run_command(rt, registry)),
+        Asked::Run { registry, journal } => end(rt, &answer(rt, registry, journal)),
         Asked::Serve {
             registry,
+            journal,
             port,
             connections,
-        } => end(rt, &serve_command(rt, registry, port, connections)),
+        } => end(rt, &serve(rt, registry, journal, port, connections)),
         Asked::ServeMany {
             registry,
+            journal,
             port,
             options,
-        } => end(rt, &serve_many_command(rt, registry, port, options)),
+        } => end(rt, &serve_many(rt, registry, journal, port, options)),
         Asked::Send {
             port,
             client,
@@ -58,7 +62,7 @@ fn fulfil(rt: &HostRuntime, asked: Asked<'_>, on_terminal: bool) -> ExitCode {
 }
 
 fn profile(rt: &HostRuntime, options: ProfileOptions<'_>, on_terminal: bool) -> ExitCode {
-    match registry_for(rt, source_of(rt, options.registry)) {
+    match named_registry(rt, options.registry) {
         Ok(registry) => {
             let ending = profile_folder(rt, &registry, options, on_terminal);
             let _ = ending.print(rt, options);
@@ -68,14 +72,24 @@ fn profile(rt: &HostRuntime, options: ProfileOptions<'_>, on_terminal: bool) -> 
     }
 }
 
-/// Returns the registry of a file, or else that of everyday formats. That is printed.
-fn source_of<'a>(rt: &HostRuntime, registry: Option<&'a str>) -> RegistrySource<'a> {
-    match registry {
+/// Reads the registry of a file, or else that of everyday formats.
+fn named_registry<'a>(
+    rt: &HostRuntime,
+    path: Option<&'a str>,
+) -> Result<NamedRegistry<'a>, Ended<'a>> {
+    let source = match path {
         Some(path) => RegistrySource::File(path),
-        None => {
-            let _ = eprintln!(rt; "registry: the built-in registry of everyday formats");
-            RegistrySource::Everyday
+        None => RegistrySource::Everyday,
+    };
+    let bytes = registry_bytes(rt, source)?;
+    match NamedRegistry::parse(rt.alloc(), path, bytes.as_slice()) {
+        Ok(named) => {
+            if let Some(path) = path {
+                note_formats(rt, path, Some(named.registry.len()));
+            }
+            Ok(named)
         }
+        Err(fault) => Err(no_registry(source, fault)),
     }
 }
 
@@ -84,7 +98,7 @@ fn verify(rt: &HostRuntime, options: VerifyOptions<'_>, on_terminal: bool) -> Ex
     if !options.identify || options.quick {
         return verify_by(rt, None, options, on_terminal);
     }
-    match registry_for(rt, source_of(rt, options.registry)) {
+    match named_registry(rt, options.registry) {
         Ok(registry) => verify_by(rt, Some(&registry), options, on_terminal),
         Err(ended) => end(rt, &ended),
     }
@@ -92,7 +106,7 @@ fn verify(rt: &HostRuntime, options: VerifyOptions<'_>, on_terminal: bool) -> Ex
 
 fn verify_by(
     rt: &HostRuntime,
-    registry: Option<&Registry>,
+    registry: Option<&NamedRegistry<'_>>,
     options: VerifyOptions<'_>,
     on_terminal: bool,
 ) -> ExitCode {
@@ -111,6 +125,49 @@ fn report(rt: &HostRuntime, options: ReportOptions<'_>) -> ExitCode {
     let ending = report_profile(rt, options.profile, options.title, options.output);
     let _ = ending.print(rt, options.profile, options.output);
     ExitCode::from(ending.status())
+}
+
+fn registry(rt: &HostRuntime, options: RegistryOptions<'_>) -> ExitCode {
+    let ending = registry_command(rt, options.file, options.output, options.quiet);
+    let _ = ending.print(rt, options.file, options.output);
+    ExitCode::from(ending.status())
+}
+
+fn answer<'a>(
+    rt: &'a HostRuntime,
+    registry: RegistrySource<'a>,
+    journal: Option<&'a str>,
+) -> Ended<'a> {
+    match journal {
+        Some(path) => run_journal_command(rt, registry, path),
+        None => run_command(rt, registry),
+    }
+}
+
+fn serve<'a>(
+    rt: &'a HostRuntime,
+    registry: RegistrySource<'a>,
+    journal: Option<&'a str>,
+    port: u16,
+    connections: u32,
+) -> Ended<'a> {
+    match journal {
+        Some(path) => serve_journal_command(rt, registry, port, connections, path),
+        None => serve_command(rt, registry, port, connections),
+    }
+}
+
+fn serve_many<'a>(
+    rt: &'a HostRuntime,
+    registry: RegistrySource<'a>,
+    journal: Option<&'a str>,
+    port: u16,
+    options: ManyOptions,
+) -> Ended<'a> {
+    match journal {
+        Some(path) => serve_many_journal_command(rt, registry, port, options, path),
+        None => serve_many_command(rt, registry, port, options),
+    }
 }
 
 fn end(rt: &HostRuntime, ended: &Ended<'_>) -> ExitCode {

@@ -3,7 +3,8 @@ use Rattle.std.specs.Prelude.{◌≡◌, ◌&&◌, ℕ, Bool, true, false, List,
 use Rattle.clap.specs.Words.{Row, Text, first_of, one_of, subcommand_of}
 use Rattle.droid_desk_arguments.specs.Commands.{program}
 use Rattle.droid_desk_arguments.specs.declared.arguments.Asked.{Asked}
-use Rattle.droid_desk_arguments.specs.declared.arguments.Asked.TheVariants.{Profile, Submit, Verify, Report, Script, Run, Serve, ServeMany, Send}
+use Rattle.droid_desk_arguments.specs.declared.arguments.Asked.TheVariants.{Profile, Submit, Verify, Report, Registry, Script, Run, Serve, ServeMany, Send}
+use Rattle.droid_desk_arguments.specs.declared.conversion.RegistryOptions.{RegistryOptions}
 use Rattle.droid_desk_arguments.specs.declared.many.ManyOptions.{ManyOptions}
 use Rattle.droid_desk_arguments.specs.declared.profile.ProfileOptions.{ProfileOptions}
 use Rattle.droid_desk_arguments.specs.declared.report.ReportOptions.{ReportOptions}
@@ -32,6 +33,7 @@ pub record IsProfile (rows : List Row) (options : ProfileOptions) : Type 0 where
   pub manifest : option_map (λ path. path.now) options.manifest ≡ first_of (codes "manifest") rows
   pub checksums : has_no_checksums options.hash (option_map (λ path. path.now) options.manifest) ≡ false
   pub skipped : option_map (λ path. path.now) options.skipped ≡ first_of (codes "skipped") rows
+  pub report : option_map (λ path. path.now) options.report ≡ first_of (codes "report") rows
   pub quiet : IsFlag (one_of (codes "quiet") rows) options.quiet
 
 -- where a submission goes, and how long it waits for the service
@@ -52,6 +54,7 @@ pub record IsSubmit (rows : List Row) (options : SubmitOptions) : Type 0 where
   pub hash : IsHash (first_of (codes "hash") rows) options.hash
   pub export : option_map (λ path. path.now) options.export ≡ first_of (codes "export") rows
   pub skipped : option_map (λ path. path.now) options.skipped ≡ first_of (codes "skipped") rows
+  pub report : option_map (λ path. path.now) options.report ≡ first_of (codes "report") rows
   pub quiet : IsFlag (one_of (codes "quiet") rows) options.quiet
 
 -- the registry of everyday formats is asked for beside a file
@@ -84,6 +87,12 @@ pub record IsReport (rows : List Row) (options : ReportOptions) : Type 0 where
   pub title : option_map (λ text. text.now) options.title ≡ first_of (codes "title") rows
   pub output : option_map (λ path. path.now) options.output ≡ first_of (codes "output") rows
 
+-- the options of `registry`
+pub record IsConversion (rows : List Row) (options : RegistryOptions) : Type 0 where
+  pub file : Some options.file.now ≡ first_of (codes "file") rows
+  pub output : option_map (λ path. path.now) options.output ≡ first_of (codes "output") rows
+  pub quiet : IsFlag (one_of (codes "quiet") rows) options.quiet
+
 -- how many connections are served: there is no end, or this many
 abbrev pub IsCount : List Row → Option ℕ → Type 0
 IsCount rows None = IsFlag (one_of (codes "forever") rows) true × (first_of (codes "connections") rows ≡ None)
@@ -109,14 +118,19 @@ IsAskedBy name rows (Profile options) = (name ≡ codes "profile") × IsProfile 
 IsAskedBy name rows (Submit options) = (name ≡ codes "submit") × IsSubmit rows options
 IsAskedBy name rows (Verify options) = (name ≡ codes "verify") × IsVerify rows options
 IsAskedBy name rows (Report options) = (name ≡ codes "report") × IsReport rows options
+IsAskedBy name rows (Registry options) = (name ≡ codes "registry") × IsConversion rows options
 IsAskedBy name rows (Script registry) = (name ≡ codes "script") × IsSource rows registry
-IsAskedBy name rows (Run registry) = (name ≡ codes "run") × IsSource rows registry
-IsAskedBy name rows (Serve registry port connections) =
+IsAskedBy name rows (Run registry journal) =
+    (name ≡ codes "run") × IsSource rows registry
+    × (option_map (λ path. path.now) journal ≡ first_of (codes "journal") rows)
+IsAskedBy name rows (Serve registry journal port connections) =
     (name ≡ codes "serve") × IsSource rows registry
+    × (option_map (λ path. path.now) journal ≡ first_of (codes "journal") rows)
     × (option_map number_of (one_of (codes "port") rows) ≡ Some port)
     × IsNumberOr 32 1 (one_of (codes "connections") rows) connections × IsOneByOne rows
-IsAskedBy name rows (ServeMany registry port options) =
+IsAskedBy name rows (ServeMany registry journal port options) =
     (name ≡ codes "serve") × IsSource rows registry
+    × (option_map (λ path. path.now) journal ≡ first_of (codes "journal") rows)
     × (option_map number_of (one_of (codes "port") rows) ≡ Some port) × IsMany rows options
 IsAskedBy name rows (Send port client first) =
     (name ≡ codes "send") × (option_map number_of (one_of (codes "port") rows) ≡ Some port)

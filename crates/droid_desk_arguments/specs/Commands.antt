@@ -47,16 +47,20 @@ export_option = option_named (codes "export")
 abbrev pub skipped_option : Rule
 skipped_option = option_named (codes "skipped")
 
+-- where a page of the profile goes
+abbrev pub report_option : Rule
+report_option = option_named (codes "report")
+
 -- what is profiled, and by what
 abbrev pub profile_input : App
 profile_input = with_rule (with_rule (with_rule (new_app (codes "profile")) folder_word) registry_option) limit_option
 
--- what is done with each file
+-- what is done with each file, and where the CSV goes
 abbrev pub profile_files : App
-profile_files = with_rule (with_rule profile_input (flag_named (codes "match-all"))) hash_option
+profile_files = with_rule (with_rule (with_rule profile_input (flag_named (codes "match-all"))) hash_option) output_option
 
 abbrev pub profile_command : App
-profile_command = with_rule (with_rule (with_rule (with_rule profile_files output_option) manifest_option) skipped_option) (flag_named (codes "quiet"))
+profile_command = with_rule (with_rule (with_rule (with_rule profile_files manifest_option) skipped_option) report_option) (flag_named (codes "quiet"))
 
 -- what is submitted, and where it goes
 abbrev pub submit_input : App
@@ -72,7 +76,7 @@ submit_files =
     with_rule (with_rule (with_rule (with_rule submit_connection piece_size_option) limit_option) (flag_named (codes "match-all"))) hash_option
 
 abbrev pub submit_command : App
-submit_command = with_rule (with_rule (with_rule submit_files export_option) skipped_option) (flag_named (codes "quiet"))
+submit_command = with_rule (with_rule (with_rule (with_rule submit_files export_option) skipped_option) report_option) (flag_named (codes "quiet"))
 
 abbrev pub against_option : Rule
 against_option = needed (option_named (codes "against"))
@@ -92,11 +96,19 @@ verify_command = with_rule (with_rule (with_rule verify_files limit_option) (fla
 abbrev pub report_command : App
 report_command = with_rule (with_rule (with_rule (new_app (codes "report")) (word_named (codes "profile"))) (option_named (codes "title"))) output_option
 
+-- what a registry is made of, and where it goes
+abbrev pub registry_command : App
+registry_command = with_rule (with_rule (with_rule (new_app (codes "registry")) (word_named (codes "file"))) output_option) (flag_named (codes "quiet"))
+
 abbrev pub script_command : App
 script_command = with_rule (with_rule (new_app (codes "script")) everyday_flag) registry_option
 
+-- the file that keeps what a service accepts
+abbrev pub journal_option : Rule
+journal_option = option_named (codes "journal")
+
 abbrev pub run_command : App
-run_command = with_rule (with_rule (new_app (codes "run")) everyday_flag) registry_option
+run_command = with_rule (with_rule (with_rule (new_app (codes "run")) everyday_flag) registry_option) journal_option
 
 abbrev pub serve_numbers : App
 serve_numbers = with_rule (with_rule (new_app (codes "serve")) port_option) connections_option
@@ -105,7 +117,7 @@ abbrev pub serve_many : App
 serve_many = with_rule (with_rule (with_rule (with_rule serve_numbers at_once_option) idle_option) (flag_named (codes "forever"))) (flag_named (codes "verbose"))
 
 abbrev pub serve_command : App
-serve_command = with_rule (with_rule serve_many everyday_flag) registry_option
+serve_command = with_rule (with_rule (with_rule serve_many everyday_flag) registry_option) journal_option
 
 abbrev pub send_command : App
 send_command = with_rule (with_rule (with_rule (new_app (codes "send")) port_option) client_option) first_option
@@ -114,10 +126,11 @@ send_command = with_rule (with_rule (with_rule (new_app (codes "send")) port_opt
 abbrev pub top_command : App → App
 top_command a = record a { top = record a.top { subcommand_required = true; has_version = true } }
 
--- the program with its eight commands
+-- the program with all its commands
 abbrev pub program : App
 program =
     with_subcommand
+    (with_subcommand
     (with_subcommand
     (with_subcommand
     (with_subcommand
@@ -128,6 +141,7 @@ program =
     submit_command.top)
     verify_command.top)
     report_command.top)
+    registry_command.top)
     script_command.top)
     run_command.top)
     serve_command.top)

@@ -1,27 +1,29 @@
 //! The command line: what its words ask for.
 
-ghost use Rattle.std.specs.Prelude.{◌≡◌, [], IfOk, IfSome, codes, false, map, string_bytes, true};
-ghost use Rattle.clap.specs.Words.{app_of, fault_of, found_of, is_simple, is_simple_and_free, new_app, rows_of, rule_of, subcommand_of, subcommand_rows_of};
-ghost use Rattle.clap.specs.declared.builder.command.Command.TheViews.{out-Command};
+ghost use Rattle.std.specs.Prelude.{◌≡◌, [], IfOk, IfSome, codes, map, string_bytes, true};
+ghost use Rattle.clap.specs.Words.{app_of, fault_of, found_of, is_simple, is_simple_and_free, new_app, rows_of, subcommand_of, subcommand_rows_of};
 ghost use Rattle.droid_desk_arguments.specs.Asking.{IsAsked, IsAskedBy, WordsAsk};
-ghost use Rattle.droid_desk_arguments.specs.Commands.{connections_option, first_option, program, run_command, script_command, send_command, serve_command, serve_numbers, top_command};
+ghost use Rattle.droid_desk_arguments.specs.Commands.{program, run_command, script_command, send_command, serve_command, top_command};
+ghost use Rattle.droid_desk_options.specs.Made.{Makes};
 
+use crate::conversion::{RegistryOptions, conversion, registry_asked};
 use crate::help::{ABOUT, EVERYDAY_HELP, HELP, REGISTRY_HELP, SCRIPT_ABOUT, SCRIPT_HELP};
-use crate::many::{AT_ONCE, ManyOptions, is_one_by_one, many_options, serve_many};
+use crate::many::{AT_ONCE, FOREVER, IDLE, ManyOptions, VERBOSE, is_one_by_one, many_options};
 use crate::no_command::{NoCommand, unused_words};
 use crate::profile::{HASH, PROFILE, ProfileOptions, profile, profile_asked};
 use crate::report::{REPORT, ReportOptions, report, report_asked};
 use crate::stream_help::{
-    CLIENT_HELP, CONNECTIONS_HELP, FIRST_HELP, RUN_ABOUT, RUN_HELP, SEND_ABOUT, SEND_HELP,
-    SEND_PORT_HELP, SERVE_ABOUT, SERVE_HELP, SERVE_PORT_HELP,
+    AT_ONCE_HELP, CLIENT_HELP, CONNECTIONS_HELP, FIRST_HELP, FOREVER_HELP, IDLE_HELP, JOURNAL_HELP,
+    RUN_ABOUT, RUN_HELP, SEND_ABOUT, SEND_HELP, SEND_PORT_HELP, SERVE_ABOUT, SERVE_HELP,
+    SERVE_PORT_HELP, VERBOSE_HELP,
 };
 use crate::submit::{SUBMIT, SubmitOptions, submit, submit_asked};
 use crate::verify::{VERIFY, VerifyOptions, mistake_in_verify, verify, verify_asked};
 use clap::error::ErrorKind;
-use clap::{Arg, ArgMatches, Command, Error};
+use clap::{ArgMatches, Command, Error};
 use droid_desk_options::{
-    CLIENT, EVERYDAY, PORT, RegistrySource, client, flag, hash_of, number, port, registry,
-    source_of,
+    Builder, CLIENT, EVERYDAY, PORT, REGISTRY, RegistrySource, client, flag, hash_of, named,
+    number, port, registry, source_of,
 };
 use std::alloc::{AllocError, Global};
 
@@ -37,6 +39,8 @@ const SEND: &str = "send";
 pub(crate) const CONNECTIONS: &str = "connections";
 
 const FIRST: &str = "first";
+
+const JOURNAL: &str = "journal";
 
 /// How many connections `serve` serves by default.
 pub(crate) const DEFAULT_CONNECTIONS: u32 = 1;
@@ -76,23 +80,28 @@ pub enum Asked<'a> {
     Verify(VerifyOptions<'a>),
     /// Make a page of a profile.
     Report(ReportOptions<'a>),
+    /// Make a registry of a signature file.
+    Registry(RegistryOptions<'a>),
     /// Run a script.
     Script {
         registry: RegistrySource<'a>,
     },
-    /// Answer the frames of standard input.
+    /// Answer the frames of standard input. What is accepted is kept in the file `journal`, if one is named.
     Run {
         registry: RegistrySource<'a>,
+        journal: Option<&'a str>,
     },
-    /// Serve this many connections to a port.
+    /// Serve this many connections to a port, with a journal as `Run`.
     Serve {
         registry: RegistrySource<'a>,
+        journal: Option<&'a str>,
         port: u16,
         connections: u32,
     },
-    /// Serve many connections to a port at once.
+    /// Serve many connections to a port at once, with a journal as `Run`.
     ServeMany {
         registry: RegistrySource<'a>,
+        journal: Option<&'a str>,
         port: u16,
         options: ManyOptions,
     },
@@ -183,6 +192,9 @@ fn asked_by<'a>(matches: &ArgMatches<'a>) -> Option<Asked<'a>>
     if let Some(report) = matches.subcommand_matches(REPORT) {
         return report_asked(report);
     }
+    if let Some(registry) = matches.subcommand_matches(REGISTRY) {
+        return registry_asked(registry);
+    }
     if let Some(script) = matches.subcommand_matches(SCRIPT) {
         return script_asked(script);
     }
@@ -206,7 +218,8 @@ fn run_asked<'a>(run: &ArgMatches<'a>) -> Option<Asked<'a>>
     ensures { IfSome result (λ asked. IsAskedBy (codes "run") (rows_of (found_of run.now)) asked) }
 {
     let registry = source_of(run)?;
-    Some(Asked::Run { registry })
+    let journal = run.get_str(JOURNAL);
+    Some(Asked::Run { registry, journal })
 }
 
 fn serve_asked<'a>(serve: &ArgMatches<'a>) -> Option<Asked<'a>>
@@ -216,10 +229,12 @@ fn serve_asked<'a>(serve: &ArgMatches<'a>) -> Option<Asked<'a>>
         return serve_many_asked(serve);
     }
     let registry = source_of(serve)?;
+    let journal = serve.get_str(JOURNAL);
     let port = serve.get_one(PORT)?;
     let connections = serve.get_one(CONNECTIONS).unwrap_or(DEFAULT_CONNECTIONS);
     Some(Asked::Serve {
         registry,
+        journal,
         port,
         connections,
     })
@@ -229,10 +244,12 @@ fn serve_many_asked<'a>(serve: &ArgMatches<'a>) -> Option<Asked<'a>>
     ensures { IfSome result (λ asked. IsAskedBy (codes "serve") (rows_of (found_of serve.now)) asked) }
 {
     let registry = source_of(serve)?;
+    let journal = serve.get_str(JOURNAL);
     let port = serve.get_one(PORT)?;
     let options = many_options(serve)?;
     Some(Asked::ServeMany {
         registry,
+        journal,
         port,
         options,
     })
@@ -252,95 +269,74 @@ fn send_asked<'a>(send: &ArgMatches<'a>) -> Option<Asked<'a>>
 }
 
 fn command<'a>(alloc: Global) -> Result<Command<'a>, AllocError>
-    ensures shape { IfOk result (λ c. app_of c ≡ program) }
+    ensures { Makes program result }
 {
     top(alloc)
-        .subcommand(profile(alloc)?)?
-        .subcommand(submit(alloc)?)?
-        .subcommand(verify(alloc)?)?
-        .subcommand(report(alloc)?)?
-        .subcommand(script(alloc)?)?
-        .subcommand(run(alloc)?)?
-        .subcommand(serve(alloc)?)?
-        .subcommand(send(alloc)?)
+        .command(profile(alloc))
+        .command(submit(alloc))
+        .command(verify(alloc))
+        .command(report(alloc))
+        .command(conversion(alloc))
+        .command(script(alloc))
+        .command(run(alloc))
+        .command(serve(alloc))
+        .command(send(alloc))
+        .made
 }
 
-/// Makes the program's command, without the commands below it.
-fn top<'a>(alloc: Global) -> Command<'a>
-    ensures { app_of result ≡ top_command (new_app (codes "droid_desk")) }
+/// Begins the program's command, without the commands below it.
+fn top<'a>(alloc: Global) -> Builder<'a>
+    ensures { Makes (top_command (new_app (codes "droid_desk"))) result.made }
 {
-    Command::new(alloc, "droid_desk")
+    let command = Command::new(alloc, "droid_desk")
         .version(VERSION)
         .about(ABOUT)
         .after_help(HELP)
-        .subcommand_required(true)
+        .subcommand_required(true);
+    Builder { made: Ok(command) }
 }
 
 fn script<'a>(alloc: Global) -> Result<Command<'a>, AllocError>
-    ensures shape { IfOk result (λ c. app_of c ≡ script_command) }
-    ensures local { IfOk result (λ c. (out-Command c).has_globals ≡ false) }
+    ensures { Makes script_command result }
 {
-    Command::new(alloc, SCRIPT)
-        .about(SCRIPT_ABOUT)
-        .after_help(SCRIPT_HELP)
-        .arg(flag(alloc, EVERYDAY, EVERYDAY_HELP))?
-        .arg(registry(alloc, REGISTRY_HELP))
+    Builder::new(alloc, SCRIPT, SCRIPT_ABOUT, SCRIPT_HELP)
+        .option(flag(alloc, EVERYDAY, EVERYDAY_HELP))
+        .option(registry(alloc, REGISTRY_HELP))
+        .made
 }
 
 fn run<'a>(alloc: Global) -> Result<Command<'a>, AllocError>
-    ensures shape { IfOk result (λ c. app_of c ≡ run_command) }
-    ensures local { IfOk result (λ c. (out-Command c).has_globals ≡ false) }
+    ensures { Makes run_command result }
 {
-    Command::new(alloc, RUN)
-        .about(RUN_ABOUT)
-        .after_help(RUN_HELP)
-        .arg(flag(alloc, EVERYDAY, EVERYDAY_HELP))?
-        .arg(registry(alloc, REGISTRY_HELP))
+    Builder::new(alloc, RUN, RUN_ABOUT, RUN_HELP)
+        .option(flag(alloc, EVERYDAY, EVERYDAY_HELP))
+        .option(registry(alloc, REGISTRY_HELP))
+        .option(named(alloc, JOURNAL, "FILE", JOURNAL_HELP))
+        .made
 }
 
 fn serve<'a>(alloc: Global) -> Result<Command<'a>, AllocError>
-    ensures shape { IfOk result (λ c. app_of c ≡ serve_command) }
-    ensures local { IfOk result (λ c. (out-Command c).has_globals ≡ false) }
+    ensures { Makes serve_command result }
 {
-    serve_many(alloc)?
-        .arg(flag(alloc, EVERYDAY, EVERYDAY_HELP))?
-        .arg(registry(alloc, REGISTRY_HELP))
-}
-
-/// Makes the command with its first options.
-pub(crate) fn serve_numbers<'a>(alloc: Global) -> Result<Command<'a>, AllocError>
-    ensures shape { IfOk result (λ c. app_of c ≡ serve_numbers) }
-    ensures local { IfOk result (λ c. (out-Command c).has_globals ≡ false) }
-{
-    Command::new(alloc, SERVE)
-        .about(SERVE_ABOUT)
-        .after_help(SERVE_HELP)
-        .arg(port(alloc, SERVE_PORT_HELP))?
-        .arg(connections(alloc))
+    Builder::new(alloc, SERVE, SERVE_ABOUT, SERVE_HELP)
+        .option(port(alloc, SERVE_PORT_HELP))
+        .option(number(alloc, CONNECTIONS, "K", CONNECTIONS_HELP, 1, 1_000))
+        .option(number(alloc, AT_ONCE, "N", AT_ONCE_HELP, 1, 64))
+        .option(number(alloc, IDLE, "SECONDS", IDLE_HELP, 1, 3_600))
+        .option(flag(alloc, FOREVER, FOREVER_HELP))
+        .option(flag(alloc, VERBOSE, VERBOSE_HELP))
+        .option(flag(alloc, EVERYDAY, EVERYDAY_HELP))
+        .option(registry(alloc, REGISTRY_HELP))
+        .option(named(alloc, JOURNAL, "FILE", JOURNAL_HELP))
+        .made
 }
 
 fn send<'a>(alloc: Global) -> Result<Command<'a>, AllocError>
-    ensures shape { IfOk result (λ c. app_of c ≡ send_command) }
-    ensures local { IfOk result (λ c. (out-Command c).has_globals ≡ false) }
+    ensures { Makes send_command result }
 {
-    Command::new(alloc, SEND)
-        .about(SEND_ABOUT)
-        .after_help(SEND_HELP)
-        .arg(port(alloc, SEND_PORT_HELP))?
-        .arg(client(alloc, CLIENT_HELP))?
-        .arg(first(alloc))
-}
-
-fn connections<'a>(alloc: Global) -> Arg<'a>
-    ensures rule { rule_of result ≡ connections_option }
-    ensures local { result.global ≡ false }
-{
-    number(alloc, CONNECTIONS, "K", CONNECTIONS_HELP, 1, 1_000)
-}
-
-fn first<'a>(alloc: Global) -> Arg<'a>
-    ensures rule { rule_of result ≡ first_option }
-    ensures local { result.global ≡ false }
-{
-    number(alloc, FIRST, "N", FIRST_HELP, 0, 9_223_372_036_854_775_807)
+    Builder::new(alloc, SEND, SEND_ABOUT, SEND_HELP)
+        .option(port(alloc, SEND_PORT_HELP))
+        .option(client(alloc, CLIENT_HELP))
+        .option(number(alloc, FIRST, "N", FIRST_HELP, 0, 9_223_372_036_854_775_807))
+        .made
 }

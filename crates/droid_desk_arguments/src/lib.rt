@@ -2,6 +2,8 @@
 #![tactic(auto)]
 
 mod arguments;
+mod conversion;
+mod conversion_help;
 mod help;
 mod many;
 mod no_command;
@@ -16,6 +18,7 @@ mod verify;
 mod verify_help;
 
 pub use arguments::{Asked, what_is_asked};
+pub use conversion::RegistryOptions;
 pub use droid_desk_options::RegistrySource;
 pub use many::ManyOptions;
 pub use no_command::{NoCommand, unread_words};

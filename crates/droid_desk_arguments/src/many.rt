@@ -1,25 +1,21 @@
 //! The options of `serve` for many connections at once.
 
-ghost use Rattle.std.specs.Prelude.{◌≡◌, IfOk, IfSome, None, codes, false, option_map, true};
-ghost use Rattle.clap.specs.Words.{app_of, found_of, rows_of, rule_of};
-ghost use Rattle.clap.specs.declared.builder.command.Command.TheViews.{out-Command};
+ghost use Rattle.std.specs.Prelude.{◌≡◌, IfSome, None, false, option_map, true};
+ghost use Rattle.clap.specs.Words.{found_of, rows_of};
 ghost use Rattle.droid_desk_arguments.specs.Asking.{IsCount, IsMany, IsOneByOne};
-ghost use Rattle.droid_desk_arguments.specs.Commands.{at_once_option, idle_option, serve_many};
 
-use crate::arguments::{CONNECTIONS, DEFAULT_CONNECTIONS, serve_numbers};
-use crate::stream_help::{AT_ONCE_HELP, FOREVER_HELP, IDLE_HELP, VERBOSE_HELP};
-use clap::{Arg, ArgMatches, Command};
-use droid_desk_options::{flag, flag_of, number};
-use std::alloc::{AllocError, Global};
+use crate::arguments::{CONNECTIONS, DEFAULT_CONNECTIONS};
+use clap::ArgMatches;
+use droid_desk_options::flag_of;
 
 // The names of the options.
 pub(crate) const AT_ONCE: &str = "at-once";
 
-const IDLE: &str = "idle";
+pub(crate) const IDLE: &str = "idle";
 
-const FOREVER: &str = "forever";
+pub(crate) const FOREVER: &str = "forever";
 
-const VERBOSE: &str = "verbose";
+pub(crate) const VERBOSE: &str = "verbose";
 
 /// After how many seconds an idle connection is closed by default.
 const DEFAULT_IDLE: u32 = 60;
@@ -35,32 +31,6 @@ pub struct ManyOptions {
     pub idle: u32,
     /// Print a line for each connection that ended, and one a minute.
     pub verbose: bool,
-}
-
-/// Makes the command `serve` with the options that have numbers, and those for many connections.
-pub(crate) fn serve_many<'a>(alloc: Global) -> Result<Command<'a>, AllocError>
-    ensures shape { IfOk result (λ c. app_of c ≡ serve_many) }
-    ensures local { IfOk result (λ c. (out-Command c).has_globals ≡ false) }
-{
-    serve_numbers(alloc)?
-        .arg(at_once(alloc))?
-        .arg(idle(alloc))?
-        .arg(flag(alloc, FOREVER, FOREVER_HELP))?
-        .arg(flag(alloc, VERBOSE, VERBOSE_HELP))
-}
-
-fn at_once<'a>(alloc: Global) -> Arg<'a>
-    ensures rule { rule_of result ≡ at_once_option }
-    ensures local { result.global ≡ false }
-{
-    number(alloc, AT_ONCE, "N", AT_ONCE_HELP, 1, 64)
-}
-
-fn idle<'a>(alloc: Global) -> Arg<'a>
-    ensures rule { rule_of result ≡ idle_option }
-    ensures local { result.global ≡ false }
-{
-    number(alloc, IDLE, "SECONDS", IDLE_HELP, 1, 3_600)
 }
 
 /// Whether none of these options is given.

@@ -1,19 +1,21 @@
 //! The command `profile`: its options, and what they ask for.
 
-ghost use Rattle.std.specs.Prelude.{◌≡◌, IfOk, IfSome, None, codes, false, option_map};
-ghost use Rattle.clap.specs.Words.{app_of, found_of, rows_of};
-ghost use Rattle.clap.specs.declared.builder.command.Command.TheViews.{out-Command};
+ghost use Rattle.std.specs.Prelude.{◌≡◌, IfSome, None, codes, option_map};
+ghost use Rattle.clap.specs.Words.{found_of, rows_of};
 ghost use Rattle.droid_desk_arguments.specs.Asking.{IsAskedBy, IsProfile, has_no_checksums};
-ghost use Rattle.droid_desk_arguments.specs.Commands.{profile_command, profile_files, profile_input};
+ghost use Rattle.droid_desk_arguments.specs.Commands.{profile_command};
+ghost use Rattle.droid_desk_options.specs.Made.{Makes};
 
 use crate::arguments::Asked;
 use crate::profile_help::{
     FOLDER_HELP, HASH_HELP, LEFT_OUT_HELP, MANIFEST_HELP, MATCH_ALL_HELP, OUTPUT_HELP,
-    OWN_REGISTRY_HELP, PROFILE_ABOUT, PROFILE_HELP, QUIET_HELP,
+    OWN_REGISTRY_HELP, PAGE_HELP, PROFILE_ABOUT, PROFILE_HELP, QUIET_HELP,
 };
+use crate::report::REPORT;
 use clap::{ArgMatches, Command};
 use droid_desk_options::{
-    FOLDER, HashKind, LIMIT, REGISTRY, flag, flag_of, folder, hash_of, limit, named, registry,
+    Builder, FOLDER, HashKind, LIMIT, REGISTRY, flag, flag_of, folder, hash_of, limit, named,
+    registry,
 };
 use std::alloc::{AllocError, Global};
 
@@ -54,6 +56,8 @@ pub struct ProfileOptions<'a> {
     pub manifest: Option<&'a str>,
     /// The path of the file for what was skipped, or `None` for no such file.
     pub skipped: Option<&'a str>,
+    /// The path of the page, or `None` for no page.
+    pub report: Option<&'a str>,
     /// Whether neither progress nor the summary is printed.
     pub quiet: bool,
 }
@@ -80,6 +84,7 @@ fn profile_options<'a>(profile: &ArgMatches<'a>) -> Option<ProfileOptions<'a>>
         return None;
     }
     let skipped = profile.get_str(SKIPPED);
+    let report = profile.get_str(REPORT);
     let quiet = flag_of(profile, QUIET);
     Some(ProfileOptions {
         folder,
@@ -90,6 +95,7 @@ fn profile_options<'a>(profile: &ArgMatches<'a>) -> Option<ProfileOptions<'a>>
         output,
         manifest,
         skipped,
+        report,
         quiet,
     })
 }
@@ -107,35 +113,18 @@ pub(crate) fn has_no_checksums(hash: HashKind, manifest: Option<&str>) -> bool
 }
 
 pub(crate) fn profile<'a>(alloc: Global) -> Result<Command<'a>, AllocError>
-    ensures shape { IfOk result (λ c. app_of c ≡ profile_command) }
-    ensures local { IfOk result (λ c. (out-Command c).has_globals ≡ false) }
+    ensures { Makes profile_command result }
 {
-    files(alloc)?
-        .arg(named(alloc, OUTPUT, "FILE", OUTPUT_HELP))?
-        .arg(named(alloc, MANIFEST, "FILE", MANIFEST_HELP))?
-        .arg(named(alloc, SKIPPED, "FILE", LEFT_OUT_HELP))?
-        .arg(flag(alloc, QUIET, QUIET_HELP))
-}
-
-/// Makes the command without what is written and printed.
-fn files<'a>(alloc: Global) -> Result<Command<'a>, AllocError>
-    ensures shape { IfOk result (λ c. app_of c ≡ profile_files) }
-    ensures local { IfOk result (λ c. (out-Command c).has_globals ≡ false) }
-{
-    input(alloc)?
-        .arg(flag(alloc, MATCH_ALL, MATCH_ALL_HELP))?
-        .arg(named(alloc, HASH, "HASH", HASH_HELP))
-}
-
-/// Makes the command with its first options.
-fn input<'a>(alloc: Global) -> Result<Command<'a>, AllocError>
-    ensures shape { IfOk result (λ c. app_of c ≡ profile_input) }
-    ensures local { IfOk result (λ c. (out-Command c).has_globals ≡ false) }
-{
-    Command::new(alloc, PROFILE)
-        .about(PROFILE_ABOUT)
-        .after_help(PROFILE_HELP)
-        .arg(folder(alloc, FOLDER_HELP))?
-        .arg(registry(alloc, OWN_REGISTRY_HELP))?
-        .arg(limit(alloc))
+    Builder::new(alloc, PROFILE, PROFILE_ABOUT, PROFILE_HELP)
+        .option(folder(alloc, FOLDER_HELP))
+        .option(registry(alloc, OWN_REGISTRY_HELP))
+        .option(limit(alloc))
+        .option(flag(alloc, MATCH_ALL, MATCH_ALL_HELP))
+        .option(named(alloc, HASH, "HASH", HASH_HELP))
+        .option(named(alloc, OUTPUT, "FILE", OUTPUT_HELP))
+        .option(named(alloc, MANIFEST, "FILE", MANIFEST_HELP))
+        .option(named(alloc, SKIPPED, "FILE", LEFT_OUT_HELP))
+        .option(named(alloc, REPORT, "PAGE", PAGE_HELP))
+        .option(flag(alloc, QUIET, QUIET_HELP))
+        .made
 }

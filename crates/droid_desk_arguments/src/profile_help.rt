@@ -22,6 +22,9 @@ pub const MANIFEST_HELP: &str =
 pub const LEFT_OUT_HELP: &str =
     "Write what was skipped to this file, as a CSV of paths and reasons, never a part of it";
 
+pub const PAGE_HELP: &str =
+    "Also write a page of the profile to this file, to look at, never a part of it";
+
 pub const QUIET_HELP: &str = "Print neither progress nor the summary";
 
 pub const PROFILE_HELP: &str = "\
@@ -34,6 +37,9 @@ written while DIR is read.
 The file of --manifest has a line for each file of the CSV: its checksum, and its path below DIR.
 Check it by `md5sum -c FILE` or, after --hash sha256, by `sha256sum -c FILE`, both run in DIR.
 
+PAGE gets the page that `droid_desk report` makes of the CSV, once everything else is written. Until
+then the CSV is also kept in memory. What is said of a FILE below is true of PAGE too.
+
 Symbolic links below DIR are never followed, and are no part of a profile. What can't be profiled has
 no row: sockets and devices; names that are not UTF-8 or that a profile can't have; a name that a
 folder lists twice; folders that can't be listed, with everything in them; files that can't be opened
@@ -41,7 +47,7 @@ or read; and files whose length changes, or that are replaced, while they are re
 each link is printed on standard error with its path and the reason, and written to the file of
 --skipped. Paths that are not UTF-8 or have control characters are printed with escapes.
 
-Standard error also has the registry, if none was named, and the progress: every ten seconds, or on a
+Standard error also has the registry with its MD5, and the progress: every ten seconds, or on a
 terminal in one line that is updated. The summary at the end counts the files identified by
 signature, by extension and not at all, mismatches, the ten most frequent formats, what was skipped
 and how many links are among that, bytes and seconds.

@@ -1,10 +1,10 @@
 //! The command `report`: its options, and what they ask for.
 
-ghost use Rattle.std.specs.Prelude.{◌≡◌, IfOk, IfSome, codes, false};
-ghost use Rattle.clap.specs.Words.{app_of, found_of, rows_of};
-ghost use Rattle.clap.specs.declared.builder.command.Command.TheViews.{out-Command};
+ghost use Rattle.std.specs.Prelude.{IfSome, codes};
+ghost use Rattle.clap.specs.Words.{found_of, rows_of};
 ghost use Rattle.droid_desk_arguments.specs.Asking.{IsAskedBy, IsReport};
 ghost use Rattle.droid_desk_arguments.specs.Commands.{report_command};
+ghost use Rattle.droid_desk_options.specs.Made.{Makes};
 
 use crate::arguments::Asked;
 use crate::profile::{OUTPUT, PROFILE};
@@ -12,10 +12,10 @@ use crate::report_help::{
     PAGE_OUTPUT_HELP, PROFILE_FILE_HELP, REPORT_ABOUT, REPORT_HELP, TITLE_HELP,
 };
 use clap::{ArgMatches, Command};
-use droid_desk_options::{named, word};
+use droid_desk_options::{Builder, named, word};
 use std::alloc::{AllocError, Global};
 
-// The names of the command and of its option.
+// The names of the command, which is also an option of other commands, and of its option.
 pub(crate) const REPORT: &str = "report";
 
 const TITLE: &str = "title";
@@ -52,13 +52,11 @@ fn report_options<'a>(report: &ArgMatches<'a>) -> Option<ReportOptions<'a>>
 }
 
 pub(crate) fn report<'a>(alloc: Global) -> Result<Command<'a>, AllocError>
-    ensures shape { IfOk result (λ c. app_of c ≡ report_command) }
-    ensures local { IfOk result (λ c. (out-Command c).has_globals ≡ false) }
+    ensures { Makes report_command result }
 {
-    Command::new(alloc, REPORT)
-        .about(REPORT_ABOUT)
-        .after_help(REPORT_HELP)
-        .arg(word(alloc, PROFILE, "PROFILE", PROFILE_FILE_HELP))?
-        .arg(named(alloc, TITLE, "TEXT", TITLE_HELP))?
-        .arg(named(alloc, OUTPUT, "PAGE", PAGE_OUTPUT_HELP))
+    Builder::new(alloc, REPORT, REPORT_ABOUT, REPORT_HELP)
+        .option(word(alloc, PROFILE, "PROFILE", PROFILE_FILE_HELP))
+        .option(named(alloc, TITLE, "TEXT", TITLE_HELP))
+        .option(named(alloc, OUTPUT, "PAGE", PAGE_OUTPUT_HELP))
+        .made
 }

@@ -3,8 +3,12 @@
 pub const RUN_ABOUT: &str =
     "Read request frames from standard input, and write a reply frame for each to standard output";
 
+pub const JOURNAL_HELP: &str =
+    "Append each accepted request to this file, and start with those that it has (default: start empty)";
+
 pub const RUN_HELP: &str = "\
-Each frame is one request to a service that starts empty. Numbers are big-endian:
+Each frame is one request to a service that starts empty, or with what --journal has. Numbers are
+big-endian:
 
   version 1 or 2, 1 byte | kind, 1 byte | client, 4 bytes | number, 8 bytes |
   length of the body, 4 bytes, at most 1048640 in version 1 and 4194368 in version 2 | body
@@ -14,13 +18,21 @@ client and number of its request, and is written before the next frame is read. 
 not a request is answered `Malformed`, and the stream goes on. After 1,000,000 frames no more are
 read.
 
+With --journal each accepted request is appended to the journal with its reply, and the reply is sent
+only once both are on the disk. So nothing that was answered is lost if the service is killed: start
+it again with the journal and the registry. A journal that is not there is made. Behind its last whole
+record a crash may have left a part of one: this is moved to FILE.torn, and standard error says so.
+Only one process at a time can use a journal.
+
 Exit status:
 
   0  the input ended between frames, or 1,000,000 frames were answered
   2  the command line is wrong
-  3  the registry file could not be opened or read, or is not a registry
+  3  the registry file could not be opened or read, or is not a registry; or the journal is damaged,
+     is none, or was made with another registry or version of droid_desk (Journal at N)
   4  a frame could not be read, or a reply not be written: Truncated, BadVersion, TooLong, Memory,
-     Read or Write; all frames before were answered
+     Read or Write; the journal could not be opened, read or written (Journal); or another process has
+     it open (Journal in use). All frames before were answered
   6  there was no memory to start: for the command line or the service
 
 If several apply: the first of 2, 3, 6, 4. With 3, 4 and 6 standard error says what happened and
@@ -50,8 +62,9 @@ pub const VERBOSE_HELP: &str =
 pub const SERVE_HELP: &str = "\
 The service prints `listening P` to standard output once it listens. It answers each connection as
 `droid_desk run` answers its input, up to 1,000,000 frames. The next connection finds all that the
-ones before have sent; when the service ends, all is lost. Failed connections aren't logged and don't
-stop it: a client that lost its connection sends its requests again under the same numbers.
+ones before have sent. When the service ends, all is lost, unless it has a journal: `droid_desk run
+--help` says how. Failed connections aren't logged and don't stop it: a client that lost its
+connection sends its requests again under the same numbers.
 
 With --at-once no client waits for another's silence. Replies come in order on each connection; the
 requests of all are handled one after another, up to 16 of one before the next one's turn. A further
@@ -62,9 +75,11 @@ Exit status:
 
   0  that many connections were served, whatever ended each of them
   2  the command line is wrong
-  3  the registry file could not be opened or read, or is not a registry
-  4  the port is not free, or a connection could not be accepted (Socket); or `listening P` could
-     not be written (Write)
+  3  the registry file could not be opened or read, or is not a registry; or the journal is damaged,
+     is none, or was made with another registry or version of droid_desk (Journal at N)
+  4  the port is not free, or a connection could not be accepted (Socket); `listening P` could not be
+     written (Write); the journal could not be opened, read or written (Journal); or another process
+     has it open (Journal in use)
   6  there was no memory to start: for the command line or the service
 
 If several apply: the first of 2, 3, 6, 4. With 3, 4 and 6 standard error says what happened and
@@ -72,7 +87,7 @@ what to do.
 
 Example:
 
-  droid_desk serve --port 4711 --everyday --connections 100";
+  droid_desk serve --port 4711 --everyday --journal ingest.journal --connections 100";
 
 pub const SEND_ABOUT: &str =
     "Send requests as lines from standard input to a running service, and write a reply line for each";

@@ -1,23 +1,24 @@
 //! The command `submit`: its options, and what they ask for.
 
-ghost use Rattle.std.specs.Prelude.{◌≡◌, IfOk, IfSome, codes, false};
-ghost use Rattle.clap.specs.Words.{app_of, found_of, rows_of, rule_of};
-ghost use Rattle.clap.specs.declared.builder.command.Command.TheViews.{out-Command};
+ghost use Rattle.std.specs.Prelude.{◌≡◌, IfSome, codes, false};
+ghost use Rattle.clap.specs.Words.{found_of, rows_of, rule_of};
 ghost use Rattle.droid_desk_arguments.specs.Asking.{IsAskedBy, IsSentTo, IsSubmit};
-ghost use Rattle.droid_desk_arguments.specs.Commands.{name_option, piece_size_option, submit_command, submit_connection, submit_files, submit_input, timeout_option, wait_option};
+ghost use Rattle.droid_desk_arguments.specs.Commands.{name_option, submit_command};
+ghost use Rattle.droid_desk_options.specs.Made.{Makes};
 
 use crate::arguments::Asked;
 use crate::profile::{DEFAULT_LIMIT, HASH, MATCH_ALL, QUIET, SKIPPED};
 use crate::profile_help::{HASH_HELP, MATCH_ALL_HELP, QUIET_HELP};
+use crate::report::REPORT;
 use crate::submit_help::{
     EXPORT_HELP, NAME_HELP, PIECE_SIZE_HELP, SKIPPED_HELP, SUBMIT_ABOUT, SUBMIT_CLIENT_HELP,
-    SUBMIT_FOLDER_HELP, SUBMIT_HELP, SUBMIT_PORT_HELP, TIMEOUT_HELP, WAIT_HELP,
+    SUBMIT_FOLDER_HELP, SUBMIT_HELP, SUBMIT_PAGE_HELP, SUBMIT_PORT_HELP, TIMEOUT_HELP, WAIT_HELP,
 };
 use clap::builder::ValueParser;
 use clap::{Arg, ArgMatches, Command};
 use droid_desk_options::{
-    CLIENT, FOLDER, HashKind, LIMIT, PORT, client, flag, flag_of, folder, hash_of, limit, named,
-    number, port,
+    Builder, CLIENT, FOLDER, HashKind, LIMIT, PORT, client, flag, flag_of, folder, hash_of, limit,
+    named, number, port,
 };
 use std::alloc::{AllocError, Global};
 
@@ -77,6 +78,8 @@ pub struct SubmitOptions<'a> {
     pub export: Option<&'a str>,
     /// The path of the file for what was skipped, or `None` for no such file.
     pub skipped: Option<&'a str>,
+    /// The path of the page, or `None` for no page.
+    pub report: Option<&'a str>,
     /// Whether neither progress nor the summary is printed.
     pub quiet: bool,
 }
@@ -101,6 +104,7 @@ fn submit_options<'a>(submit: &ArgMatches<'a>) -> Option<SubmitOptions<'a>>
     let hash = hash_of(hash_word)?;
     let export = submit.get_str(EXPORT);
     let skipped = submit.get_str(SKIPPED);
+    let report = submit.get_str(REPORT);
     let quiet = flag_of(submit, QUIET);
     Some(SubmitOptions {
         folder,
@@ -112,6 +116,7 @@ fn submit_options<'a>(submit: &ArgMatches<'a>) -> Option<SubmitOptions<'a>>
         hash,
         export,
         skipped,
+        report,
         quiet,
     })
 }
@@ -132,49 +137,24 @@ fn destination_of(submit: &ArgMatches<'_>) -> Option<Destination>
 }
 
 pub(crate) fn submit<'a>(alloc: Global) -> Result<Command<'a>, AllocError>
-    ensures shape { IfOk result (λ c. app_of c ≡ submit_command) }
-    ensures local { IfOk result (λ c. (out-Command c).has_globals ≡ false) }
+    ensures { Makes submit_command result }
 {
-    files(alloc)?
-        .arg(named(alloc, EXPORT, "FILE", EXPORT_HELP))?
-        .arg(named(alloc, SKIPPED, "FILE", SKIPPED_HELP))?
-        .arg(flag(alloc, QUIET, QUIET_HELP))
-}
-
-/// Makes the command without what is written and printed.
-fn files<'a>(alloc: Global) -> Result<Command<'a>, AllocError>
-    ensures shape { IfOk result (λ c. app_of c ≡ submit_files) }
-    ensures local { IfOk result (λ c. (out-Command c).has_globals ≡ false) }
-{
-    connection(alloc)?
-        .arg(piece_size(alloc))?
-        .arg(limit(alloc))?
-        .arg(flag(alloc, MATCH_ALL, MATCH_ALL_HELP))?
-        .arg(named(alloc, HASH, "HASH", HASH_HELP))
-}
-
-/// Makes the command with what names the submission, and how long it waits.
-fn connection<'a>(alloc: Global) -> Result<Command<'a>, AllocError>
-    ensures shape { IfOk result (λ c. app_of c ≡ submit_connection) }
-    ensures local { IfOk result (λ c. (out-Command c).has_globals ≡ false) }
-{
-    input(alloc)?
-        .arg(name(alloc))?
-        .arg(wait(alloc))?
-        .arg(timeout(alloc))
-}
-
-/// Makes the command with its first options.
-fn input<'a>(alloc: Global) -> Result<Command<'a>, AllocError>
-    ensures shape { IfOk result (λ c. app_of c ≡ submit_input) }
-    ensures local { IfOk result (λ c. (out-Command c).has_globals ≡ false) }
-{
-    Command::new(alloc, SUBMIT)
-        .about(SUBMIT_ABOUT)
-        .after_help(SUBMIT_HELP)
-        .arg(folder(alloc, SUBMIT_FOLDER_HELP))?
-        .arg(port(alloc, SUBMIT_PORT_HELP))?
-        .arg(client(alloc, SUBMIT_CLIENT_HELP))
+    Builder::new(alloc, SUBMIT, SUBMIT_ABOUT, SUBMIT_HELP)
+        .option(folder(alloc, SUBMIT_FOLDER_HELP))
+        .option(port(alloc, SUBMIT_PORT_HELP))
+        .option(client(alloc, SUBMIT_CLIENT_HELP))
+        .option(name(alloc))
+        .option(number(alloc, WAIT, "SECONDS", WAIT_HELP, 0, 86_400))
+        .option(number(alloc, TIMEOUT, "SECONDS", TIMEOUT_HELP, 1, 86_400))
+        .option(number(alloc, PIECE_SIZE, "BYTES", PIECE_SIZE_HELP, 1, 4_194_304))
+        .option(limit(alloc))
+        .option(flag(alloc, MATCH_ALL, MATCH_ALL_HELP))
+        .option(named(alloc, HASH, "HASH", HASH_HELP))
+        .option(named(alloc, EXPORT, "FILE", EXPORT_HELP))
+        .option(named(alloc, SKIPPED, "FILE", SKIPPED_HELP))
+        .option(named(alloc, REPORT, "PAGE", SUBMIT_PAGE_HELP))
+        .option(flag(alloc, QUIET, QUIET_HELP))
+        .made
 }
 
 fn name<'a>(alloc: Global) -> Arg<'a>
@@ -182,25 +162,4 @@ fn name<'a>(alloc: Global) -> Arg<'a>
     ensures local { result.global ≡ false }
 {
     named(alloc, NAME, "TEXT", NAME_HELP).value_parser(ValueParser::NonEmptyString)
-}
-
-fn wait<'a>(alloc: Global) -> Arg<'a>
-    ensures rule { rule_of result ≡ wait_option }
-    ensures local { result.global ≡ false }
-{
-    number(alloc, WAIT, "SECONDS", WAIT_HELP, 0, 86_400)
-}
-
-fn timeout<'a>(alloc: Global) -> Arg<'a>
-    ensures rule { rule_of result ≡ timeout_option }
-    ensures local { result.global ≡ false }
-{
-    number(alloc, TIMEOUT, "SECONDS", TIMEOUT_HELP, 1, 86_400)
-}
-
-fn piece_size<'a>(alloc: Global) -> Arg<'a>
-    ensures rule { rule_of result ≡ piece_size_option }
-    ensures local { result.global ≡ false }
-{
-    number(alloc, PIECE_SIZE, "BYTES", PIECE_SIZE_HELP, 1, 4_194_304)
 }

@@ -29,6 +29,9 @@ pub const EXPORT_HELP: &str = "At the end write the profile's CSV to this file, 
 pub const SKIPPED_HELP: &str =
     "At the end write what was skipped to this file, as a CSV of paths and reasons, never a part of it";
 
+pub const SUBMIT_PAGE_HELP: &str =
+    "At the end write a page of the profile to this file, to look at, never a part of it";
+
 pub const SUBMIT_HELP: &str = "\
 The folder becomes one profile of the service. You can give the same command again after any
 interruption, and over a folder in any state: what is in the profile is not sent again, finished
@@ -49,8 +52,9 @@ that the service still has the profile. It sends up to sixteen requests ahead of
 
 At the end the client reads the profile's CSV, even without --export, and compares it with the
 folder. Standard output has the profile's number. Standard error has what was skipped, what differs,
-what is in the profile and not in the folder, and the progress, as by `profile`. Each FILE is
-complete, or as it was before; it must lie outside DIR.
+what is in the profile and not in the folder, and the progress, as by `profile`. PAGE gets the page
+that `droid_desk report` makes of the CSV. Each FILE and PAGE is complete, or as it was before, has a
+path of its own, and must lie outside DIR.
 
 Exit status:
 
@@ -70,8 +74,9 @@ Exit status:
        Bytes      the files are too long together to be counted
        Folders    new folders appeared meanwhile: run the command again
        Disturbed  other requests came between the parts of the CSV, a hundred times
-       Write      a FILE could not be written
-       Output     a FILE lies inside DIR, or could not be created or replaced
+       Write      a FILE or PAGE could not be written
+       Output     a FILE or PAGE lies inside DIR, is another one of them, or could not be created or
+                  replaced
        Memory     memory ran out, here or in the service
      or by another refusal of a request, such as NoSuchProfile, NoSuchNode, NotAFolder, NumberReused,
      Store or Malformed; `droid_desk script --help` lists all refusals

@@ -1,10 +1,10 @@
 //! The command `verify`: its options, and what they ask for.
 
-ghost use Rattle.std.specs.Prelude.{◌≡◌, IfOk, IfSome, codes, false, option_map};
-ghost use Rattle.clap.specs.Words.{app_of, found_of, rows_of, rule_of};
-ghost use Rattle.clap.specs.declared.builder.command.Command.TheViews.{out-Command};
+ghost use Rattle.std.specs.Prelude.{◌≡◌, IfSome, codes, false, option_map};
+ghost use Rattle.clap.specs.Words.{found_of, rows_of, rule_of};
 ghost use Rattle.droid_desk_arguments.specs.Asking.{IsAskedBy, IsVerify, names_two, reads_nothing};
-ghost use Rattle.droid_desk_arguments.specs.Commands.{against_option, verify_command, verify_files, verify_input};
+ghost use Rattle.droid_desk_arguments.specs.Commands.{against_option, verify_command};
+ghost use Rattle.droid_desk_options.specs.Made.{Makes};
 
 use crate::arguments::{Asked, TWO_REGISTRIES};
 use crate::profile::{DEFAULT_LIMIT, MATCH_ALL, QUIET};
@@ -15,7 +15,7 @@ use crate::verify_help::{
 };
 use clap::{Arg, ArgMatches, Command};
 use droid_desk_options::{
-    EVERYDAY, FOLDER, LIMIT, REGISTRY, flag, flag_of, folder, limit, named, registry,
+    Builder, EVERYDAY, FOLDER, LIMIT, REGISTRY, flag, flag_of, folder, limit, named, registry,
 };
 use std::alloc::{AllocError, Global};
 
@@ -119,37 +119,19 @@ fn names_two(everyday: bool, registry: Option<&str>) -> bool
 }
 
 pub(crate) fn verify<'a>(alloc: Global) -> Result<Command<'a>, AllocError>
-    ensures shape { IfOk result (λ c. app_of c ≡ verify_command) }
-    ensures local { IfOk result (λ c. (out-Command c).has_globals ≡ false) }
+    ensures { Makes verify_command result }
 {
-    files(alloc)?
-        .arg(limit(alloc))?
-        .arg(flag(alloc, MATCH_ALL, MATCH_ALL_HELP))?
-        .arg(flag(alloc, QUIET, QUIET_HELP))
-}
-
-/// Makes the command without the limit and what is printed.
-fn files<'a>(alloc: Global) -> Result<Command<'a>, AllocError>
-    ensures shape { IfOk result (λ c. app_of c ≡ verify_files) }
-    ensures local { IfOk result (λ c. (out-Command c).has_globals ≡ false) }
-{
-    input(alloc)?
-        .arg(flag(alloc, IDENTIFY, IDENTIFY_HELP))?
-        .arg(registry(alloc, OWN_REGISTRY_HELP))?
-        .arg(flag(alloc, EVERYDAY, OWN_EVERYDAY_HELP))
-}
-
-/// Makes the command with its first options.
-fn input<'a>(alloc: Global) -> Result<Command<'a>, AllocError>
-    ensures shape { IfOk result (λ c. app_of c ≡ verify_input) }
-    ensures local { IfOk result (λ c. (out-Command c).has_globals ≡ false) }
-{
-    Command::new(alloc, VERIFY)
-        .about(VERIFY_ABOUT)
-        .after_help(VERIFY_HELP)
-        .arg(folder(alloc, VERIFY_FOLDER_HELP))?
-        .arg(against(alloc))?
-        .arg(flag(alloc, QUICK, QUICK_HELP))
+    Builder::new(alloc, VERIFY, VERIFY_ABOUT, VERIFY_HELP)
+        .option(folder(alloc, VERIFY_FOLDER_HELP))
+        .option(against(alloc))
+        .option(flag(alloc, QUICK, QUICK_HELP))
+        .option(flag(alloc, IDENTIFY, IDENTIFY_HELP))
+        .option(registry(alloc, OWN_REGISTRY_HELP))
+        .option(flag(alloc, EVERYDAY, OWN_EVERYDAY_HELP))
+        .option(limit(alloc))
+        .option(flag(alloc, MATCH_ALL, MATCH_ALL_HELP))
+        .option(flag(alloc, QUIET, QUIET_HELP))
+        .made
 }
 
 fn against<'a>(alloc: Global) -> Arg<'a>

@@ -4,6 +4,7 @@ pub use Rattle.droid_fixity_formats.specs.declared as format_types
 pub use Rattle.droid_fixity_forms.specs.ListForms
 pub use Rattle.droid_fixity_forms.specs.Listings
 pub use Rattle.droid_fixity_forms.specs.declared as list_forms
+pub use Rattle.droid_fixity_forms.specs.manifest_types as manifest_types
 pub use Rattle.droid_tree.specs.Heard
 pub use Rattle.droid_tree.specs.Observation
 pub use Rattle.droid_desk_profile.specs.Registry

@@ -13,8 +13,9 @@ mod summary;
 mod tree_check;
 
 pub use droid_desk_profile::{
-    Folder, NO_MEMORY, Options, Profiler, Recorder, Registry, Reporter, Shown, SkippedEntry,
-    System, Verbosity, is_folder, print_no_folder, profile_folder,
+    Folder, NO_MEMORY, NamedRegistry, Options, Profiler, Recorder, Registry, RegistryFault,
+    RegistryLine, Reporter, Shown, SkippedEntry, System, Verbosity, is_folder, print_no_folder,
+    profile_folder,
 };
 pub use droid_fixity_formats::{
     FileFormats, FormatChange, FormatRow, format_changes, read_formats,

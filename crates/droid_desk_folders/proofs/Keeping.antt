@@ -6,9 +6,9 @@ use Rattle.droid_tree.specs.Observation.{GoesOver, Observation}
 use Rattle.droid_tree_upload.specs.Calls.{Call}
 use Rattle.droid_tree_upload.specs.Deeds.{Called, Deed, Does, Informed, Observed}
 use Rattle.droid_tree_upload.specs.declared.upload.Upload.{Upload}
-use Rattle.droid_desk_outputs.specs.SkippedPaths.{Records}
+use Rattle.droid_desk_report.specs.SkippedPaths.{Records}
 use Rattle.droid_desk_folders.specs.SkippedEntries.{skipped_by}
-use Rattle.droid_desk_outputs.specs.declared.recorder.Recorder.{Recorder}
+use Rattle.droid_desk_report.specs.outputs_types.recorder.Recorder.{Recorder}
 
 -- an entry more or none
 pub nothing_more : {X : Type 0} (items : List X) → items ≡ items ++ []

@@ -15,12 +15,12 @@ use Rattle.droid_tree_submission.specs.declared.tree_submission.Options.{Options
 use Rattle.droid_tree_submission.specs.declared.tree_submission.Submitted.{Submitted}
 use Rattle.droid_tree_upload.specs.declared.upload.Upload.{Upload}
 use Rattle.droid_desk_folders.specs.ProfileComparisons.{AsksParts, Compares, ReadsExport}
-use Rattle.droid_desk_outputs.specs.SkippedPaths.{Records}
+use Rattle.droid_desk_report.specs.SkippedPaths.{Records}
 use Rattle.droid_desk_folders.specs.declared.checked_submission.CommandFault.{CommandFault}
 use Rattle.droid_desk_folders.specs.declared.checked_submission.CommandFault.TheVariants.{Uncounted, Unsubmitted, Uncompared}
 use Rattle.droid_desk_folders.specs.declared.profile_comparison.Compared.{Compared}
 use Rattle.droid_desk_folders.specs.declared.profile_comparison.ComparisonFault.{ComparisonFault}
-use Rattle.droid_desk_outputs.specs.declared.recorder.Recorder.{Recorder}
+use Rattle.droid_desk_report.specs.outputs_types.recorder.Recorder.{Recorder}
 
 module _ {T C W : Type 0} (observes : T → Observation → T → Type 0) (does : C → Event → C → Type 0) (expects : W → Counted → W → Type 0) (hears : W → Heard → W → Type 0) (options : Options) (limit : ℕ) where
   -- the tree was counted, and has no more folders and files than the limit; the watcher learned how much there is

@@ -1,15 +1,15 @@
 -- Which differences between a profile and a folder are reported, and in which words (this project's own).
 use Rattle.std.specs.Prelude.{ℕ, Bool, true, false, not, List, [], ◌∷◌, ◌++◌, codes, filter}
-use Rattle.droid_desk_outputs.specs.Causes.{shown_text}
+use Rattle.droid_desk_report.specs.Causes.{shown_text}
 use Rattle.droid_fixity.specs.Reports.{path_at}
 use Rattle.droid_fixity.specs.declared.difference.Difference.{Difference}
 use Rattle.droid_fixity.specs.declared.difference.Difference.TheVariants.{Changed, Missing, New, Moved, Touched}
 use Rattle.droid_fixity.specs.declared.item.Changes.{Changes}
 use Rattle.droid_fixity.specs.declared.item.Item.{Item}
 use Rattle.droid_fixity_profile.specs.declared.seen.Seen.{Seen}
-use Rattle.droid_desk_outputs.specs.SkippedPaths.{is_explained}
+use Rattle.droid_desk_report.specs.SkippedPaths.{is_explained}
 use Rattle.droid_desk_folders.specs.declared.difference_line.DifferenceLine.{DifferenceLine}
-use Rattle.droid_desk_outputs.specs.declared.skipped_entry.SkippedEntry.{SkippedEntry}
+use Rattle.droid_desk_report.specs.outputs_types.skipped_entry.SkippedEntry.{SkippedEntry}
 
 -- the path that a difference is reported at: the one in the folder, if the folder has it
 abbrev pub path_reported : List Item → List Item → Difference → List ℕ

@@ -14,7 +14,7 @@ use Rattle.droid_tree_submission.specs.declared.tree_submission.Submitted.{Submi
 use Rattle.droid_desk_folders.specs.DifferenceLines.{reported_in}
 use Rattle.droid_desk_folders.specs.SubmittedItems.{items_of_nodes}
 use Rattle.droid_desk_folders.specs.declared.profile_comparison.Compared.{Compared}
-use Rattle.droid_desk_outputs.specs.declared.skipped_entry.SkippedEntry.{SkippedEntry}
+use Rattle.droid_desk_report.specs.outputs_types.skipped_entry.SkippedEntry.{SkippedEntry}
 
 -- nothing was skipped, and there is no difference
 abbrev pub is_whole : Bool → Seen → Bool

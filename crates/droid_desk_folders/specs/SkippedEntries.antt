@@ -1,8 +1,8 @@
 -- What a submission skipped (this project's own).
 use Rattle.std.specs.Prelude.{List, []}
 use Rattle.droid_tree_upload.specs.Deeds.{Deed, Informed}
-use Rattle.droid_desk_outputs.specs.SkippedTexts.{skipped_in}
-use Rattle.droid_desk_outputs.specs.declared.skipped_entry.SkippedEntry.{SkippedEntry}
+use Rattle.droid_desk_report.specs.SkippedTexts.{skipped_in}
+use Rattle.droid_desk_report.specs.outputs_types.skipped_entry.SkippedEntry.{SkippedEntry}
 
 -- the skipped entry that a deed reported, if it did
 abbrev pub skipped_by : Deed → List SkippedEntry

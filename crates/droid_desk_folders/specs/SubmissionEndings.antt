@@ -1,23 +1,23 @@
 -- How the submission of a folder ends (this project's own).
-use Rattle.std.specs.Prelude.{ℕ, Bool, true, false, List, Option, Some, None, codes}
+use Rattle.std.specs.Prelude.{ℕ, Bool, true, false, List, Option, Some, None, Result, Ok, Err, codes}
 use Rattle.droid_frame.specs.types.refusal.Limit.TheVariants as limits
 use Rattle.droid_frame.specs.types.refusal.Refusal.{Refusal}
 use Rattle.droid_frame.specs.types.refusal.Refusal.TheVariants as refusals
 use Rattle.droid_tree_connection.specs.declared.transfer_fault.TransferFault.{TransferFault}
 use Rattle.droid_tree_connection.specs.declared.transfer_fault.TransferFault.TheVariants as sending
-use Rattle.droid_tree_disk.specs.declared.output.OutputFault.{OutputFault}
-use Rattle.droid_tree_disk.specs.declared.output.OutputFault.TheVariants as outputs
 use Rattle.droid_tree_remote.specs.declared.remote_fault.RemoteFault.{RemoteFault}
 use Rattle.droid_tree_remote.specs.declared.remote_fault.RemoteFault.TheVariants as submitting
 use Rattle.droid_tree_upload.specs.declared.submission_fault.SubmissionFault.{SubmissionFault}
 use Rattle.droid_tree_upload.specs.declared.submission_fault.SubmissionFault.TheVariants as walking
-use Rattle.droid_desk_outputs.specs.Faults.{walk_fault_text}
+use Rattle.droid_desk_report.specs.Endings.{output_fault_text, page_fault_text}
+use Rattle.droid_desk_report.specs.Faults.{walk_fault_text}
+use Rattle.droid_desk_report.specs.declared.page_fault.PageFault.{PageFault}
 use Rattle.droid_desk_folders.specs.declared.check_fault.CheckFault.{CheckFault}
 use Rattle.droid_desk_folders.specs.declared.check_fault.CheckFault.TheVariants as checking
 use Rattle.droid_desk_folders.specs.declared.profile_comparison.ComparisonFault.{ComparisonFault}
 use Rattle.droid_desk_folders.specs.declared.profile_comparison.ComparisonFault.TheVariants as comparing
 use Rattle.droid_desk_folders.specs.declared.submission_ending.SubmissionEnding.{SubmissionEnding}
-use Rattle.droid_desk_folders.specs.declared.submission_ending.SubmissionEnding.TheVariants.{Whole, Partly, NoFolder, NoMemory, InFolder, NoOutput, Unwritten, NoConnection, Uncounted, Unsubmitted, OtherOptions, NoExport, Disturbed, Unchecked}
+use Rattle.droid_desk_folders.specs.declared.submission_ending.SubmissionEnding.TheVariants.{Whole, Partly, NoFolder, NoMemory, InFolder, SameFile, NoOutput, Unwritten, NoConnection, Uncounted, Unsubmitted, OtherOptions, NoExport, Disturbed, Unchecked, NoPage}
 
 -- the exit status
 abbrev pub status_of : SubmissionEnding → ℕ
@@ -29,6 +29,11 @@ status_of _ = 4
 abbrev pub ending_of : Bool → SubmissionEnding
 ending_of true = Whole
 ending_of false = Partly
+
+-- after the page
+abbrev pub with_page : {V : Type 0} → SubmissionEnding → Result V PageFault → SubmissionEnding
+with_page ending (Ok value) = ending
+with_page ending (Err fault) = NoPage fault
 
 -- the ending of a submission whose profile could not be compared
 abbrev pub uncompared : ComparisonFault → SubmissionEnding
@@ -89,10 +94,6 @@ check_text checking.NoProfile = codes "Reply"
 check_text checking.SamePath = codes "Reply"
 check_text checking.Moment = codes "Reply"
 
-abbrev pub output_text : OutputFault → List ℕ
-output_text outputs.Memory = codes "Memory"
-output_text outputs.Refused = codes "Output"
-
 -- the name of the fault, if the ending is one
 abbrev pub fault_text : SubmissionEnding → Option (List ℕ)
 fault_text Whole = None
@@ -100,7 +101,8 @@ fault_text Partly = None
 fault_text NoFolder = Some (codes "Folder")
 fault_text NoMemory = Some (codes "Memory")
 fault_text (InFolder file) = Some (codes "Output")
-fault_text (NoOutput file fault) = Some (output_text fault)
+fault_text (SameFile file) = Some (codes "Output")
+fault_text (NoOutput file fault) = Some (output_fault_text fault)
 fault_text (Unwritten file) = Some (codes "Write")
 fault_text (NoConnection cause) = Some (codes "Socket")
 fault_text (Uncounted fault) = Some (walk_fault_text fault)
@@ -109,3 +111,4 @@ fault_text (OtherOptions begun) = Some (codes "Options")
 fault_text (NoExport fault) = Some (transfer_text fault)
 fault_text Disturbed = Some (codes "Disturbed")
 fault_text (Unchecked fault) = Some (check_text fault)
+fault_text (NoPage fault) = Some (page_fault_text fault)

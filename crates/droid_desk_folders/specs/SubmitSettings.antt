@@ -3,7 +3,7 @@ use Rattle.std.specs.Prelude.{ℕ, List, Option, Some, None}
 use Rattle.droid_desk_arguments.specs.declared.submit.Destination.{Destination}
 use Rattle.droid_desk_arguments.specs.declared.submit.SubmitOptions.{SubmitOptions}
 use Rattle.droid_desk_folders.specs.declared.loopback.LoopbackSettings.{LoopbackSettings}
-use Rattle.droid_desk_outputs.specs.progress_types.verbosity.Verbosity.{Verbosity}
+use Rattle.droid_desk_report.specs.progress_types.verbosity.Verbosity.{Verbosity}
 use Rattle.droid_tree_submission.specs.declared.tree_submission.Options.{Options}
 
 -- how the tree is submitted

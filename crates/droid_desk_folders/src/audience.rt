@@ -1,9 +1,9 @@
 //! Watchers that hear how much there is before a walk begins.
 
 ghost use Rattle.droid_tree.specs.declared.tree_size.Counted.{Counted};
-ghost use Rattle.droid_desk_outputs.specs.Reporters.{ReporterExpects};
+ghost use Rattle.droid_desk_report.specs.Reporters.{ReporterExpects};
 
-use droid_desk_outputs::Reporter;
+use droid_desk_report::Reporter;
 use droid_tree::{Counted, Watcher};
 use std::time::Clock;
 

@@ -8,7 +8,7 @@ ghost use Rattle.droid_desk_folders.specs.ProfileComparisons.{AsksParts, Compare
 use crate::audience::Audience;
 use crate::check_fault::CheckFault;
 use crate::profile_comparison::{Compared, ComparisonFault, compare_with, read_export};
-use droid_desk_outputs::Recorder;
+use droid_desk_report::Recorder;
 use droid_tree::{Tree, WalkFault, count};
 use droid_tree_remote::{Connection, Options, RemoteFault, Sender, Submitted, Upload, submit};
 

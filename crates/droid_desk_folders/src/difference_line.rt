@@ -4,7 +4,7 @@ ghost use Rattle.std.specs.Prelude.{◌≡◌, Some};
 ghost use Rattle.droid_fixity.specs.Reports.{path_at};
 ghost use Rattle.droid_desk_folders.specs.DifferenceLines.{line_text, part_text, path_reported, words_after, words_before};
 
-use droid_desk_outputs::Shown;
+use droid_desk_report::Shown;
 use droid_fixity::{Changes, Difference, Item};
 use std::fmt::{self, Display, Formatter, Write};
 

@@ -6,8 +6,8 @@ ghost use Rattle.droid_tree.specs.Observation.{GoesOver};
 ghost use Rattle.droid_tree_upload.specs.Deeds.{Deed, Does};
 ghost use Rattle.droid_tree_upload.specs.declared.upload.Upload.{Upload};
 ghost use Rattle.droid_desk_folders.specs.SkippedEntries.{skipped_by};
-ghost use Rattle.droid_desk_outputs.specs.SkippedPaths.{Records};
-ghost use Rattle.droid_desk_outputs.specs.declared.recorder.Recorder.{Recorder};
+ghost use Rattle.droid_desk_report.specs.SkippedPaths.{Records};
+ghost use Rattle.droid_desk_report.specs.outputs_types.recorder.Recorder.{Recorder};
 
 use droid_tree::{Tree, Watcher};
 use droid_tree_upload::Client;

@@ -1,5 +1,5 @@
 //! The command `submit`: sends a folder of this machine to a service on a port, and compares the service's profile with
-//! it.
+//! it. The crate passes on the command `report`.
 #![tactic(auto)]
 
 mod audience;
@@ -23,6 +23,7 @@ pub use audience::Audience;
 pub use begun_options::BegunOptions;
 pub use check_fault::CheckFault;
 pub use checked_submission::{CommandFault, submit_and_check};
+pub use droid_desk_report::{ReportEnding, report_profile};
 pub use profile_comparison::{Compared, ComparisonFault};
 pub use submission::submit_folder;
 pub use submission_ending::{OutputFile, SubmissionEnding};

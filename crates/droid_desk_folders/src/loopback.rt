@@ -3,7 +3,7 @@
 ghost use Rattle.std.specs.Prelude.{◌≡◌};
 ghost use Rattle.droid_desk_folders.specs.Waits.{OpensOne, WaitsOn, is_over, next_pause};
 
-use droid_desk_outputs::Verbosity;
+use droid_desk_report::Verbosity;
 use droid_frame::Noted;
 use droid_tree_connection::{Broken, Open};
 use std::io::{self, ErrorKind};

@@ -2,20 +2,46 @@
 
 use crate::submission_ending::{OutputFile, SubmissionEnding};
 use droid_desk_arguments::SubmitOptions;
-use droid_desk_outputs::{SkippedEntry, absolute_path, folder_of, lies_in, skipped_csv};
+use droid_desk_report::{
+    PageFault, SkippedEntry, absolute_path, folder_of, is_same_place, lies_in, name_of, page_now,
+    put_page, skipped_csv,
+};
 use droid_frame::{WriteState, write_all};
 use droid_tree_disk::{Output, OutputFault};
 use std::fs::{File, Files};
+use std::time::Clock;
 
-/// Checks that the files can be created, and that none would lie in the folder, whose absolute path this is.
+/// Checks that the files can be created, that no two are the same, and that none would lie in the folder, whose absolute
+/// path this is.
 pub(crate) fn see_outputs<R: Files<File = File> + AllocGlobal>(
     rt: &R,
     options: SubmitOptions<'_>,
     absolute: &str,
 ) -> Result<(), SubmissionEnding> {
+    see_other(rt, options.export, options.skipped, OutputFile::Skipped)?;
+    see_other(rt, options.export, options.report, OutputFile::Page)?;
+    see_other(rt, options.skipped, options.report, OutputFile::Page)?;
     see_place(rt, absolute, options.export, OutputFile::Export)?;
     see_place(rt, absolute, options.skipped, OutputFile::Skipped)?;
+    see_place(rt, absolute, options.report, OutputFile::Page)?;
     Ok(())
+}
+
+/// Checks that the second of two files that may be named is not the first.
+fn see_other<R: Files + AllocGlobal>(
+    rt: &R,
+    first: Option<&str>,
+    second: Option<&str>,
+    file: OutputFile,
+) -> Result<(), SubmissionEnding> {
+    let (Some(first), Some(second)) = (first, second) else {
+        return Ok(());
+    };
+    match is_same_place(rt, first, second) {
+        Ok(false) => Ok(()),
+        Ok(true) => Err(SubmissionEnding::SameFile(file)),
+        Err(_) => Err(SubmissionEnding::NoMemory),
+    }
 }
 
 /// Checks that a file can be created, and that it would not lie in the folder. There it would change when the folder
@@ -68,6 +94,25 @@ pub(crate) fn write_skipped<R: Files<File = File> + AllocGlobal>(
     match skipped_csv(rt.alloc(), skipped) {
         Ok(csv) => write_file(rt, path, csv.as_slice(), OutputFile::Skipped),
         Err(_) => Err(SubmissionEnding::NoOutput(OutputFile::Skipped, OutputFault::Memory)),
+    }
+}
+
+/// Writes the page of the profile, if a file is named for it. `absolute` is the absolute path of the folder, whose name the
+/// page has if no file is named for the CSV.
+pub(crate) fn write_report<R: Files<File = File> + Clock + AllocGlobal>(
+    rt: &R,
+    options: SubmitOptions<'_>,
+    absolute: &str,
+    csv: &[u8],
+) -> Result<(), PageFault> {
+    let Some(path) = options.report else {
+        return Ok(());
+    };
+    let name = name_of(options.export.unwrap_or(absolute));
+    let page = page_now(rt, csv, name, name, None)?;
+    match Output::create(rt.alloc(), rt, path) {
+        Ok(output) => put_page(output, page.as_str()),
+        Err(fault) => Err(PageFault::NoOutput(fault)),
     }
 }
 

@@ -12,7 +12,7 @@ ghost use Rattle.droid_desk_folders.specs.ProfileComparisons.{AsksParts, Compare
 use crate::check_fault::{CheckFault, fault_of_comparison};
 use crate::reported_differences::reported_in;
 use crate::submitted_items::items_of_nodes;
-use droid_desk_outputs::SkippedEntry;
+use droid_desk_report::SkippedEntry;
 use droid_fixity::{Difference, Item};
 use droid_fixity_profile::{Seen, see_profile};
 use droid_frame::Noted;

@@ -2,11 +2,11 @@
 
 ghost use Rattle.std.specs.Prelude.{◌≡◌, ◌++◌, ℕ, [], ◌∷◌, List, IfOk, OnOk, filter};
 ghost use Rattle.droid_desk_folders.specs.DifferenceLines.{is_reported, reported_in};
-ghost use Rattle.droid_desk_outputs.specs.SkippedPaths.{has_path, is_held};
-ghost use Rattle.droid_desk_outputs.specs.declared.skipped_entry.SkippedEntry.{SkippedEntry};
+ghost use Rattle.droid_desk_report.specs.SkippedPaths.{has_path, is_held};
+ghost use Rattle.droid_desk_report.specs.outputs_types.skipped_entry.SkippedEntry.{SkippedEntry};
 
 use crate::difference_line::path_reported;
-use droid_desk_outputs::{SkippedEntry, SkippedPaths, holds_above, paths_of};
+use droid_desk_report::{SkippedEntry, SkippedPaths, holds_above, paths_of};
 use droid_fixity::Difference;
 use droid_fixity_profile::Seen;
 use std::alloc::{AllocError, Global};

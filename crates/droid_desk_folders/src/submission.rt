@@ -4,12 +4,12 @@ use crate::begun_options::begun_of;
 use crate::checked_submission::{CommandFault, submit_and_check};
 use crate::difference_line::DifferenceLine;
 use crate::loopback::Loopback;
-use crate::output_files::{see_outputs, write_export, write_skipped};
+use crate::output_files::{see_outputs, write_export, write_report, write_skipped};
 use crate::profile_comparison::{Compared, ComparisonFault};
 use crate::submission_ending::SubmissionEnding;
 use crate::submit_settings::{connection_of, sender_of, submission_name, walk_options};
 use droid_desk_arguments::SubmitOptions;
-use droid_desk_outputs::{Recorder, Reporter, Verbosity, absolute_path};
+use droid_desk_report::{Recorder, Reporter, Verbosity, absolute_path};
 use droid_frame::{Noted, Refusal};
 use droid_tree::NODE_LIMIT;
 use droid_tree_disk::{Folder, System, is_folder};
@@ -50,7 +50,7 @@ where
     }
     let verbosity = Verbosity::of(options.quiet, on_terminal);
     match upload_of(rt, options, absolute, verbosity) {
-        Ok(upload) => submit_by(rt, upload, options),
+        Ok(upload) => submit_by(rt, upload, options, absolute),
         Err(_) => SubmissionEnding::NoMemory,
     }
 }
@@ -88,6 +88,7 @@ fn submit_by<'a, R>(
     rt: &'a R,
     upload: FolderUpload<'a, R>,
     options: SubmitOptions<'_>,
+    absolute: &str,
 ) -> SubmissionEnding
 where
     R: Files<File = File> + Clock + Print + Eprint + AllocGlobal,
@@ -97,7 +98,7 @@ where
     match submit_and_check(&mut upload, walk_options(options), NODE_LIMIT) {
         Ok(compared) => {
             let Upload { watcher, .. } = upload;
-            let ending = end_compared(rt, &watcher, options, &compared);
+            let ending = end_compared(rt, &watcher, options, absolute, &compared);
             watcher.watcher.end();
             ending
         }
@@ -125,6 +126,7 @@ fn end_compared<R>(
     rt: &R,
     watcher: &Recorder<Reporter<'_, R>>,
     options: SubmitOptions<'_>,
+    absolute: &str,
     compared: &Compared,
 ) -> SubmissionEnding
 where
@@ -139,7 +141,8 @@ where
     if let Err(ending) = write_export(rt, options.export, compared.csv.as_slice()) {
         return ending;
     }
-    SubmissionEnding::of(compared.whole)
+    let page = write_report(rt, options, absolute, compared.csv.as_slice());
+    SubmissionEnding::of(compared.whole).with_page(page)
 }
 
 /// Prints the profile's number, and writes what was skipped, if that is known.

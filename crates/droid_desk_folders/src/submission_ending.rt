@@ -1,13 +1,13 @@
 //! How the submission of a folder ends.
 
 ghost use Rattle.std.specs.Prelude.{◌≡◌, option_map};
-ghost use Rattle.droid_desk_folders.specs.SubmissionEndings.{ending_of, fault_text, status_of, uncompared};
+ghost use Rattle.droid_desk_folders.specs.SubmissionEndings.{ending_of, fault_text, status_of, uncompared, with_page};
 
 use crate::begun_options::BegunOptions;
 use crate::check_fault::CheckFault;
 use crate::profile_comparison::ComparisonFault;
-use crate::submission_fault_names::{check_name, output_name, submitting_name, transfer_name};
-use droid_desk_outputs::walk_fault_name;
+use crate::submission_fault_names::{check_name, submitting_name, transfer_name};
+use droid_desk_report::{PageFault, output_fault_name, walk_fault_name};
 use droid_tree::WalkFault;
 use droid_tree_disk::OutputFault;
 use droid_tree_remote::{RemoteFault, TransferFault};
@@ -20,6 +20,8 @@ pub enum OutputFile {
     Export,
     /// The CSV of what was skipped.
     Skipped,
+    /// The page.
+    Page,
 }
 
 /// How the submission of a folder ends.
@@ -35,6 +37,8 @@ pub enum SubmissionEnding {
     NoMemory,
     /// This file would lie in the folder.
     InFolder(OutputFile),
+    /// This file is the same as another one that is written.
+    SameFile(OutputFile),
     /// This file could not be created or replaced.
     NoOutput(OutputFile, OutputFault),
     /// This file could not be written.
@@ -53,6 +57,8 @@ pub enum SubmissionEnding {
     Disturbed,
     /// The profile could not be compared with the folder.
     Unchecked(CheckFault),
+    /// Everything was written but the page.
+    NoPage(PageFault),
 }
 
 impl SubmissionEnding {
@@ -64,6 +70,16 @@ impl SubmissionEnding {
             SubmissionEnding::Whole
         } else {
             SubmissionEnding::Partly
+        }
+    }
+
+    /// Returns the ending after the page.
+    pub(crate) fn with_page(self, page: Result<(), PageFault>) -> SubmissionEnding
+        ensures { result ≡ with_page self page }
+    {
+        match page {
+            Ok(()) => self,
+            Err(fault) => SubmissionEnding::NoPage(fault),
         }
     }
 
@@ -88,6 +104,7 @@ impl SubmissionEnding {
             SubmissionEnding::NoFolder
             | SubmissionEnding::NoMemory
             | SubmissionEnding::InFolder(_)
+            | SubmissionEnding::SameFile(_)
             | SubmissionEnding::NoOutput(..)
             | SubmissionEnding::Unwritten(_)
             | SubmissionEnding::NoConnection(_)
@@ -96,7 +113,8 @@ impl SubmissionEnding {
             | SubmissionEnding::OtherOptions(_)
             | SubmissionEnding::NoExport(_)
             | SubmissionEnding::Disturbed
-            | SubmissionEnding::Unchecked(_) => 4,
+            | SubmissionEnding::Unchecked(_)
+            | SubmissionEnding::NoPage(_) => 4,
         }
     }
 
@@ -108,8 +126,8 @@ impl SubmissionEnding {
             SubmissionEnding::Whole | SubmissionEnding::Partly => None,
             SubmissionEnding::NoFolder => Some("Folder"),
             SubmissionEnding::NoMemory => Some("Memory"),
-            SubmissionEnding::InFolder(_) => Some("Output"),
-            SubmissionEnding::NoOutput(_, fault) => Some(output_name(fault)),
+            SubmissionEnding::InFolder(_) | SubmissionEnding::SameFile(_) => Some("Output"),
+            SubmissionEnding::NoOutput(_, fault) => Some(output_fault_name(fault)),
             SubmissionEnding::Unwritten(_) => Some("Write"),
             SubmissionEnding::NoConnection(_) => Some("Socket"),
             SubmissionEnding::Uncounted(fault) => Some(walk_fault_name(fault)),
@@ -118,6 +136,7 @@ impl SubmissionEnding {
             SubmissionEnding::NoExport(fault) => Some(transfer_name(fault)),
             SubmissionEnding::Disturbed => Some("Disturbed"),
             SubmissionEnding::Unchecked(fault) => Some(check_name(fault)),
+            SubmissionEnding::NoPage(fault) => Some(fault.name()),
         }
     }
 }

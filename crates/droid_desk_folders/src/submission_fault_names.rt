@@ -1,11 +1,10 @@
 //! Names of the faults of a submission.
 
 ghost use Rattle.std.specs.Prelude.{◌≡◌};
-ghost use Rattle.droid_desk_folders.specs.SubmissionEndings.{check_text, output_text, refusal_text, submitting_text, transfer_text, walking_text};
+ghost use Rattle.droid_desk_folders.specs.SubmissionEndings.{check_text, refusal_text, submitting_text, transfer_text, walking_text};
 
 use crate::check_fault::CheckFault;
 use droid_frame::{Limit, Refusal};
-use droid_tree_disk::OutputFault;
 use droid_tree_remote::{RemoteFault, SubmissionFault, TransferFault};
 
 /// Names a fault of submitting a tree.
@@ -82,15 +81,5 @@ pub(crate) fn check_name(fault: CheckFault) -> &'static str
     match fault {
         CheckFault::Memory => "Memory",
         CheckFault::NoProfile | CheckFault::SamePath | CheckFault::Moment => "Reply",
-    }
-}
-
-/// Names a fault of a file.
-pub(crate) fn output_name(fault: OutputFault) -> &'static str
-    ensures { result.now ≡ output_text fault }
-{
-    match fault {
-        OutputFault::Memory => "Memory",
-        OutputFault::Refused => "Output",
     }
 }

@@ -4,7 +4,7 @@ use crate::begun_options::BegunOptions;
 use crate::check_fault::CheckFault;
 use crate::submission_ending::{OutputFile, SubmissionEnding};
 use droid_desk_arguments::SubmitOptions;
-use droid_desk_outputs::{NO_MEMORY, Shown, print_no_folder, print_no_output};
+use droid_desk_report::{NO_MEMORY, Shown, print_no_folder, print_no_output, print_no_page};
 use droid_frame::{Limit, Refusal};
 use droid_tree::WalkFault;
 use droid_tree_disk::OutputFault;
@@ -23,7 +23,12 @@ impl SubmissionEnding {
         eprintln!(rt; "fault: {name}")?;
         match self {
             SubmissionEnding::NoFolder => print_no_folder(rt, options.folder),
+            SubmissionEnding::NoPage(fault) => {
+                let page = path_of(options, OutputFile::Page);
+                print_no_page(rt, fault, path_of(options, OutputFile::Export), page)
+            }
             SubmissionEnding::InFolder(file)
+            | SubmissionEnding::SameFile(file)
             | SubmissionEnding::NoOutput(file, _)
             | SubmissionEnding::Unwritten(file) => self.print_file(rt, path_of(options, file)),
             SubmissionEnding::Uncounted(fault) => {
@@ -66,6 +71,9 @@ impl SubmissionEnding {
                     "{shown}: lies in the folder that is submitted, and would change it: choose another place"
                 )
             }
+            SubmissionEnding::SameFile(_) => {
+                eprintln!(rt; "{shown}: another FILE has this path: choose another place")
+            }
             SubmissionEnding::NoOutput(_, OutputFault::Refused) => print_no_output(rt, path),
             SubmissionEnding::Unwritten(_) => {
                 eprintln!(rt; "{shown}: could not be written: is the disk full?")
@@ -80,8 +88,9 @@ fn path_of(options: SubmitOptions<'_>, file: OutputFile) -> &str {
     let path = match file {
         OutputFile::Export => options.export,
         OutputFile::Skipped => options.skipped,
+        OutputFile::Page => options.report,
     };
-    path.unwrap_or("")
+    path.unwrap_or("the export")
 }
 
 fn print_folder<R: Eprint>(rt: &R, folder: &str, sentence: &str) -> io::Result<()> {

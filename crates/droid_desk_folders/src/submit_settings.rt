@@ -6,7 +6,7 @@ ghost use Rattle.droid_desk_folders.specs.SubmitSettings.{connection_of, name_of
 
 use crate::loopback::LoopbackSettings;
 use droid_desk_arguments::{Destination, SubmitOptions};
-use droid_desk_outputs::Verbosity;
+use droid_desk_report::Verbosity;
 use droid_frame::Text;
 use droid_tree_remote::{Connection, Options, Sender};
 use std::alloc::{AllocError, Global};

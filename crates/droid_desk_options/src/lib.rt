@@ -1,10 +1,12 @@
 //! Options that several commands have: how a command is told of them, and what their values are.
 #![tactic(auto)]
 
+mod builder;
 mod option;
 mod source;
 mod value;
 
+pub use builder::Builder;
 pub use droid_frame::HashKind;
 pub use option::{
     CLIENT, FOLDER, LIMIT, PORT, REGISTRY, client, flag, folder, limit, named, number, port,

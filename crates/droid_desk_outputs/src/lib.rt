@@ -12,7 +12,7 @@ mod skipped_text;
 
 pub use csv_records::{finish_csv, new_csv, write_record};
 pub use droid_desk_progress::{Reporter, Shown, Verbosity, cause, walk_fault_name};
-pub use droid_export::HashText;
+pub use droid_export::{HashText, moment_text};
 pub use folder_advice::{NO_MEMORY, print_no_folder, print_no_output};
 pub use places::{absolute_path, folder_of, is_same_place, lies_in};
 pub use recorder::Recorder;

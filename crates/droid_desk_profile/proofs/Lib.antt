@@ -1,5 +1,6 @@
-pub use Rattle.droid_desk_outputs.proofs.SkippedTexts
+pub use Rattle.droid_desk_report.proofs.SkippedTexts
 pub mod FolderEnds
+pub mod KeptTexts
 pub mod OtherEntries
 pub mod SkippedLines
 pub mod WriterEnds

@@ -7,7 +7,7 @@ use Rattle.std.proofs.lemmas.List.{length-append, length-drop, take-append-drop}
 use Rattle.droid_frame.specs.stream_types.seen.Seen.{Seen}
 use Rattle.droid_tree.specs.Heard.{Heard, Left, Held, TookBytes, TookFolder, TookFile}
 use Rattle.droid_tree.specs.Observation.{GoesOver}
-use Rattle.droid_desk_outputs.specs.SkippedTexts.{entry_text, header, skipped_csv, skipped_in}
+use Rattle.droid_desk_report.specs.SkippedTexts.{entry_text, header, skipped_csv, skipped_in}
 use Rattle.droid_profile_csv.specs.Writers.{AppendsSome}
 use Rattle.droid_desk_profile.specs.SkippedFiles.{GoesOn, GoesOnBy, HasLines, HasText, HasTextBy, LineEnds, Notes, NotesIn, NotesInSome, TextEnds, lines_of}
 use Rattle.droid_desk_profile.specs.declared.skipped_file.SkippedFault.{SkippedFault}

@@ -2,10 +2,10 @@
 use Rattle.std.specs.Prelude.{ℕ, Bool, true, false, List, Option, Some, None, Result, Ok, Err, codes}
 use Rattle.droid_profile_csv.specs.declared.csv_fault.CsvFault.{CsvFault}
 use Rattle.droid_profile_csv.specs.declared.csv_fault.CsvFault.TheVariants as faults
-use Rattle.droid_tree_disk.specs.declared.output.OutputFault.{OutputFault}
-use Rattle.droid_tree_disk.specs.declared.output.OutputFault.TheVariants as outputs
+use Rattle.droid_desk_report.specs.Endings.{output_fault_text, page_fault_text}
+use Rattle.droid_desk_report.specs.declared.page_fault.PageFault.{PageFault}
 use Rattle.droid_desk_profile.specs.declared.profile_ending.ProfileEnding.{ProfileEnding}
-use Rattle.droid_desk_profile.specs.declared.profile_ending.ProfileEnding.TheVariants.{Whole, Partly, NoFolder, SameFile, NoOutput, Fault, Unlisted}
+use Rattle.droid_desk_profile.specs.declared.profile_ending.ProfileEnding.TheVariants.{Whole, Partly, NoFolder, SameFile, NoOutput, Fault, Unlisted, NoPage}
 use Rattle.droid_desk_profile.specs.declared.skipped_file.SkippedFault.{SkippedFault}
 use Rattle.droid_desk_profile.specs.declared.skipped_file.SkippedFault.TheVariants as skipping
 
@@ -16,6 +16,16 @@ ending_of (Ok whole) (Some fault) = Unlisted fault
 ending_of (Ok true) None = Whole
 ending_of (Ok false) None = Partly
 
+-- where the CSV was also kept, and there was no memory for that
+abbrev pub lacking_memory : ProfileEnding → Bool → ProfileEnding
+lacking_memory ending true = Fault faults.Memory
+lacking_memory ending false = ending
+
+-- after the page
+abbrev pub with_page : {V : Type 0} → ProfileEnding → Result V PageFault → ProfileEnding
+with_page ending (Ok value) = ending
+with_page ending (Err fault) = NoPage fault
+
 -- the exit status
 abbrev pub status_of : ProfileEnding → ℕ
 status_of Whole = 0
@@ -25,6 +35,7 @@ status_of (SameFile file) = 4
 status_of (NoOutput file fault) = 4
 status_of (Fault fault) = 4
 status_of (Unlisted fault) = 4
+status_of (NoPage fault) = 4
 
 -- everything was written
 abbrev pub is_written : ProfileEnding → Bool
@@ -35,12 +46,9 @@ is_written (SameFile file) = false
 is_written (NoOutput file fault) = false
 is_written (Fault fault) = false
 is_written (Unlisted fault) = false
+is_written (NoPage fault) = false
 
--- the name of a fault of a file; of the walk, or of writing the profile; of writing what was skipped
-abbrev pub output_fault_text : OutputFault → List ℕ
-output_fault_text outputs.Memory = codes "Memory"
-output_fault_text outputs.Refused = codes "Output"
-
+-- the name of a fault of the walk, or of writing the profile; of writing what was skipped
 abbrev pub csv_fault_text : CsvFault → List ℕ
 csv_fault_text faults.Memory = codes "Memory"
 csv_fault_text faults.Numbers = codes "Numbers"
@@ -60,3 +68,4 @@ fault_text (SameFile file) = Some (codes "Output")
 fault_text (NoOutput file fault) = Some (output_fault_text fault)
 fault_text (Fault fault) = Some (csv_fault_text fault)
 fault_text (Unlisted fault) = Some (skipped_fault_text fault)
+fault_text (NoPage fault) = Some (page_fault_text fault)

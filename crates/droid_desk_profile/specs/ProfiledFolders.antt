@@ -5,6 +5,7 @@ use Rattle.droid_frame.specs.stream_types.seen.Seen.{Seen}
 use Rattle.droid_tree.specs.Heard.{Heard}
 use Rattle.droid_tree.specs.Observation.{Observation}
 use Rattle.droid_profile_csv.specs.profile_types.profiler.Profiler.{Profiler}
+use Rattle.droid_profile_csv.specs.Texts.{csv_text}
 use Rattle.droid_profile_csv.specs.WrittenTrees.{EndsWriting, ReportsCsv, ReportsList, WritesTree, heard_in}
 use Rattle.droid_profile_csv.specs.declared.csv_fault.CsvFault.{CsvFault}
 use Rattle.droid_profile_csv.specs.declared.csv_recipient.CsvRecipient.{CsvRecipient}
@@ -55,3 +56,9 @@ module _ {T W S O M : Type 0} (observes : T → Observation → T → Type 0) (h
     pub ending_is : ending ≡ ending_of ended (fault_in new.watcher.file)
     pub csv_stopped : IsSound (csv_seen old.recipient.csv) → ReportsCsv (csv_seen old.recipient.csv) (csv_seen new.recipient.csv) (csv_room new.recipient.csv) ended
     pub list_stopped : ReportsList list_seen list_room old.recipient.manifest new.recipient.manifest ended
+
+  -- the tree was profiled and written, and this text is its CSV
+  pub record KeepsTree (old new : Made) (text : List ℕ) : Type 0 where
+    pub whole : Bool
+    pub folder : WritesFolder whole old new
+    pub is_csv : text ≡ csv_text old.recipient.registry.now options folder.tree.shown

@@ -1,20 +1,22 @@
 //! The profile of a folder of this machine.
 
+use crate::named_registry::{NamedRegistry, RegistryLine};
 use crate::other_files::OtherFiles;
-use crate::output_files::OutputFiles;
+use crate::output_files::{OutputFiles, create_page};
 use crate::profile_ending::ProfileEnding;
+use crate::profile_page::add_page;
 use crate::skipped_file::SkippedFile;
 use crate::skipped_writer::SkippedWriter;
 use crate::tree_profile::profile_tree;
 use crate::walk_options::walk_options;
 use droid_desk_arguments::ProfileOptions;
-use droid_desk_outputs::{Reporter, Verbosity};
+use droid_desk_report::{Keeping, Reporter, Verbosity};
 use droid_frame::{Noted, SteadyWrite};
 use droid_profile_csv::{CsvFault, CsvRecipient, Profiler, Registry};
 use droid_tree_disk::{FileId, Folder, Output, System, is_folder};
 use std::alloc::Global;
 use std::fs::{File, Files};
-use std::io;
+use std::io::{self, Write};
 use std::time::Clock;
 
 /// A folder without the files that the command writes in it.
@@ -23,25 +25,26 @@ type FolderTree<'a, R> = OtherFiles<Folder<System<'a, R>>>;
 /// Where the texts go.
 #[derive(Drop)]
 struct Writers<'a, R: Files, O> {
-    /// The CSV.
-    csv: O,
+    /// The CSV, which is kept if a page is wanted.
+    csv: Noted<Keeping<O>>,
     /// The list of checksums.
     manifest: Option<Output<'a, R>>,
     /// The CSV of what was skipped.
     skipped: Option<Output<'a, R>>,
 }
 
-/// Profiles a folder of this machine, and prints on standard error what is skipped. Each file is complete at the end, or
-/// as it was before.
+/// Profiles a folder of this machine, and prints on standard error by which registry, and what is skipped. Each file is
+/// complete at the end, or as it was before. The page comes last: if it can't be written, the CSV is there all the same.
 pub fn profile_folder<R>(
     rt: &R,
-    registry: &Registry,
+    registry: &NamedRegistry<'_>,
     options: ProfileOptions<'_>,
     on_terminal: bool,
 ) -> ProfileEnding
 where
     R: Files<File = File> + Clock + Print + Eprint + AllocGlobal,
 {
+    let _ = eprint!(rt; "{}", RegistryLine(registry.name));
     if !is_folder(rt, options.folder) {
         return ProfileEnding::NoFolder;
     }
@@ -49,10 +52,24 @@ where
         Ok(files) => files,
         Err(ending) => return ending,
     };
+    let page = match create_page(rt, options) {
+        Ok(page) => page,
+        Err(ending) => return ending,
+    };
     match tree_of(rt, options, &mut files) {
         Ok(tree) => {
             let verbosity = Verbosity::of(options.quiet, on_terminal);
-            profile_to_files(rt, registry, options, verbosity, tree, files)
+            let keeps = page.is_some();
+            let (ending, csv) = profile_to_files(
+                rt,
+                &registry.registry,
+                options,
+                verbosity,
+                tree,
+                files,
+                keeps,
+            );
+            add_page(rt, registry.name, options, ending, csv, page)
         }
         Err(ending) => {
             files.give_up();
@@ -78,7 +95,7 @@ where
 }
 
 /// Writes the profile to the files, and puts them in their places once they are complete. If no file is named for the CSV,
-/// it goes to standard output.
+/// it goes to standard output. Returns the CSV if it is to be kept.
 fn profile_to_files<'a, R>(
     rt: &'a R,
     registry: &Registry,
@@ -86,7 +103,8 @@ fn profile_to_files<'a, R>(
     verbosity: Verbosity,
     tree: FolderTree<'a, R>,
     files: OutputFiles<'a, R>,
-) -> ProfileEnding
+    keeps: bool,
+) -> (ProfileEnding, Option<Vec<u8>>)
 where
     R: Files<File = File> + Clock + Print + Eprint + AllocGlobal,
 {
@@ -98,49 +116,56 @@ where
     match csv {
         Some(csv) => {
             let writers = Writers {
-                csv,
+                csv: Noted::new(Keeping::new(rt.alloc(), csv, keeps)),
                 manifest,
                 skipped,
             };
             let (ending, writers) = profile_to(rt, registry, options, verbosity, tree, writers);
-            let Writers {
+            let (csv, text, manifest, skipped) = parts_of(writers);
+            let csv = Some(csv);
+            let files = OutputFiles {
                 csv,
                 manifest,
                 skipped,
-            } = writers;
-            let csv = Some(csv);
-            settle(
-                ending,
-                OutputFiles {
-                    csv,
-                    manifest,
-                    skipped,
-                },
-            )
+            };
+            (settle(ending, files), text)
         }
         None => {
             let writers = Writers {
-                csv: Noted::new(io::writer(rt)),
+                csv: Noted::new(Keeping::new(rt.alloc(), io::writer(rt), keeps)),
                 manifest,
                 skipped,
             };
             let (ending, writers) = profile_to(rt, registry, options, verbosity, tree, writers);
-            let Writers {
+            let (_, text, manifest, skipped) = parts_of(writers);
+            let csv = None;
+            let files = OutputFiles {
+                csv,
                 manifest,
                 skipped,
-                ..
-            } = writers;
-            let csv = None;
-            settle(
-                ending,
-                OutputFiles {
-                    csv,
-                    manifest,
-                    skipped,
-                },
-            )
+            };
+            (settle(ending, files), text)
         }
     }
+}
+
+/// The parts of what was written to: the CSV's writer and its text, the list of checksums, and what was skipped.
+type Parts<'a, R, O> = (
+    O,
+    Option<Vec<u8>>,
+    Option<Output<'a, R>>,
+    Option<Output<'a, R>>,
+);
+
+fn parts_of<'a, R: Files, O: Drop>(writers: Writers<'a, R, O>) -> Parts<'a, R, O> {
+    let Writers {
+        csv,
+        manifest,
+        skipped,
+    } = writers;
+    let Noted { stream, .. } = csv;
+    let Keeping { output, text, .. } = stream;
+    (output, text, manifest, skipped)
 }
 
 /// Puts the files in their places if everything was written, and otherwise removes them.
@@ -159,7 +184,7 @@ fn settle<R: Files<File = File> + AllocGlobal>(
 }
 
 /// Writes the profile, and prints the summary.
-fn profile_to<'a, R, O: SteadyWrite + Drop>(
+fn profile_to<'a, R, O: Write + Drop>(
     rt: &'a R,
     registry: &Registry,
     options: ProfileOptions<'_>,
@@ -196,6 +221,7 @@ where
     watcher.end();
     let CsvRecipient { csv, manifest, .. } = recipient;
     let skipped = output_in(file);
+    let ending = ending.lacking(csv.stream.lacked_memory);
     (
         ending,
         Writers {

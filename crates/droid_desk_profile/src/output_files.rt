@@ -2,7 +2,7 @@
 
 use crate::profile_ending::ProfileEnding;
 use droid_desk_arguments::ProfileOptions;
-use droid_desk_outputs::is_same_place;
+use droid_desk_report::is_same_place;
 use droid_tree_disk::{FileId, Output, OutputFault};
 use std::alloc::Global;
 use std::fs::{File, Files};
@@ -16,6 +16,8 @@ pub enum OutputFile {
     Manifest,
     /// The CSV of what was skipped.
     Skipped,
+    /// The page.
+    Page,
 }
 
 /// The files that are named by options.
@@ -87,6 +89,18 @@ impl<'a, R: Files<File = File> + AllocGlobal> OutputFiles<'a, R> {
         give_up(manifest);
         give_up(skipped);
     }
+}
+
+/// Checks that the file for the page can be created, if one is named, and that it is none of the others. It is created
+/// only after them, so that no walk meets it.
+pub(crate) fn create_page<'a, R: Files<File = File> + AllocGlobal>(
+    rt: &'a R,
+    options: ProfileOptions<'_>,
+) -> Result<Option<Output<'a, R>>, ProfileEnding> {
+    see_other(rt, options.output, options.report, OutputFile::Page)?;
+    see_other(rt, options.manifest, options.report, OutputFile::Page)?;
+    see_other(rt, options.skipped, options.report, OutputFile::Page)?;
+    create(rt, options.report, OutputFile::Page)
 }
 
 /// Checks that the second of two files that may be named is not the first.

@@ -1,10 +1,11 @@
 //! How the profile of a folder ends.
 
 ghost use Rattle.std.specs.Prelude.{◌≡◌, option_map};
-ghost use Rattle.droid_desk_profile.specs.ProfileEndings.{csv_fault_text, ending_of, fault_text, is_written, output_fault_text, skipped_fault_text, status_of};
+ghost use Rattle.droid_desk_profile.specs.ProfileEndings.{csv_fault_text, ending_of, fault_text, is_written, lacking_memory, skipped_fault_text, status_of, with_page};
 
 use crate::output_files::OutputFile;
 use crate::skipped_file::SkippedFault;
+use droid_desk_report::{PageFault, output_fault_name};
 use droid_profile_csv::CsvFault;
 use droid_tree_disk::OutputFault;
 
@@ -25,6 +26,8 @@ pub enum ProfileEnding {
     Fault(CsvFault),
     /// What was skipped could not be written.
     Unlisted(SkippedFault),
+    /// Everything was written but the page.
+    NoPage(PageFault),
 }
 
 impl ProfileEnding {
@@ -40,6 +43,27 @@ impl ProfileEnding {
         }
     }
 
+    /// Returns the ending where the CSV was also kept: if there was no memory for that, its writer did not fail.
+    pub(crate) fn lacking(self, memory: bool) -> ProfileEnding
+        ensures { result ≡ lacking_memory self memory }
+    {
+        if memory {
+            ProfileEnding::Fault(CsvFault::Memory)
+        } else {
+            self
+        }
+    }
+
+    /// Returns the ending after the page.
+    pub(crate) fn with_page(self, page: Result<(), PageFault>) -> ProfileEnding
+        ensures { result ≡ with_page self page }
+    {
+        match page {
+            Ok(()) => self,
+            Err(fault) => ProfileEnding::NoPage(fault),
+        }
+    }
+
     /// Returns the exit status.
     pub fn status(self) -> u8
         ensures { result ≡ status_of self }
@@ -51,7 +75,8 @@ impl ProfileEnding {
             | ProfileEnding::SameFile(_)
             | ProfileEnding::NoOutput(_, _)
             | ProfileEnding::Fault(_)
-            | ProfileEnding::Unlisted(_) => 4,
+            | ProfileEnding::Unlisted(_)
+            | ProfileEnding::NoPage(_) => 4,
         }
     }
 
@@ -66,6 +91,7 @@ impl ProfileEnding {
             ProfileEnding::NoOutput(_, fault) => Some(output_fault_name(fault)),
             ProfileEnding::Fault(fault) => Some(csv_fault_name(fault)),
             ProfileEnding::Unlisted(fault) => Some(skipped_fault_name(fault)),
+            ProfileEnding::NoPage(fault) => Some(fault.name()),
         }
     }
 
@@ -79,18 +105,9 @@ impl ProfileEnding {
             | ProfileEnding::SameFile(_)
             | ProfileEnding::NoOutput(_, _)
             | ProfileEnding::Fault(_)
-            | ProfileEnding::Unlisted(_) => false,
+            | ProfileEnding::Unlisted(_)
+            | ProfileEnding::NoPage(_) => false,
         }
-    }
-}
-
-/// Names a fault of a file.
-fn output_fault_name(fault: OutputFault) -> &'static str
-    ensures { result.now ≡ output_fault_text fault }
-{
-    match fault {
-        OutputFault::Memory => "Memory",
-        OutputFault::Refused => "Output",
     }
 }
 

@@ -4,7 +4,7 @@ use crate::output_files::OutputFile;
 use crate::profile_ending::ProfileEnding;
 use crate::skipped_file::SkippedFault;
 use droid_desk_arguments::ProfileOptions;
-use droid_desk_outputs::{NO_MEMORY, Shown, print_no_folder, print_no_output};
+use droid_desk_report::{NO_MEMORY, Shown, print_no_folder, print_no_output, print_no_page};
 use droid_profile_csv::CsvFault;
 use droid_tree_disk::OutputFault;
 use std::fs::Files;
@@ -41,6 +41,10 @@ impl ProfileEnding {
             ProfileEnding::Unlisted(SkippedFault::Write(_)) => {
                 print_unwritten(rt, path_of(options, OutputFile::Skipped))
             }
+            ProfileEnding::NoPage(fault) => {
+                let csv = path_of(options, OutputFile::Csv);
+                print_no_page(rt, fault, csv, path_of(options, OutputFile::Page))
+            }
             ProfileEnding::Fault(CsvFault::Numbers) => {
                 print_folder(
                     rt,
@@ -58,6 +62,7 @@ fn path_of(options: ProfileOptions<'_>, file: OutputFile) -> &str {
         OutputFile::Csv => options.output,
         OutputFile::Manifest => options.manifest,
         OutputFile::Skipped => options.skipped,
+        OutputFile::Page => options.report,
     };
     path.unwrap_or("standard output")
 }

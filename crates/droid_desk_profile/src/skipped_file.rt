@@ -5,10 +5,10 @@ ghost use Rattle.std.specs.Io.KnownBytes.{Appends};
 ghost use Rattle.droid_frame.specs.Seen.{IsSound};
 ghost use Rattle.droid_frame.specs.Writes.{StopsWithin};
 ghost use Rattle.droid_profile_csv.specs.Writers.{LastsOn, Stops};
-ghost use Rattle.droid_desk_outputs.specs.SkippedTexts.{entry_text, header};
+ghost use Rattle.droid_desk_report.specs.SkippedTexts.{entry_text, header};
 ghost use Rattle.droid_desk_profile.specs.SkippedFiles.{GoesOn, IsLine, WritesLine};
 
-use droid_desk_outputs::{entry_line, header_line};
+use droid_desk_report::{entry_line, header_line};
 use droid_frame::{SteadyWrite, WriteFault, WriteState, write_all};
 use droid_tree::Skipped;
 use std::alloc::{AllocError, Global};

@@ -1,7 +1,7 @@
 //! What a page says of itself.
 
-ghost use Rattle.std.specs.Prelude.{Some};
-ghost use Rattle.droid_desk_report.specs.Abouts.{about_text, hash_words};
+ghost use Rattle.std.specs.Prelude.{Some, option_map};
+ghost use Rattle.droid_desk_report.specs.Abouts.{about_text, hash_words, registry_words};
 
 use droid_report::HashColumn;
 use std::fmt::{self, Display, Formatter, Write};
@@ -13,22 +13,41 @@ pub(crate) struct About<'a> {
     pub moment: &'a str,
     /// The name of the CSV.
     pub name: &'a str,
+    /// Which registry identified the files, if that is known.
+    pub registry: Option<&'a str>,
     /// Which hash the CSV has.
     pub hash: HashColumn,
 }
 
 impl Display for About<'_> {
-    ghost output = { λ it. Some (about_text it.moment.now it.name.now it.hash) };
+    ghost output = { λ it. Some (about_text it.moment.now it.name.now (option_map (λ text. text.now) it.registry) it.hash) };
 
     #[tactic(auto, unfolding(crate::specs::Abouts::about_text))]
     fn fmt<W: Write>(&self, f: &mut Formatter<W>) -> fmt::Result {
         write!(
             f,
-            "Made by droid_desk from {} at {} (UTC). {} A file with several formats counts once.",
+            "Made by droid_desk from {} at {} (UTC). {}{} A file with several formats counts once.",
             self.name,
             self.moment,
+            RegistryWords(self.registry),
             HashWords(self.hash)
         )
+    }
+}
+
+/// Which registry identified the files, in words.
+#[derive(Clone, Copy)]
+struct RegistryWords<'a>(Option<&'a str>);
+
+impl Display for RegistryWords<'_> {
+    ghost output = { λ it. Some (registry_words (option_map (λ text. text.now) it.0)) };
+
+    #[tactic(auto, unfolding(crate::specs::Abouts::registry_words))]
+    fn fmt<W: Write>(&self, f: &mut Formatter<W>) -> fmt::Result {
+        match self.0 {
+            Some(registry) => write!(f, "Registry: {registry}. "),
+            None => Ok(()),
+        }
     }
 }
 

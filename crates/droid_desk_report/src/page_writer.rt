@@ -7,7 +7,7 @@ ghost use Rattle.droid_frame.specs.Writes.{StopsWithin};
 use droid_frame::{SteadyWrite, WriteFault, WriteState, write_all};
 
 /// Writes a page whole, or says how far it came. Interrupted writes are tried again, at most 64 times.
-pub(crate) fn write_page<S: SteadyWrite>(writer: &mut S, page: &str) -> Result<(), WriteFault>
+pub fn write_page<S: SteadyWrite>(writer: &mut S, page: &str) -> Result<(), WriteFault>
     ensures ok { OnOk result (Appends (S.contents writer.old) (S.contents writer.new) page.now) }
     ensures err { IfErr result (λ fault. StopsWithin (S.contents writer.old) (S.contents writer.new) page.now 0 fault.written) }
 {

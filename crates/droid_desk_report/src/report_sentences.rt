@@ -1,8 +1,8 @@
 //! Sentences that say how a report ended, and what to do.
 
+use crate::page_fault::PageFault;
 use crate::report_ending::ReportEnding;
-use droid_desk_outputs::{NO_MEMORY, print_no_output};
-use droid_desk_progress::Shown;
+use droid_desk_outputs::{NO_MEMORY, Shown, print_no_output};
 use droid_report::ProfileFault;
 use droid_tree_disk::OutputFault;
 use std::fs::Files;
@@ -24,33 +24,46 @@ impl ReportEnding {
         match self {
             ReportEnding::Whole => Ok(()),
             ReportEnding::Unread(kind) => print_unread(rt, profile, kind),
-            ReportEnding::NoOutput(OutputFault::Memory)
-            | ReportEnding::Fault(ProfileFault::Memory) => eprintln!(rt; "{NO_MEMORY}"),
             ReportEnding::SameFile => {
                 eprintln!(rt;
                     "{}: this is the CSV itself: choose another place",
                     Shown(output.as_bytes())
                 )
             }
-            ReportEnding::NoOutput(OutputFault::Refused) => print_no_output(rt, output),
-            ReportEnding::Fault(ProfileFault::Header) => {
-                eprintln!(rt;
-                    "{}: does not begin with the column names of a profile: name a CSV of `profile` or of an export",
-                    Shown(profile.as_bytes())
-                )
-            }
-            ReportEnding::Fault(ProfileFault::Record { record }) => {
-                eprintln!(rt;
-                    "{}: record {record} is malformed (the column names are record 1): was the file changed?",
-                    Shown(profile.as_bytes())
-                )
-            }
-            ReportEnding::Unwritten(_) => {
-                eprintln!(rt;
-                    "{}: could not be written: is the disk full, or its reader gone?",
-                    Shown(output.as_bytes())
-                )
-            }
+            ReportEnding::NoPage(fault) => print_no_page(rt, fault, profile, output),
+        }
+    }
+}
+
+/// Says why the page of a CSV was not written, and what to do.
+pub fn print_no_page<R: Files + Eprint>(
+    rt: &R,
+    fault: PageFault,
+    profile: &str,
+    output: &str,
+) -> io::Result<()> {
+    match fault {
+        PageFault::NoOutput(OutputFault::Memory) | PageFault::Unmade(ProfileFault::Memory) => {
+            eprintln!(rt; "{NO_MEMORY}")
+        }
+        PageFault::NoOutput(OutputFault::Refused) => print_no_output(rt, output),
+        PageFault::Unmade(ProfileFault::Header) => {
+            eprintln!(rt;
+                "{}: does not begin with the column names of a profile: name a CSV of `profile` or of an export",
+                Shown(profile.as_bytes())
+            )
+        }
+        PageFault::Unmade(ProfileFault::Record { record }) => {
+            eprintln!(rt;
+                "{}: record {record} is malformed (the column names are record 1): was the file changed?",
+                Shown(profile.as_bytes())
+            )
+        }
+        PageFault::Unwritten(_) => {
+            eprintln!(rt;
+                "{}: could not be written: is the disk full, or its reader gone?",
+                Shown(output.as_bytes())
+            )
         }
     }
 }

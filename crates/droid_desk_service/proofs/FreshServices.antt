@@ -3,7 +3,7 @@ use Rattle.std.proofs.Common.{◌≡◌, ℕ, List, Option, Some, None, Result, 
 use Rattle.droid_wire.specs.core_types.service.Service.{Service}
 use Rattle.droid_desk_service.specs.Fresh.{IsMadeOf, IsMadeWith, IsNoService, IsNotMadeOf}
 use Rattle.droid_desk_service.specs.declared.ending.Ending.{Ending}
-use Rattle.droid_desk_service.specs.declared.ending.Ending.TheVariants.{Done, Registry, NoService, Script, Stream, Send, Socket, BadLine}
+use Rattle.droid_desk_service.specs.declared.ending.Ending.TheVariants.{Done, Registry, NoService, Script, Stream, Send, Socket, Journal, BadLine}
 use Rattle.droid_pronom.specs.Registry.{Contents}
 use Rattle.droid_pronom.specs.RegistryFile.{File}
 use Rattle.droid_frame.specs.stream_types.seen.Seen.{Seen}
@@ -25,6 +25,7 @@ unmade_of file registry (Script fault) read none = absurd none
 unmade_of file registry (Stream fault) read none = absurd none
 unmade_of file registry (Send fault) read none = absurd none
 unmade_of file registry Socket read none = absurd none
+unmade_of file registry (Journal fault) read none = absurd none
 unmade_of file registry BadLine read none = absurd none
 unmade_of file registry Done read none = absurd none
 

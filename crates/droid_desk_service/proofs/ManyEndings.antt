@@ -5,7 +5,7 @@ use Rattle.droid_desk_arguments.specs.declared.many.ManyOptions.{ManyOptions}
 use Rattle.droid_desk_service.specs.Fresh.{IsMade, IsNoService, IsUnmade}
 use Rattle.droid_desk_service.specs.Many.{EndsServing, ManyEndsAs, ServesFresh, many_ending_of, rules_named}
 use Rattle.droid_desk_service.specs.declared.ending.Ending.{Ending}
-use Rattle.droid_desk_service.specs.declared.ending.Ending.TheVariants.{Done, Registry, NoService, Script, Stream, Send, Socket, BadLine}
+use Rattle.droid_desk_service.specs.declared.ending.Ending.TheVariants.{Done, Registry, NoService, Script, Stream, Send, Socket, Journal, BadLine}
 use Rattle.droid_wire.specs.Events.{Event}
 use Rattle.droid_wire.specs.Histories.{History}
 use Rattle.droid_wire.specs.ManyConnections.{ServesMany, ServesSome}
@@ -59,6 +59,7 @@ ends_unmade options (Script fault) cause unmade = absurd unmade
 ends_unmade options (Stream fault) cause unmade = absurd unmade
 ends_unmade options (Send fault) cause unmade = absurd unmade
 ends_unmade options Socket cause unmade = absurd unmade
+ends_unmade options (Journal fault) cause unmade = absurd unmade
 ends_unmade options BadLine cause unmade = absurd unmade
 ends_unmade options Done cause unmade = absurd unmade
 
@@ -69,6 +70,7 @@ widened (Script fault) none = none
 widened (Stream fault) none = none
 widened (Send fault) none = none
 widened Socket none = none
+widened (Journal fault) none = none
 widened BadLine none = none
 widened Done none = none
 

@@ -5,7 +5,7 @@ use Rattle.std.specs.Io.KnownBytes.{Keeps}
 use Rattle.std.proofs.KnownBytes.{Keeps-refl}
 use Rattle.std.proofs.lemmas.Bool.{eqb-true, eqb-false}
 use Rattle.droid_desk_service.specs.declared.ending.Ending.{Ending}
-use Rattle.droid_desk_service.specs.declared.ending.Ending.TheVariants.{Done, Registry, NoService, Script, Stream, Send, Socket, BadLine}
+use Rattle.droid_desk_service.specs.declared.ending.Ending.TheVariants.{Done, Registry, NoService, Script, Stream, Send, Socket, Journal, BadLine}
 use Rattle.droid_lines_script.specs.declared.script_fault.ScriptFault.{ScriptFault}
 use Rattle.droid_lines_script.specs.declared.script_fault.ScriptFault.TheVariants.{TooLong, Read, Memory, Write}
 use Rattle.droid_lines.specs.Tallies.{Counts}
@@ -91,6 +91,7 @@ ends_over file (Script fault) input old new not runs = runs
 ends_over file (Stream fault) input old new not runs = runs
 ends_over file (Send fault) input old new not runs = runs
 ends_over file Socket input old new not runs = runs
+ends_over file (Journal fault) input old new not runs = runs
 
 all_inputs : (input : Option (List ℕ)) (P : Type 0) → P → IfSome input (λ _. P)
 all_inputs None P p = tt
@@ -106,6 +107,7 @@ ends_unmade file (Script fault) input old not = absurd not.0
 ends_unmade file (Stream fault) input old not = absurd not.0
 ends_unmade file (Send fault) input old not = absurd not.0
 ends_unmade file Socket input old not = absurd not.0
+ends_unmade file (Journal fault) input old not = absurd not.0
 
 pub unmade_by_no_script : (file : Option (List ℕ)) (ending : Ending) (fault : ScriptFault) → IsNotMadeOf file ending → ending ≡ Script fault → ⊥
 unmade_by_no_script file ending fault not is = (subst (λ (e : Ending). IsNotMadeOf file e) is not).0

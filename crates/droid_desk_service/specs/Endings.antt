@@ -3,7 +3,10 @@ use Rattle.std.specs.Prelude.{◌≡◌, ℕ, ◌<◌, ◌==◌, if◌then◌els
 use Rattle.std.specs.List.{count_by}
 use Rattle.std.specs.Io.KnownBytes.{Keeps}
 use Rattle.droid_desk_service.specs.declared.ending.Ending.{Ending}
-use Rattle.droid_desk_service.specs.declared.ending.Ending.TheVariants.{Done, Registry, NoService, Script, Stream, Send, Socket, BadLine}
+use Rattle.droid_desk_service.specs.declared.journal_fault.JournalFault.{JournalFault}
+use Rattle.droid_desk_service.specs.declared.journal_fault.JournalFault.TheVariants as journal_faults
+use Rattle.droid_wire.specs.with_journal.service.journal.declared.fault.Fault.TheVariants as faults
+use Rattle.droid_desk_service.specs.declared.ending.Ending.TheVariants.{Done, Registry, NoService, Script, Stream, Send, Socket, Journal, BadLine}
 use Rattle.droid_lines_script.specs.declared.script_fault.ScriptFault.{ScriptFault}
 use Rattle.droid_lines_script.specs.declared.script_fault.ScriptFault.TheVariants.{TooLong, Read, Memory, Write}
 use Rattle.droid_wire.specs.core_types.service.Service.{Service}
@@ -23,6 +26,13 @@ use Rattle.droid_wire.specs.declared.serve_fault.ServeFault.TheVariants as serve
 use Rattle.droid_lines_send.specs.Faults.{frame_fault_name}
 use Rattle.droid_lines_script.specs.Scripts.{RunsAll, RunsFront, IsTooLong, is_bad}
 
+-- the exit status if a journal ends the program: 3 if the file is none of this registry and these limits, or damaged
+abbrev pub journal_status_of : JournalFault → ℕ
+journal_status_of (journal_faults.Closed faults.Header) = 3
+journal_status_of (journal_faults.Closed (faults.Record number)) = 3
+journal_status_of (journal_faults.Closed (faults.Damage records)) = 3
+journal_status_of fault = 4
+
 -- the exit status
 abbrev pub status_of : Ending → ℕ
 status_of Done = 0
@@ -32,6 +42,7 @@ status_of (Script fault) = 4
 status_of (Stream fault) = 4
 status_of (Send fault) = 4
 status_of Socket = 4
+status_of (Journal fault) = journal_status_of fault
 status_of BadLine = 5
 
 -- the name of a fault of the database: as the refusal of a request for the same cause
@@ -84,6 +95,7 @@ EndsAs setting (Registry fault) input old new = ⊥
 EndsAs setting (Stream fault) input old new = ⊥
 EndsAs setting (Send fault) input old new = ⊥
 EndsAs setting Socket input old new = ⊥
+EndsAs setting (Journal fault) input old new = ⊥
 
 -- a registry file, if its bytes are known, gives this fault, unless memory ran out or the file could not be read
 abbrev pub IsFaultOf : Option (List ℕ) → RegistryFault → Type 0

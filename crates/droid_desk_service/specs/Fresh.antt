@@ -4,7 +4,7 @@ use Rattle.droid_wire.specs.Standing.{StandsFor, limits_of, registry_of}
 use Rattle.droid_wire.specs.core_types.service.Service.{Service}
 use Rattle.droid_desk_service.specs.Endings.{IsFaultOf, IsProgramSetting, program_limits}
 use Rattle.droid_desk_service.specs.declared.ending.Ending.{Ending}
-use Rattle.droid_desk_service.specs.declared.ending.Ending.TheVariants.{Done, Registry, NoService, Script, Stream, Send, Socket, BadLine}
+use Rattle.droid_desk_service.specs.declared.ending.Ending.TheVariants.{Done, Registry, NoService, Script, Stream, Send, Socket, Journal, BadLine}
 use Rattle.droid_wire.specs.Setting.{Setting}
 use Rattle.droid_pronom.specs.Registry.{Contents}
 use Rattle.droid_pronom.specs.RegistryFile.{File}
@@ -33,6 +33,7 @@ IsNoService (Script fault) = ⊥
 IsNoService (Stream fault) = ⊥
 IsNoService (Send fault) = ⊥
 IsNoService Socket = ⊥
+IsNoService (Journal fault) = ⊥
 IsNoService BadLine = ⊥
 IsNoService Done = ⊥
 

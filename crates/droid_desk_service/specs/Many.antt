@@ -4,7 +4,7 @@ use Rattle.std.specs.declared.io.ErrorKind.{ErrorKind}
 use Rattle.droid_desk_arguments.specs.declared.many.ManyOptions.{ManyOptions}
 use Rattle.droid_desk_service.specs.Endings.{IsProgramSetting, program_limits}
 use Rattle.droid_desk_service.specs.declared.ending.Ending.{Ending}
-use Rattle.droid_desk_service.specs.declared.ending.Ending.TheVariants.{Done, Registry, NoService, Script, Stream, Send, Socket, BadLine}
+use Rattle.droid_desk_service.specs.declared.ending.Ending.TheVariants.{Done, Registry, NoService, Script, Stream, Send, Socket, Journal, BadLine}
 use Rattle.droid_frame.specs.declared.stream.fault.FrameFault.TheVariants as frame_faults
 use Rattle.droid_pronom.specs.Registry.{Contents}
 use Rattle.droid_wire.specs.Events.{Event}
@@ -58,4 +58,5 @@ ManyEndsAs options (Registry fault) cause = Unit {0}
 ManyEndsAs options (NoService fault) cause = Unit {0}
 ManyEndsAs options (Script fault) cause = ⊥
 ManyEndsAs options (Send fault) cause = ⊥
+ManyEndsAs options (Journal fault) cause = ⊥
 ManyEndsAs options BadLine cause = ⊥

@@ -2,7 +2,7 @@
 use Rattle.std.specs.Prelude.{◌≡◌, ℕ, ◌<◌, List, Option, Result, Ok, Err}
 use Rattle.droid_wire.specs.Cores.{Core}
 use Rattle.droid_desk_service.specs.declared.ending.Ending.{Ending}
-use Rattle.droid_desk_service.specs.declared.ending.Ending.TheVariants.{Done, Registry, NoService, Script, Stream, Send, Socket, BadLine}
+use Rattle.droid_desk_service.specs.declared.ending.Ending.TheVariants.{Done, Registry, NoService, Script, Stream, Send, Socket, Journal, BadLine}
 use Rattle.droid_desk_service.specs.Endings.{after_lines}
 use Rattle.droid_lines_send.specs.declared.send_fault.SendFault.{SendFault}
 use Rattle.droid_lines.specs.declared.tally.Tally.{Tally}
@@ -35,3 +35,4 @@ SendEndsAs core (NoService fault) script input left old_frames new_frames old_te
 SendEndsAs core (Registry fault) script input left old_frames new_frames old_text new_text = ⊥
 SendEndsAs core (Script fault) script input left old_frames new_frames old_text new_text = ⊥
 SendEndsAs core Socket script input left old_frames new_frames old_text new_text = ⊥
+SendEndsAs core (Journal fault) script input left old_frames new_frames old_text new_text = ⊥

@@ -2,7 +2,7 @@
 use Rattle.std.specs.Prelude.{◌≡◌, ℕ, ◌+◌, ◌<◌, List, Option, Result, Ok, Err}
 use Rattle.droid_wire.specs.core_types.service.Service.{Service}
 use Rattle.droid_desk_service.specs.declared.ending.Ending.{Ending}
-use Rattle.droid_desk_service.specs.declared.ending.Ending.TheVariants.{Done, Registry, NoService, Script, Stream, Send, Socket, BadLine}
+use Rattle.droid_desk_service.specs.declared.ending.Ending.TheVariants.{Done, Registry, NoService, Script, Stream, Send, Socket, Journal, BadLine}
 use Rattle.droid_wire.specs.Histories.{History}
 use Rattle.droid_wire.specs.Setting.{Setting}
 use Rattle.droid_wire.specs.Serving.{Outcome}
@@ -28,6 +28,7 @@ StreamEndsAs setting history (Registry fault) input left old new after = ⊥
 StreamEndsAs setting history (Script fault) input left old new after = ⊥
 StreamEndsAs setting history (Send fault) input left old new after = ⊥
 StreamEndsAs setting history Socket input left old new after = ⊥
+StreamEndsAs setting history (Journal fault) input left old new after = ⊥
 StreamEndsAs setting history BadLine input left old new after = ⊥
 
 -- a connection, on which at most `turns` frames are answered, has one of the outcomes of serving its stream; which one
@@ -44,4 +45,5 @@ CameTo (Send fault) old new count = ⊥
 CameTo (NoService fault) old new count = ⊥
 CameTo (Registry fault) old new count = ⊥
 CameTo (Script fault) old new count = ⊥
+CameTo (Journal fault) old new count = ⊥
 CameTo BadLine old new count = ⊥

@@ -8,6 +8,7 @@ use crate::advice::{
     service_advice, unread_advice,
 };
 use crate::ending::Ending;
+use crate::journal_fault::JournalFault;
 use droid_desk_arguments::RegistrySource;
 use droid_pronom::RegistryFault;
 use std::io::{self, ErrorKind};
@@ -30,6 +31,8 @@ pub enum Used<'a> {
     Registry(RegistrySource<'a>),
     /// A port of this machine.
     Port(u16),
+    /// A journal at this path.
+    Journal(&'a str),
 }
 
 impl<'a> Ended<'a> {
@@ -63,6 +66,33 @@ impl<'a> Ended<'a> {
         Ended {
             ending,
             used: Used::Port(port),
+            cause: None,
+        }
+    }
+
+    /// Ends a command by the journal at this path.
+    pub(crate) fn by_journal(fault: JournalFault, path: &'a str) -> Ended<'a>
+        ensures ending { result.ending ≡ Ending.Journal fault }
+    {
+        Ended {
+            ending: Ending::Journal(fault),
+            used: Used::Journal(path),
+            cause: None,
+        }
+    }
+
+    /// Ends a command that used this port, and the journal at this path.
+    pub(crate) fn at_with_journal(ending: Ending, port: u16, path: &'a str) -> Ended<'a>
+        ensures ending { result.ending ≡ ending }
+        ensures cause { result.cause ≡ None }
+    {
+        let used = match &ending {
+            Ending::Journal(_) => Used::Journal(path),
+            _ => Used::Port(port),
+        };
+        Ended {
+            ending,
+            used,
             cause: None,
         }
     }
@@ -102,6 +132,7 @@ impl Ended<'_> {
             }
             Ending::Send(fault) => print_sentence(rt, send_advice(fault)),
             Ending::Socket => print_port(rt, port_of(self.used), self.cause),
+            Ending::Journal(fault) => fault.print_advice(rt, path_of(self.used)),
         }
     }
 }
@@ -114,6 +145,15 @@ fn port_of(used: Used<'_>) -> u16 {
     match used {
         Used::Port(port) => port,
         Used::Registry(_) => 0,
+        Used::Journal(_) => 0,
+    }
+}
+
+fn path_of(used: Used<'_>) -> &str {
+    match used {
+        Used::Journal(path) => path,
+        Used::Registry(_) => "the journal",
+        Used::Port(_) => "the journal",
     }
 }
 

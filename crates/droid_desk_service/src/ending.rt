@@ -3,6 +3,7 @@
 ghost use Rattle.std.specs.Prelude.{◌≡◌};
 ghost use Rattle.droid_desk_service.specs.Endings.{after_lines, status_of, name_of, stream_name_of};
 
+use crate::journal_fault::JournalFault;
 use droid_lines::Tally;
 use droid_lines_script::ScriptFault;
 use droid_lines_send::{SendFault, frame_fault_name};
@@ -28,6 +29,8 @@ pub enum Ending {
     Send(SendFault),
     /// Listening on a port, connecting to one or accepting a connection failed.
     Socket,
+    /// The journal could not be opened, or answers nothing more.
+    Journal(JournalFault),
     /// Some line was bad.
     BadLine,
 }
@@ -42,6 +45,7 @@ impl Ending {
             Ending::Registry(_) => 3,
             Ending::NoService(_) => 6,
             Ending::Script(_) | Ending::Stream(_) | Ending::Send(_) | Ending::Socket => 4,
+            Ending::Journal(fault) => fault.status(),
             Ending::BadLine => 5,
         }
     }
@@ -55,6 +59,7 @@ impl Ending {
             Ending::Stream(fault) => print_fault(rt, stream_name_of(*fault)),
             Ending::Send(fault) => print_fault(rt, fault.name()),
             Ending::Socket => print_fault(rt, "Socket"),
+            Ending::Journal(fault) => fault.print(rt),
             Ending::Done | Ending::BadLine => Ok(()),
         }
     }

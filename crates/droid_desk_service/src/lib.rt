@@ -1,5 +1,6 @@
 //! The commands of a service: `script` over lines, `run` over frames of standard input, `serve` over connections to a
-//! port, and `send`, a client of one. Also reads the registry that `profile` uses.
+//! port, and `send`, a client of one. `run` and `serve` may have a journal, so that what they answered outlives them. Also
+//! reads the registry that `profile` uses.
 #![tactic(auto)]
 
 mod advice;
@@ -9,6 +10,10 @@ mod connections;
 mod ended;
 mod ending;
 mod fresh;
+mod journal;
+mod journal_commands;
+mod journal_fault;
+mod journal_serving;
 mod many;
 mod port;
 mod registry;
@@ -19,5 +24,8 @@ mod stream;
 pub use commands::{run_command, script_command, send_command, serve_command};
 pub use ended::Ended;
 pub use ending::Ending;
+pub use journal_commands::{
+    run_journal_command, serve_journal_command, serve_many_journal_command,
+};
 pub use many::serve_many_command;
-pub use registry::registry_for;
+pub use registry::{no_registry, note_formats, registry_bytes};

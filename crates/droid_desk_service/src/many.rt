@@ -58,7 +58,7 @@ where
     Ended::at(ending, port)
 }
 
-fn verbosity_of(options: ManyOptions) -> Verbosity
+pub(crate) fn verbosity_of(options: ManyOptions) -> Verbosity
     ensures verbose { options.verbose ≡ true → result ≡ Verbosity.Verbose }
     ensures quiet { options.verbose ≡ false → result ≡ Verbosity.Quiet }
 {
@@ -87,7 +87,7 @@ pub fn serve_at_once<C: Connections>(
 }
 
 /// Returns the rules that the options name.
-fn rules_of(options: ManyOptions) -> Rules
+pub(crate) fn rules_of(options: ManyOptions) -> Rules
     ensures { result ≡ rules_named options }
 {
     let total = match options.connections {

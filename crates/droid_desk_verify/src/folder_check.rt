@@ -8,8 +8,8 @@ use crate::verify_ending::VerifyEnding;
 use crate::walk_options::walk_options;
 use droid_desk_arguments::VerifyOptions;
 use droid_desk_comparison::{
-    Folder, ItemKeeper, ListForm, ManifestForm, NotedFiles, Options, Profiler, Recorder, Registry,
-    Reporter, System, Verbosity, is_folder,
+    Folder, ItemKeeper, ListForm, ManifestForm, NamedRegistry, NotedFiles, Options, Profiler,
+    Recorder, Registry, RegistryLine, Reporter, System, Verbosity, is_folder,
 };
 use droid_frame::Noted;
 use std::alloc::AllocError;
@@ -26,18 +26,21 @@ impl<R: Eprint + Clock> ClearLine for Reporter<'_, R> {
     }
 }
 
-/// Compares a folder of this machine with a list, and writes what differs to standard output as a CSV. What is skipped is
-/// printed on standard error. Nothing in the folder is read before the list was. Formats are compared if that is asked for
-/// and files are read; then there has to be a registry.
+/// Compares a folder of this machine with a list, and writes what differs to standard output as a CSV. By which registry, and
+/// what is skipped, is printed on standard error. Nothing in the folder is read before the list was. Formats are compared if
+/// that is asked for and files are read; then there has to be a registry.
 pub fn verify_folder<R>(
     rt: &R,
-    registry: Option<&Registry>,
+    registry: Option<&NamedRegistry<'_>>,
     options: VerifyOptions<'_>,
     on_terminal: bool,
 ) -> VerifyEnding
 where
     R: Files<File = File> + Clock + Print + Eprint + AllocGlobal,
 {
+    if let Some(registry) = registry {
+        let _ = eprint!(rt; "{}", RegistryLine(registry.name));
+    }
     if !is_folder(rt, options.folder) {
         return VerifyEnding::NoFolder;
     }
@@ -47,7 +50,7 @@ where
     };
     let verbosity = Verbosity::of(options.quiet, on_terminal);
     match registry {
-        Some(registry) => verify_with(rt, registry, options, verbosity, lists),
+        Some(registry) => verify_with(rt, &registry.registry, options, verbosity, lists),
         None => verify_without(rt, options, verbosity, lists),
     }
 }

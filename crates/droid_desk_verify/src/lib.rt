@@ -9,7 +9,7 @@ mod verify_ending;
 mod verify_sentences;
 mod walk_options;
 
-pub use droid_desk_comparison::{Registry, profile_folder};
+pub use droid_desk_comparison::{NamedRegistry, RegistryFault, profile_folder};
 pub use folder_check::verify_folder;
 pub use lists::{Lists, read_lists};
 pub use outcome::{Outcome, outcome_of, write_outcome};

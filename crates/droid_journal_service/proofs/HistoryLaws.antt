@@ -11,10 +11,10 @@ use Rattle.droid_core.proofs.Meetings.{next_by, whatever_meets}
 use Rattle.droid_core.specs.Histories.{Entry, HasReply, History, Meeting, New, answer, entry_of, history_from, history_with, is_under, kept, meeting, next}
 use Rattle.droid_core.specs.Judging.{Accepted, Answered, Refuses, Verdict}
 use Rattle.droid_core.specs.Setting.{Setting}
-use Rattle.droid_journal.specs.Machines.{extended, record_of}
-use Rattle.droid_journal_chain.specs.Fronts.{IsFront}
-use Rattle.droid_journal_chain.specs.Records.{Record}
-use Rattle.droid_journal_chain.proofs.Fronts.{front_refl, front_trans}
+use Rattle.droid_journal_disk.specs.journal.Machines.{extended, record_of}
+use Rattle.droid_journal_disk.specs.chain.Fronts.{IsFront}
+use Rattle.droid_journal_disk.specs.chain.Records.{Record}
+use Rattle.droid_journal_disk.proofs.chain.Fronts.{front_refl, front_trans}
 use Rattle.droid_journal_service.specs.Histories.{AreOf, IsBetween, IsHistoryOf, IsOf, history_then}
 
 -- a record is of one request

@@ -6,11 +6,11 @@ use Rattle.droid_frame.specs.types.reply.Reply.{Reply}
 use Rattle.droid_core.specs.Histories.{Handles, History, answer, command, next}
 use Rattle.droid_core.specs.MemoryFaults.{is_out_of_memory}
 use Rattle.droid_core.specs.Setting.{Setting}
-use Rattle.droid_journal.specs.Machines.{Answers, extended, record_of}
-use Rattle.droid_journal.specs.Standing.{Keeps, Stands, WroteOne}
-use Rattle.droid_journal.specs.declared.journal.Journal.{Journal}
-use Rattle.droid_journal_chain.specs.Records.{Record}
-use Rattle.droid_journal_chain.proofs.Chains.{front_fit}
+use Rattle.droid_journal_disk.specs.journal.Machines.{Answers, extended, record_of}
+use Rattle.droid_journal_disk.specs.journal.Standing.{Keeps, Stands, WroteOne}
+use Rattle.droid_journal_disk.specs.journal.declared.journal.Journal.{Journal}
+use Rattle.droid_journal_disk.specs.chain.Records.{Record}
+use Rattle.droid_journal_disk.proofs.chain.Chains.{front_fit}
 use Rattle.droid_journal_service.specs.Histories.{GivesReply, IsHistoryOf, StandsForRecords, history_then}
 use Rattle.droid_journal_service.specs.Standing.{AnswersIn, IsNextOr, KeepsHistory, StandsForHistory}
 use Rattle.droid_journal_service.specs.declared.service_machine.ServiceMachine.{ServiceMachine}

@@ -9,8 +9,8 @@ use Rattle.droid_core.specs.Histories.{Handles, History, HasReply, answer, histo
 use Rattle.droid_core.specs.Setting.{Setting}
 use Rattle.droid_core.specs.Standing.{StandsFor}
 use Rattle.droid_core.specs.declared.service.Service.{Service}
-use Rattle.droid_journal_chain.specs.Fronts.{IsFront}
-use Rattle.droid_journal_chain.specs.Records.{Record}
+use Rattle.droid_journal_disk.specs.chain.Fronts.{IsFront}
+use Rattle.droid_journal_disk.specs.chain.Records.{Record}
 
 -- the record has the frames of this request and of its answer after the history
 pub record IsOf (setting : Setting) (history : History) (it : Record) (frame : Frame) : Type 0 where

@@ -1,3 +1,8 @@
+-- The service, what a journal is, and its bytes, re-exported.
+pub use Rattle.droid_core.specs as core
+pub use Rattle.droid_journal_disk.specs.journal as journal
+pub use Rattle.droid_journal_disk.specs.chain as chain
+pub use Rattle.droid_journal_disk.specs.Headers
 -- What a service and its journal stand for, in histories.
 pub mod Histories
 pub mod Standing

@@ -1,5 +1,5 @@
 -- What a service with a journal stands for (this project's own).
-use Rattle.std.specs.Prelude.{◌≡◌, ◌⊎◌, ℕ, List}
+use Rattle.std.specs.Prelude.{◌≡◌, ◌⊎◌, ℕ, List, length}
 use Rattle.droid_frame.specs.Streams.{IsReadable}
 use Rattle.droid_frame.specs.types.frame.Frame.{Frame}
 use Rattle.droid_frame.specs.types.refusal.Refusal.TheVariants.{Malformed, Memory}
@@ -7,9 +7,12 @@ use Rattle.droid_frame.specs.types.reply.Reply.{Reply}
 use Rattle.droid_frame.specs.types.reply.Reply.TheVariants.{Refused}
 use Rattle.droid_core.specs.Histories.{Handles, History, next}
 use Rattle.droid_core.specs.Setting.{Setting}
-use Rattle.droid_journal.specs.Standing.{Keeps, Stands}
-use Rattle.droid_journal.specs.declared.journal.Journal.{Journal}
-use Rattle.droid_journal_chain.specs.Records.{Record}
+use Rattle.droid_journal_disk.specs.journal.Standing.{Keeps, Stands}
+use Rattle.droid_journal_disk.specs.journal.Turns.{IsTurn}
+use Rattle.droid_journal_disk.specs.journal.declared.journal.Journal.{Journal}
+use Rattle.droid_journal_disk.specs.chain.Chains.{NoneLaterByChance, NotByChance, journal_bytes}
+use Rattle.droid_journal_disk.specs.chain.Fronts.{IsFront}
+use Rattle.droid_journal_disk.specs.chain.Records.{AllFit, Record}
 use Rattle.droid_journal_service.specs.Histories.{IsHistoryOf, StandsForRecords}
 use Rattle.droid_journal_service.specs.declared.service_machine.ServiceMachine.{ServiceMachine}
 
@@ -27,6 +30,19 @@ pub record KeepsHistory {F : Type 0} (kept : F → List ℕ) (setting : Setting)
   pub keeps : Keeps kept header file first written
   pub on_disk : IsHistoryOf setting first synced
   pub accepted : IsHistoryOf setting written all
+
+-- What a crash leaves of a journal's file: the records of the one history, and then any bytes, which are not by chance
+-- further records, nor have one of a later turn. The other history is that of all that was written.
+pub record IsLeft (setting : Setting) (header file : List ℕ) (synced all : History) : Type 0 where
+  pub first : List Record
+  pub written : List Record
+  pub fit : AllFit first
+  pub turn : IsTurn first written
+  pub on_disk : IsHistoryOf setting first synced
+  pub accepted : IsHistoryOf setting written all
+  pub front : IsFront (journal_bytes header first) file
+  pub chance : NotByChance header written file
+  pub later : NoneLaterByChance header written file (length (journal_bytes header first))
 
 -- The reply is that of a service that stands for the history, and the claim holds of what comes next; or there was no memory
 -- to spell the request, or no stream can carry it, and the claim holds of this history.

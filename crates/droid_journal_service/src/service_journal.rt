@@ -5,17 +5,17 @@ ghost use Rattle.droid_core.specs.Histories.{History};
 ghost use Rattle.droid_core.specs.Setting.{Setting};
 ghost use Rattle.droid_core.specs.Standing.{StandsFor};
 ghost use Rattle.droid_frame.specs.Replies.{HasReplySpelling};
-ghost use Rattle.droid_journal.specs.Opening.{HasHeader, IsBegun, IsKept, WasDamaged, WasFound, WasRefuted};
-ghost use Rattle.droid_journal.specs.Standing.{Keeps};
-ghost use Rattle.droid_journal_chain.specs.Chains.{NotByChance};
-ghost use Rattle.droid_journal_chain.specs.Records.{Record};
-ghost use Rattle.droid_journal_service.specs.Histories.{GivesReply, IsBetween, IsHistoryOf};
-ghost use Rattle.droid_journal_service.specs.Standing.{AnswersIn, IsNextOr, KeepsHistory, StandsForHistory};
+ghost use Rattle.droid_journal_disk.specs.journal.Opening.{HasHeader, IsBegun, IsKept, WasDamaged, WasFound, WasRefuted};
+ghost use Rattle.droid_journal_disk.specs.journal.Standing.{IsSettled, Keeps};
+ghost use Rattle.droid_journal_disk.specs.chain.Chains.{NotByChance};
+ghost use Rattle.droid_journal_disk.specs.chain.Records.{Record};
+ghost use Rattle.droid_journal_service.specs.Histories.{GivesReply, IsBetween, IsHistoryOf, StandsForRecords};
+ghost use Rattle.droid_journal_service.specs.Standing.{AnswersIn, IsLeft, IsNextOr, KeepsHistory, StandsForHistory};
 
 use crate::service_machine::ServiceMachine;
 use droid_core::Service;
 use droid_frame::{Frame, Reply};
-use droid_journal::{Fault, Journal, LogFile, Tears, open};
+use droid_journal_disk::{Fault, Journal, LogFile, Tears, open};
 use std::alloc::Global;
 
 /// A service and its journal.
@@ -41,6 +41,12 @@ impl<F: LogFile + Drop> ServiceJournal<F> {
         requires kept { (s : List ℕ) → F.has file s → HasHeader header.now s → IsKept header.now (F.kept file) }
         ensures opened { (setting : Setting) (s : List ℕ) → StandsFor setting fresh [] → F.has file s → IfOk result (λ it. (its : List Record) × (history : History) × WasFound header.now s its
             × IsHistoryOf setting its history × StandsForHistory F.has F.kept setting header.now it.journal history history) }
+        // After a crash it stands for a history that goes on from the one on the disk and is the first of the one that was
+        // accepted. So whoever holds a reply that was sent gets it again.
+        ensures reopened { (setting : Setting) (s : List ℕ) (synced all : History) → StandsFor setting fresh [] → F.has file s → IsLeft setting header.now s synced all
+            → IfOk result (λ it. (history : History) × StandsForHistory F.has F.kept setting header.now it.journal history history × IsBetween synced history all) }
+        // Nor is a crash taken for damage.
+        ensures lawful { (n : ℕ) (setting : Setting) (s : List ℕ) (synced all : History) → F.has file s → IsLeft setting header.now s synced all → IsErrOf result (Fault.Damage n) → ⊥ }
         // Damage is told only where a record stands behind it that was written when all before it was on the disk.
         ensures damage { (n : ℕ) → IsErrOf result (Fault.Damage n) → (s : List ℕ) → F.has file s → WasDamaged header.now s n }
         // A record is told only if no service of this registry and these limits got its request behind those before it, or
@@ -49,13 +55,24 @@ impl<F: LogFile + Drop> ServiceJournal<F> {
         ensures other_header { IsErrOf result Fault.Header → (s : List ℕ) → F.has file s → (HasHeader header.now s → ⊥) × ((count : ℕ) → IsBegun header.now s count → ⊥) }
     {
         let mut file = file;
-        let fresh = ServiceMachine { service: fresh };
+        let fresh = ServiceMachine {
+            service: fresh,
+            live: false,
+        };
         match open(alloc, &mut file, header, fresh) {
-            Ok(opened) => Ok(ServiceJournal {
-                journal: Journal::new(alloc, file, opened),
-            }),
+            Ok(opened) => Ok(ServiceJournal::begun(Journal::new(alloc, file, opened))),
             Err(fault) => Err(fault),
         }
+    }
+
+    /// Begins with a journal that was read.
+    fn begun(journal: Journal<F, ServiceMachine>) -> ServiceJournal<F>
+        ensures { (setting : Setting) (header : List ℕ) (records : List Record) → IsSettled F.has F.kept (λ machine its. StandsForRecords setting machine.service its) header journal records
+            → IsSettled F.has F.kept (λ machine its. StandsForRecords setting machine.service its) header result.journal records }
+    {
+        let mut journal = journal;
+        journal.machine.live = true;
+        ServiceJournal { journal }
     }
 
     /// Handles a request and returns its reply.
@@ -102,9 +119,12 @@ pub fn crash_and_reopen<F: Tears + Drop>(
         → IfOk result (λ after. (history : History) × StandsForHistory F.has F.kept setting header.now after.journal history history × IsBetween synced history all) }
 {
     let ServiceJournal { journal } = before;
-    let fresh = ServiceMachine { service: fresh };
-    match droid_journal::crash_and_reopen(alloc, journal, header, tail, fresh) {
-        Ok(journal) => Ok(ServiceJournal { journal }),
+    let fresh = ServiceMachine {
+        service: fresh,
+        live: false,
+    };
+    match droid_journal_disk::crash_and_reopen(alloc, journal, header, tail, fresh) {
+        Ok(journal) => Ok(ServiceJournal::begun(journal)),
         Err(fault) => Err(fault),
     }
 }

@@ -1,11 +1,14 @@
 //! A service as the machine of a journal.
 
-ghost use Rattle.std.specs.Prelude.{◌≡◌, true, false};
+ghost use Rattle.std.specs.Prelude.{◌≡◌, IsSome, true, false};
 ghost use Rattle.droid_core.specs.Verdicts.{is_refused};
+ghost use Rattle.droid_core.specs.Histories.{History, kept};
+ghost use Rattle.droid_core.specs.Setting.{Setting};
+ghost use Rattle.droid_core.specs.Standing.{StandsFor};
 
 use droid_core::Service;
 use droid_frame::{Frame, Reply};
-use droid_journal::{Handled, Machine};
+use droid_journal_disk::{Handled, Machine};
 
 /// The kinds of requests below this one are commands, which change the service if they are accepted.
 const QUERIES: u8 = 7;
@@ -13,11 +16,26 @@ const QUERIES: u8 = 7;
 /// A service as the machine of a journal. It stands for records if it stands for the history of their requests.
 ///
 /// An accepted command goes into the journal unless the service has its reply cached, since then it came again. One whose
-/// reply is kept but no longer cached goes in once more, and changes nothing when it is read.
+/// reply is kept but no longer cached goes in once more, and changes nothing when it is read. Which replies are cached depends
+/// on what came again too, and that is not in the journal. So while a journal is read every accepted command belongs to it.
 #[derive(Drop)]
 pub struct ServiceMachine {
     /// The service.
     pub service: Service,
+    /// Whether the journal was read: what is handled now is new.
+    pub live: bool,
+}
+
+impl ServiceMachine {
+    /// Whether a request came before for sure, by its client and number.
+    fn knows(&self, client: u32, number: u64) -> bool
+        ensures kept { (setting : Setting) (history : History) → StandsFor setting self.now.service history → result ≡ true → IsSome (kept history client number) }
+    {
+        if !self.live {
+            return false;
+        }
+        self.service.is_cached(client, number)
+    }
 }
 
 impl Machine for ServiceMachine {
@@ -31,7 +49,7 @@ impl Machine for ServiceMachine {
     ghost gives = { GivesReply };
 
     fn handle(&mut self, frame: Frame) -> Handled {
-        let known = self.service.is_cached(frame.client, frame.number);
+        let known = self.knows(frame.client, frame.number);
         let commands = frame.kind < QUERIES;
         let reply = self.service.handle(frame);
         let accepted = belongs(commands, known, &reply);

@@ -3,3 +3,4 @@ pub mod Validity
 pub mod FormatHitting
 pub mod Made
 pub mod Naming
+pub mod Omitting

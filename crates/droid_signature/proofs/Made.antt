@@ -1,14 +1,17 @@
 -- What the code makes.
 use Rattle.std.proofs.Common.{◌≡◌, ◌∙◌, ℕ, ◌≤◌, List, ◌++◌, length, Ok, sym, ap, subst, append_assoc}
-use Rattle.droid_pronom.specs.RegistryFile.{File}
+use Rattle.std.proofs.lemmas.List.{length-map}
+use Rattle.droid_signature_combinations.specs.RegistryFile.{File}
 use Rattle.droid_signature_combinations.specs.SignatureRows.{flat}
-use Rattle.droid_signature_rows.specs.RegistryTables.{extension_lines, file_of, format_lines, priority_lines, registry_of, signature_lines}
-use Rattle.droid_signature_rows.proofs.StepsOfTables.{tables_read}
-use Rattle.droid_signature_spec.specs.Records.{FileRecord}
-use Rattle.droid_signature_tables.specs.Formats.{formats_of}
-use Rattle.droid_signature_tables.specs.declared.left_out.LeftOut.{LeftOut}
-use Rattle.droid_signature.specs.AllTables.{AreTablesOf, all_left, all_text, kept_in}
-use Rattle.droid_signature.specs.Conversion.{IsMadeOf, Parts, tables_of}
+use Rattle.droid_signature_combinations.specs.RegistryTables.{extension_lines, file_of, format_lines, priority_lines, registry_of, signature_lines}
+use Rattle.droid_signature_combinations.proofs.StepsOfTables.{tables_read}
+use Rattle.droid_signature_combinations.specs.Records.{FileRecord}
+use Rattle.droid_signature_combinations.specs.Formats.{formats_of}
+use Rattle.droid_signature_combinations.specs.table_types.left_out.LeftOut.{LeftOut}
+use Rattle.droid_signature_combinations.specs.Views.{kept_of}
+use Rattle.droid_signature.specs.AllTables.{AreTablesOf, all_left, all_text, kept_in, taken_in}
+use Rattle.droid_signature.specs.Conversion.{IsConversion, Parts, tables_of}
+use Rattle.droid_signature.specs.declared.conversion.Taken.{Taken}
 use Rattle.droid_signature.specs.declared.tables.AllTables.{AllTables}
 use Rattle.droid_signature.proofs.FormatHitting.{hits_as}
 use Rattle.droid_signature.proofs.Validity.{are_tables}
@@ -40,14 +43,22 @@ text_is file it are =
     ∙ ap (λ t. format_lines (formats_of (kept_in it)) ++ extension_lines are.extensions.rows ++ priority_lines are.priorities.rows ++ t) are.signatures.text
     ∙ grouped (format_lines (formats_of (kept_in it))) (extension_lines are.extensions.rows) (priority_lines are.priorities.rows) (signature_lines (flat are.signatures.rows))
 
-pub made_of : (file : FileRecord) (it : AllTables) (csv : List ℕ) (left : List LeftOut) → AreTablesOf file it → csv ≡ all_text it → left ≡ all_left it → IsMadeOf file csv left
-made_of file it csv left are written listed =
+pub made_of : (file : FileRecord) (it : AllTables) (csv : List ℕ) (left : List LeftOut) (taken : Taken) → AreTablesOf file it → csv ≡ all_text it → left ≡ all_left it → taken ≡ taken_in it → IsConversion file csv left taken
+made_of file it csv left taken are written listed counted =
     let parts = parts_in file it are in
     let text = written ∙ text_is file it are in
     record {
-      parts = parts;
-      text = text;
-      accepted = λ few. subst (λ (t : List ℕ). File t (Ok (registry_of (tables_of parts)))) (sym text) (tables_read (tables_of parts) (are_tables file parts) (subst (λ (t : List ℕ). length t ≤ 16777216) text few));
-      reported = listed;
-      hits = λ place format there. hits_as file parts left listed place format there;
+      made = record {
+        parts = parts;
+        text = text;
+        accepted = λ few. subst (λ (t : List ℕ). File t (Ok (registry_of (tables_of parts)))) (sym text) (tables_read (tables_of parts) (are_tables file parts) (subst (λ (t : List ℕ). length t ≤ 16777216) text few));
+        reported = listed;
+        hits = λ place format there. hits_as file parts left listed place format there;
+      };
+      counts = record {
+        formats = ap (λ (t : Taken). t.formats) counted ∙ sym (length-map it.formats.kept.items kept_of);
+        extensions = ap (λ (t : Taken). t.extensions) counted ∙ are.extensions.count;
+        priorities = ap (λ (t : Taken). t.priorities) counted ∙ are.priorities.count;
+        signatures = ap (λ (t : Taken). t.signatures) counted ∙ are.signatures.taken;
+      };
     }

@@ -5,10 +5,10 @@ use Rattle.std.specs.Ordering.{is_eq, nat_cmp}
 use Rattle.std.proofs.lemmas.Bool.{eqb-true, ltb-true}
 use Rattle.std.proofs.lemmas.List.{append-nil, take_more}
 use Rattle.std.proofs.lemmas.List.Concat.{flat_map-append}
-use Rattle.droid_signature_spec.specs.Records.{FormatRecord, SignatureRecord}
+use Rattle.droid_signature_combinations.specs.Records.{FormatRecord, SignatureRecord}
 use Rattle.droid_signature.specs.Unnamed.{ids_named, is_named, unnamed_among}
 
-same_key : (k q : ℕ) → is_eq (nat_cmp k q) ≡ (k == q)
+pub same_key : (k q : ℕ) → is_eq (nat_cmp k q) ≡ (k == q)
 same_key k q = by (nat_lt k q) (k == q) refl refl
   where
     by : (a b : Bool) → nat_lt k q ≡ a → (k == q) ≡ b → is_eq (cond (nat_lt k q) Less (cond (k == q) Equal Greater)) ≡ (k == q)

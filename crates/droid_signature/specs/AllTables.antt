@@ -1,15 +1,16 @@
 -- For proofs: the tables of a signature file.
-use Rattle.std.specs.Prelude.{ℕ, List, ◌++◌}
+use Rattle.std.specs.Prelude.{ℕ, List, ◌++◌, length}
 use Rattle.droid_signature_combinations.specs.Signatures.{Signs, all_signatures}
-use Rattle.droid_signature_rows.specs.RegistryTables.{extension_fields, priority_fields}
-use Rattle.droid_signature_spec.specs.Records.{FileRecord}
-use Rattle.droid_signature_tables.specs.Extensions.{LeavesExtension, TakesExtension, all_extensions}
-use Rattle.droid_signature_tables.specs.Formats.{Placed, placed}
-use Rattle.droid_signature_tables.specs.Keepings.{Keeps}
-use Rattle.droid_signature_tables.specs.Priorities.{LeavesPriority, TakesPriority, all_priorities}
-use Rattle.droid_signature_tables.specs.Tables.{Fills}
-use Rattle.droid_signature_tables.specs.Views.{all_of}
-use Rattle.droid_signature_tables.specs.declared.left_out.LeftOut.{LeftOut}
+use Rattle.droid_signature_combinations.specs.RegistryTables.{extension_fields, priority_fields}
+use Rattle.droid_signature_combinations.specs.Records.{FileRecord}
+use Rattle.droid_signature_combinations.specs.Extensions.{LeavesExtension, TakesExtension, all_extensions}
+use Rattle.droid_signature_combinations.specs.Formats.{Placed, placed}
+use Rattle.droid_signature_combinations.specs.Keepings.{Keeps}
+use Rattle.droid_signature_combinations.specs.Priorities.{LeavesPriority, TakesPriority, all_priorities}
+use Rattle.droid_signature_combinations.specs.Tables.{Fills}
+use Rattle.droid_signature_combinations.specs.Views.{all_of}
+use Rattle.droid_signature_combinations.specs.table_types.left_out.LeftOut.{LeftOut}
+use Rattle.droid_signature.specs.declared.conversion.Taken.{Taken}
 use Rattle.droid_signature.specs.declared.tables.AllTables.{AllTables}
 
 -- the formats that the registry has
@@ -28,3 +29,6 @@ all_text it = it.formats.table.text.items ++ it.extensions.text.items ++ it.prio
 
 abbrev pub all_left : AllTables → List LeftOut
 all_left it = it.formats.table.left_out.items ++ it.extensions.left_out.items ++ it.priorities.left_out.items ++ it.signatures.left_out.items
+
+abbrev pub taken_in : AllTables → Taken
+taken_in it = record { formats = length it.formats.kept.items; extensions = it.extensions.count; priorities = it.priorities.count; signatures = it.signatures.taken }

@@ -1,21 +1,22 @@
 -- The registry of a whole signature file.
-use Rattle.std.specs.Prelude.{◌≡◌, ℕ, ◌<◌, ◌≤◌, List, ◌++◌, length, Ok, Some, slice_get}
+use Rattle.std.specs.Prelude.{◌≡◌, ℕ, ◌-◌, ◌^◌, ◌<◌, ◌≤◌, min, List, ◌++◌, length, Ok, Some, slice_get}
 use Rattle.std.specs.List.{AllByRecursion}
-use Rattle.droid_pronom.specs.Found.{Hits, IsHit}
-use Rattle.droid_pronom.specs.Registry.{Contents}
-use Rattle.droid_pronom.specs.RegistryFile.{File}
+use Rattle.droid_signature_combinations.specs.Found.{Hits, IsHit}
+use Rattle.droid_signature_combinations.specs.Registry.{Contents}
+use Rattle.droid_signature_combinations.specs.RegistryFile.{File}
 use Rattle.droid_signature_combinations.specs.SignatureRows.{flat}
 use Rattle.droid_signature_combinations.specs.Signatures.{LeavesSignature, TakesSignature, all_signatures}
-use Rattle.droid_signature_rows.specs.RegistryTables.{ExtensionRow, PriorityRow, SignatureRow, Tables, file_of, registry_of}
-use Rattle.droid_signature_spec.specs.Meaning.{FormatHits}
-use Rattle.droid_signature_spec.specs.Records.{FileRecord}
-use Rattle.droid_signature_tables.specs.Extensions.{LeavesExtension, TakesExtension, all_extensions}
-use Rattle.droid_signature_tables.specs.Formats.{LeavesFormat, Placed, TakesFormat, formats_of, placed}
-use Rattle.droid_signature_tables.specs.Priorities.{LeavesPriority, TakesPriority, all_priorities}
-use Rattle.droid_signature_tables.specs.Sifting.{Sifted}
-use Rattle.droid_signature_tables.specs.declared.left_out.Item.TheVariants as items
-use Rattle.droid_signature_tables.specs.declared.left_out.LeftOut.{LeftOut}
-use Rattle.droid_signature_tables.specs.declared.left_out.Why.{Why}
+use Rattle.droid_signature_combinations.specs.RegistryTables.{ExtensionRow, PriorityRow, SignatureRow, Tables, file_of, registry_of}
+use Rattle.droid_signature_combinations.specs.Meaning.{FormatHits}
+use Rattle.droid_signature_combinations.specs.Records.{FileRecord}
+use Rattle.droid_signature_combinations.specs.Extensions.{LeavesExtension, TakesExtension, all_extensions}
+use Rattle.droid_signature_combinations.specs.Formats.{LeavesFormat, Placed, TakesFormat, formats_of, placed}
+use Rattle.droid_signature_combinations.specs.Priorities.{LeavesPriority, TakesPriority, all_priorities}
+use Rattle.droid_signature_combinations.specs.Sifting.{Sifted}
+use Rattle.droid_signature_combinations.specs.table_types.left_out.Item.TheVariants as items
+use Rattle.droid_signature_combinations.specs.table_types.left_out.LeftOut.{LeftOut}
+use Rattle.droid_signature_combinations.specs.table_types.left_out.Why.{Why}
+use Rattle.droid_signature.specs.declared.conversion.Taken.{Taken}
 
 -- a signature of the format at a place of the file is left out
 pub record IsSignatureOf (place : ℕ) (it : LeftOut) : Type 0 where
@@ -66,6 +67,18 @@ pub record IsMadeOf (file : FileRecord) (csv : List ℕ) (left : List LeftOut) :
   pub reported : left ≡ left_of parts
   -- each format hits as in the signature file
   pub hits : (place : ℕ) (it : Placed) → slice_get parts.kept place ≡ Some it → HitsAs file (registry_of (tables_of parts)) left place it
+
+-- how much of the file the registry has; of signatures up to the greatest number of 64 bits
+pub record AreCounts {file : FileRecord} (parts : Parts file) (taken : Taken) : Type 0 where
+  pub formats : taken.formats ≡ length parts.kept
+  pub extensions : taken.extensions ≡ length parts.extensions
+  pub priorities : taken.priorities ≡ length parts.priorities
+  pub signatures : taken.signatures ≡ min (length parts.signatures) (2 ^ 64 - 1)
+
+-- a registry file that is made of a signature file, with what is left out, and with how much it has
+pub record IsConversion (file : FileRecord) (csv : List ℕ) (left : List LeftOut) (taken : Taken) : Type 0 where
+  pub made : IsMadeOf file csv left
+  pub counts : AreCounts made.parts taken
 
 -- the registry file would be too long
 pub record IsTooLong (file : FileRecord) : Type 0 where

@@ -3,7 +3,7 @@ use Rattle.std.specs.Prelude.{◌≡◌, ℕ, ◌==◌, Bool, List, [], ◌∷�
 use Rattle.std.specs.BTreeMap.{get_by}
 use Rattle.std.specs.List.{flat_map, list_any}
 use Rattle.std.specs.Ordering.{nat_cmp}
-use Rattle.droid_signature_spec.specs.Records.{FileRecord, FormatRecord, SignatureRecord}
+use Rattle.droid_signature_combinations.specs.Records.{FileRecord, FormatRecord, SignatureRecord}
 use Rattle.droid_signature.specs.declared.unnamed.Named.{Named}
 
 -- the IDs that formats name

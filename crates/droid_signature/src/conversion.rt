@@ -1,12 +1,12 @@
 //! The registry of a signature file.
 
 ghost use Rattle.std.specs.Prelude.{◌≡◌, ◌<◌, ◌≤◌, Err, IfOk, length};
-ghost use Rattle.droid_signature.specs.Conversion.{IsMadeOf, IsTooLong};
+ghost use Rattle.droid_signature.specs.Conversion.{IsConversion, IsTooLong};
+ghost use Rattle.droid_signature.specs.AllTables.{taken_in};
 ghost use Rattle.droid_signature.specs.declared.conversion.ConversionFault.TheVariants as faults;
 
 use crate::tables::{AllTables, left_out_of, tables_of, text_of};
-use droid_signature_spec::SignatureFile;
-use droid_signature_tables::LeftOut;
+use droid_signature_combinations::{LeftOut, SignatureFile};
 use std::alloc::{AllocError, AllocFailed, Global};
 
 /// The most bytes of a registry file.
@@ -64,7 +64,7 @@ pub struct Converted {
 /// extensions and priorities, and each hits only files that it hits by the signature file, under every scan limit. It hits all
 /// of them, if none of its signatures is left out. What is left out is listed, with the reason.
 pub fn convert(alloc: Global, file: &SignatureFile) -> Result<Converted, ConversionFault>
-    ensures made { IfOk result (λ made. IsMadeOf file.now made.csv.items made.left_out.items) }
+    ensures made { IfOk result (λ made. IsConversion file.now made.csv.items made.left_out.items made.taken) }
     ensures short { IfOk result (λ made. length made.csv.items ≤ 16777216) }
     ensures too_long { result ≡ Err faults.TooLong → IsTooLong file.now }
 {
@@ -76,7 +76,7 @@ pub fn convert(alloc: Global, file: &SignatureFile) -> Result<Converted, Convers
 }
 
 fn make(alloc: Global, file: &SignatureFile) -> Result<Converted, AllocError>
-    ensures { IfOk result (λ made. IsMadeOf file.now made.csv.items made.left_out.items) }
+    ensures { IfOk result (λ made. IsConversion file.now made.csv.items made.left_out.items made.taken) }
 {
     let tables = tables_of(alloc, file)?;
     let csv = text_of(alloc, &tables)?;
@@ -88,7 +88,9 @@ fn make(alloc: Global, file: &SignatureFile) -> Result<Converted, AllocError>
     })
 }
 
-fn taken_of(tables: &AllTables<'_>) -> Taken {
+fn taken_of(tables: &AllTables<'_>) -> Taken
+    ensures { result ≡ taken_in tables.now }
+{
     Taken {
         formats: tables.formats.kept.len() as u64,
         extensions: tables.extensions.count,

@@ -5,12 +5,14 @@
 #![tactic(auto)]
 
 mod conversion;
+mod omissions;
 mod tables;
 mod unnamed;
 
 pub use conversion::{ConversionFault, Converted, Taken, convert};
-pub use droid_signature_file::{FileFault, Wrong, read};
-pub use droid_signature_spec::{FileFormat, SignatureFile, UnknownName, UnknownPart};
-pub use droid_signature_tables::{Item, LeftOut, Reason, Why};
-pub use droid_xml::Problem;
+pub use droid_signature_combinations::{
+    FileFault, FileFormat, Item, LeftOut, Problem, Reason, SignatureFile, UnknownName, UnknownPart,
+    Why, Wrong, read,
+};
+pub use omissions::all_left_out;
 pub use unnamed::unnamed_signatures;

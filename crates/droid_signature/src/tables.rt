@@ -3,10 +3,9 @@
 ghost use Rattle.std.specs.Prelude.{◌≡◌, ◌++◌, IfOk, OnOk};
 ghost use Rattle.droid_signature.specs.AllTables.{AreTablesOf, all_left, all_text};
 
-use droid_signature_combinations::{Outcomes, SignatureTable, list_signatures};
-use droid_signature_spec::SignatureFile;
-use droid_signature_tables::{
-    Keeping, LeftOut, Table, ids_of, keep_formats, list_extensions, list_priorities,
+use droid_signature_combinations::{
+    Keeping, LeftOut, Outcomes, SignatureFile, SignatureTable, Table, ids_of, keep_formats,
+    list_extensions, list_priorities, list_signatures,
 };
 use std::alloc::{AllocError, Global};
 
@@ -64,7 +63,8 @@ pub(crate) fn left_out_of(alloc: Global, tables: &AllTables<'_>) -> Result<Vec<L
     Ok(left)
 }
 
-fn push_all(left: &mut Vec<LeftOut>, more: &[LeftOut]) -> Result<(), AllocError>
+/// Appends all of these.
+pub(crate) fn push_all(left: &mut Vec<LeftOut>, more: &[LeftOut]) -> Result<(), AllocError>
     ensures { OnOk result (left.new.items ≡ left.old.items ++ more.now) }
 {
     for it in more {

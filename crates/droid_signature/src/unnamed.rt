@@ -3,7 +3,7 @@
 ghost use Rattle.std.specs.Prelude.{◌≡◌, ◌++◌, ◌∷◌, [], ℕ, List, IfOk, OnOk, if◌then◌else◌};
 ghost use Rattle.droid_signature.specs.Unnamed.{AreNamed, ids_named, is_named, unnamed, unnamed_among};
 
-use droid_signature_spec::{FileFormat, InternalSignature, SignatureFile};
+use droid_signature_combinations::{FileFormat, InternalSignature, SignatureFile};
 use std::alloc::{AllocError, Global};
 use std::collections::BTreeMap;
 

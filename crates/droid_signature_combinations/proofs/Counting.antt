@@ -4,9 +4,9 @@ use Rattle.std.specs.Prelude.{min}
 use Rattle.std.proofs.lemmas.Bool.{cases_lt}
 use Rattle.std.proofs.lemmas.List.{take_more}
 use Rattle.std.proofs.lemmas.Nat.{div-mul-add, div_below, mod_below}
-use Rattle.droid_signature_patterns.specs.Choices.{ways}
-use Rattle.droid_signature_patterns.specs.declared.choices.Choices.{Choices}
-use Rattle.droid_signature_patterns.proofs.Ways.{ways_push}
+use Rattle.droid_signature_tables.specs.Choices.{ways}
+use Rattle.droid_signature_tables.specs.choice_types.choices.Choices.{Choices}
+use Rattle.droid_signature_tables.proofs.Ways.{ways_push}
 
 product_suc : (a b : ℕ) → a * suc b ≡ a * b + a
 product_suc a b = omega arith

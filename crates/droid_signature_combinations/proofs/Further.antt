@@ -2,10 +2,10 @@
 use Rattle.std.proofs.Common.{◌≡◌, ◌∙◌, ℕ, ◌+◌, ◌*◌, ◌/◌, ◌%◌, ◌<◌, ◌≤◌, List, ◌∷◌, ◌++◌, length, drop, get_or, sym, ap, subst, append_assoc, arith}
 use Rattle.std.specs.Prelude.{codes, min}
 use Rattle.std.specs.List.{flat_map}
-use Rattle.droid_export.specs.Csv.{line}
-use Rattle.droid_pronom_formats.proofs.Flags.{rest_of_item}
-use Rattle.droid_signature_patterns.specs.Choices.{ways}
-use Rattle.droid_signature_patterns.specs.declared.choices.Choices.{Choices}
+use Rattle.droid_signature_tables.specs.Csv.{line}
+use Rattle.droid_signature_tables.proofs.Flags.{rest_of_item}
+use Rattle.droid_signature_tables.specs.Choices.{ways}
+use Rattle.droid_signature_tables.specs.choice_types.choices.Choices.{Choices}
 use Rattle.droid_signature_combinations.specs.Combinations.{further_fields, pick, pick_fields, pick_rows, picks}
 use Rattle.droid_signature_combinations.proofs.Counting.{factors, quotient_below, quotient_is, remainder_below, rest_small}
 

@@ -3,13 +3,13 @@ use Rattle.std.proofs.Common.{◌≡◌, ◌↔◌, ◌∙◌, ℕ, zero, suc, �
 use Rattle.std.specs.List.{AllByRecursion}
 use Rattle.std.proofs.lemmas.List.{map-append}
 use Rattle.std.proofs.lemmas.Nat.{div-mul-add, mod-mul-add}
-use Rattle.droid_pronom.specs.Found.{Hits}
-use Rattle.droid_pronom.specs.Registry.{AnyOf}
-use Rattle.droid_pronom.specs.types.rows.ByteSequence.{ByteSequence}
-use Rattle.droid_signature_rows.specs.RegistryTables.{SequenceRow, sequence_of}
-use Rattle.droid_signature_spec.specs.Meaning.{SequenceHits}
-use Rattle.droid_signature_spec.specs.Records.{ByteSequenceRecord}
-use Rattle.droid_signature_spec.proofs.Choices.{choices_hit}
+use Rattle.droid_signature_tables.specs.Found.{Hits}
+use Rattle.droid_signature_tables.specs.Registry.{AnyOf}
+use Rattle.droid_signature_tables.specs.pronom_types.rows.ByteSequence.{ByteSequence}
+use Rattle.droid_signature_tables.specs.RegistryTables.{SequenceRow, sequence_of}
+use Rattle.droid_signature_tables.specs.Meaning.{SequenceHits}
+use Rattle.droid_signature_tables.specs.Records.{ByteSequenceRecord}
+use Rattle.droid_signature_tables.proofs.SequenceChoices.{choices_hit}
 use Rattle.droid_signature_combinations.specs.SignatureRows.{AreRowsFor, RowsFor, combination, ways_of}
 use Rattle.droid_signature_combinations.proofs.Counting.{quotient_below, remainder_below}
 

@@ -3,7 +3,7 @@ use Rattle.std.proofs.Common.{◌≡◌, ◌∙◌, ℕ, zero, suc, ◌+◌, ◌
 use Rattle.std.specs.List.{slice_get}
 use Rattle.std.proofs.lemmas.List.{length-map, length-take-le, map-append, take_more}
 use Rattle.std.proofs.lemmas.Option.{same_Some}
-use Rattle.droid_signature_spec.specs.Records.{SignatureRecord}
+use Rattle.droid_signature_tables.specs.Records.{SignatureRecord}
 use Rattle.droid_signature_tables.specs.Holders.{holder}
 use Rattle.droid_signature_tables.specs.Holdings.{AreOf}
 use Rattle.droid_signature_tables.specs.declared.ids.Holder.TheVariants.{Only}

@@ -4,11 +4,11 @@ use Rattle.std.specs.Prelude.{codes, slice_index_or}
 use Rattle.std.specs.List.{flat_map, AllByRecursion}
 use Rattle.std.proofs.lemmas.List.{append-nil, length-map, map-append}
 use Rattle.std.proofs.lemmas.List.Concat.{flat_map-append}
-use Rattle.droid_export.specs.Csv.{line}
-use Rattle.droid_pronom.specs.types.rows.Offsets.{Offsets}
-use Rattle.droid_signature_patterns.specs.Choices.{ways}
-use Rattle.droid_signature_patterns.specs.declared.choices.Choices.{Choices}
-use Rattle.droid_signature_rows.specs.RegistryTables.{SequenceRow, SignatureRow, sequence_fields, signature_fields, signature_lines}
+use Rattle.droid_signature_tables.specs.Csv.{line}
+use Rattle.droid_signature_tables.specs.pronom_types.rows.Offsets.{Offsets}
+use Rattle.droid_signature_tables.specs.Choices.{ways}
+use Rattle.droid_signature_tables.specs.choice_types.choices.Choices.{Choices}
+use Rattle.droid_signature_tables.specs.RegistryTables.{SequenceRow, SignatureRow, sequence_fields, signature_fields, signature_lines}
 use Rattle.droid_signature_combinations.specs.Combinations.{Pick, further_fields, lines_below, pick, pick_rows, picks}
 use Rattle.droid_signature_combinations.specs.SignatureRows.{combination, rows_below, ways_of}
 use Rattle.droid_signature_combinations.proofs.Counting.{quotient_below, remainder_below}

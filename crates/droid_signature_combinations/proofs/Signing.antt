@@ -1,17 +1,17 @@
 -- A signature becomes rows, or is left out.
-use Rattle.std.proofs.Common.{◌≡◌, ◌∙◌, ℕ, zero, suc, ◌+◌, ◌*◌, ◌/◌, ◌%◌, ◌<◌, ◌≤◌, List, [], ◌∷◌, ◌++◌, length, map, take, drop, get_or, length-append, refl, sym, ap, subst, append_assoc, arith}
+use Rattle.std.proofs.Common.{◌≡◌, ◌∙◌, ℕ, zero, suc, ◌+◌, ◌*◌, ◌-◌, ◌^◌, ◌/◌, ◌%◌, ◌<◌, ◌≤◌, min, List, [], ◌∷◌, ◌++◌, length, map, take, drop, get_or, length-append, refl, sym, ap, subst, append_assoc, arith}
 use Rattle.std.specs.List.{flat_map, AllByRecursion}
 use Rattle.std.proofs.lemmas.List.{append-nil}
 use Rattle.std.proofs.lemmas.List.Concat.{flat_map-append}
-use Rattle.droid_export.specs.Csv.{line}
-use Rattle.droid_pronom.specs.Patterns.{Element}
-use Rattle.droid_pronom.specs.types.rows.Offsets.{Offsets}
-use Rattle.droid_signature_patterns.specs.Choices.{AreAllTaken, AreReadAs, IsTaken}
-use Rattle.droid_signature_patterns.specs.Parts.{row_patterns}
-use Rattle.droid_signature_patterns.specs.declared.choices.Choices.{Choices}
-use Rattle.droid_signature_rows.specs.RegistryTables.{SequenceFits, SequenceRow, SignatureRow, sequence_count, sequence_of, signature_fields, signature_lines}
-use Rattle.droid_signature_spec.specs.Records.{ByteSequenceRecord, SignatureRecord}
-use Rattle.droid_signature_spec.specs.Sequences.{choices}
+use Rattle.droid_signature_tables.specs.Csv.{line}
+use Rattle.droid_signature_tables.specs.Patterns.{Element}
+use Rattle.droid_signature_tables.specs.pronom_types.rows.Offsets.{Offsets}
+use Rattle.droid_signature_tables.specs.Choices.{AreAllTaken, AreReadAs, IsTaken}
+use Rattle.droid_signature_tables.specs.Parts.{row_patterns}
+use Rattle.droid_signature_tables.specs.choice_types.choices.Choices.{Choices}
+use Rattle.droid_signature_tables.specs.RegistryTables.{SequenceFits, SequenceRow, SignatureRow, sequence_count, sequence_of, signature_fields, signature_lines}
+use Rattle.droid_signature_tables.specs.Records.{ByteSequenceRecord, SignatureRecord}
+use Rattle.droid_signature_tables.specs.Sequences.{choices}
 use Rattle.droid_signature_tables.specs.Formats.{puid_in}
 use Rattle.droid_signature_tables.specs.Sifting.{Sifted, by_place, left_out, none, taken}
 use Rattle.droid_signature_tables.specs.declared.left_out.LeftOut.{LeftOut}
@@ -133,6 +133,7 @@ signs_new signatures table is = record {
   rows = [];
   sifted = subst (λ (l : List LeftOut). Sifted (TakesSignature signatures) (LeavesSignature signatures) [] [] l) (sym is.left_out) none;
   text = is.text;
+  taken = let none = is.taken in omega arith;
   count = is.count;
   sequences = is.sequences;
 }
@@ -146,15 +147,16 @@ signs_left signatures xs it reason old new signs has holds = record {
       subst (λ (l : List LeftOut). Sifted (TakesSignature signatures) (LeavesSignature signatures) (xs ++ it ∷ []) signs.rows l) (sym has.left_out)
       (left_out signs.sifted (record { why = reason; listed = refl; holds = holds signs.rows signs.count signs.sequences }));
   text = has.text ∙ signs.text;
+  taken = has.taken ∙ signs.taken;
   count = has.count ∙ signs.count;
   sequences = has.sequences ∙ signs.sequences;
 }
 
 pub signs_taken : (signatures : List SignatureRecord) (xs : List Named) (it : Named) (at : ℕ) (signature : SignatureRecord) (lists : List (List SequenceRow)) (old new : SignatureTable) → Signs signatures xs old
     → IsOnlySignature signatures it.id at signature → AreRowsFor signature.sequences lists → 0 < length lists
-    → new.text.items ≡ old.text.items ++ signature_lines (rows_of it.place (puid_in it.of.format) lists) → new.count ≡ old.count + ways_of lists → new.sequences ≡ old.sequences + ways_of lists * length lists
+    → new.text.items ≡ old.text.items ++ signature_lines (rows_of it.place (puid_in it.of.format) lists) → new.taken ≡ min (old.taken + 1) (2 ^ 64 - 1) → new.count ≡ old.count + ways_of lists → new.sequences ≡ old.sequences + ways_of lists * length lists
     → new.left_out.items ≡ old.left_out.items → new.count ≤ 16384 → new.sequences ≤ 32768 → Signs signatures (xs ++ it ∷ []) new
-signs_taken signatures xs it at signature lists old new signs only stand some text count sequences left few fewer =
+signs_taken signatures xs it at signature lists old new signs only stand some text one_more count sequences left few fewer =
     let rows = rows_of it.place (puid_in it.of.format) lists in
     let grown = flat_push signs.rows rows in
     let one = rows_length it.place (puid_in it.of.format) lists (ways_of lists) in
@@ -163,12 +165,15 @@ signs_taken signatures xs it at signature lists old new signs only stand some te
     let more : sequence_count (flat (signs.rows ++ rows ∷ [])) ≡ sequence_count (flat signs.rows) + ways_of lists * length lists = ap sequence_count grown ∙ sequences_append (flat signs.rows) rows ∙ ap (λ n. sequence_count (flat signs.rows) + n) several in
     let was = signs.count in
     let were = signs.sequences in
+    let so_far = signs.taken in
+    let next = length-append signs.rows (rows ∷ []) in
     record {
       rows = signs.rows ++ rows ∷ [];
       sifted =
           subst (λ (l : List LeftOut). Sifted (TakesSignature signatures) (LeavesSignature signatures) (xs ++ it ∷ []) (signs.rows ++ rows ∷ []) l) (sym left)
           (taken signs.sifted (record { at = at; signature = signature; only = only; lists = lists; stand = stand; some = some; same = refl; few_signatures = omega arith; few_sequences = omega arith }));
       text = text ∙ ap (λ t. t ++ signature_lines rows) signs.text ∙ sym (lines_push (flat signs.rows) rows) ∙ ap signature_lines (sym grown);
+      taken = omega arith;
       count = omega arith;
       sequences = omega arith;
     }

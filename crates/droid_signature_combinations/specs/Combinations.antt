@@ -1,11 +1,11 @@
 -- One text for each byte sequence, and the rows that they are written as.
 use Rattle.std.specs.Prelude.{ℕ, zero, suc, ◌/◌, ◌%◌, List, [], ◌∷◌, ◌++◌, map, codes, decimal, slice_index_or}
 use Rattle.std.specs.List.{flat_map}
-use Rattle.droid_export.specs.Csv.{line}
-use Rattle.droid_pronom.specs.types.rows.Offsets.{Offsets}
-use Rattle.droid_signature_patterns.specs.Choices.{ways}
-use Rattle.droid_signature_patterns.specs.declared.choices.Choices.{Choices}
-use Rattle.droid_signature_rows.specs.RegistryTables.{anchor_text}
+use Rattle.droid_signature_tables.specs.Csv.{line}
+use Rattle.droid_signature_tables.specs.pronom_types.rows.Offsets.{Offsets}
+use Rattle.droid_signature_tables.specs.Choices.{ways}
+use Rattle.droid_signature_tables.specs.choice_types.choices.Choices.{Choices}
+use Rattle.droid_signature_tables.specs.RegistryTables.{anchor_text}
 
 -- a byte sequence: its offsets, and a text
 pub record Pick : Type 0 where

@@ -1,7 +1,7 @@
 -- What each signature of a file becomes.
 use Rattle.std.specs.Prelude.{List, [], ◌∷◌, ⊤}
-use Rattle.droid_signature_patterns.specs.Choices.{AreTaken, IsReasonOf}
-use Rattle.droid_signature_spec.specs.Records.{SignatureRecord}
+use Rattle.droid_signature_tables.specs.Choices.{AreTaken, IsReasonOf}
+use Rattle.droid_signature_tables.specs.Records.{SignatureRecord}
 use Rattle.droid_signature_tables.specs.Holdings.{AreOf}
 use Rattle.droid_signature_tables.specs.declared.left_out.Why.{Why}
 use Rattle.droid_signature_tables.specs.declared.left_out.Why.TheVariants as why

@@ -1,11 +1,11 @@
 -- The signatures of a registry that stand for one of a signature file.
 use Rattle.std.specs.Prelude.{◌≡◌, ℕ, zero, suc, ◌*◌, ◌/◌, ◌%◌, List, [], ◌∷◌, ◌++◌, length, map, take, drop, ⊤}
 use Rattle.std.specs.List.{AllByRecursion, flat_map}
-use Rattle.droid_pronom.specs.Patterns.{Element}
-use Rattle.droid_pronom.specs.types.rows.Offsets.{Offsets}
-use Rattle.droid_signature_rows.specs.RegistryTables.{SequenceFits, SequenceRow, SignatureRow, sequence_of}
-use Rattle.droid_signature_spec.specs.Records.{ByteSequenceRecord}
-use Rattle.droid_signature_spec.specs.Sequences.{StandFor, choices}
+use Rattle.droid_signature_tables.specs.Patterns.{Element}
+use Rattle.droid_signature_tables.specs.pronom_types.rows.Offsets.{Offsets}
+use Rattle.droid_signature_tables.specs.RegistryTables.{SequenceFits, SequenceRow, SignatureRow, sequence_of}
+use Rattle.droid_signature_tables.specs.Records.{ByteSequenceRecord}
+use Rattle.droid_signature_tables.specs.Sequences.{StandFor, choices}
 
 -- any of the rows has to hit where a byte sequence of the file does, and a registry takes each of them
 pub record RowsFor (sequence : ByteSequenceRecord) (rows : List SequenceRow) : Type 0 where

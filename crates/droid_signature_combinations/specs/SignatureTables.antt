@@ -7,6 +7,7 @@ use Rattle.droid_signature_combinations.specs.declared.signature_table.Signature
 -- without rows
 pub record IsNew (table : SignatureTable) : Type 0 where
   pub text : table.text.items ≡ []
+  pub taken : table.taken ≡ 0
   pub count : table.count ≡ 0
   pub sequences : table.sequences ≡ 0
   pub left_out : table.left_out.items ≡ []
@@ -14,6 +15,7 @@ pub record IsNew (table : SignatureTable) : Type 0 where
 -- with one more signature that is left out
 pub record HasLeft (old new : SignatureTable) (format id : ℕ) (why : Why) : Type 0 where
   pub text : new.text.items ≡ old.text.items
+  pub taken : new.taken ≡ old.taken
   pub count : new.count ≡ old.count
   pub sequences : new.sequences ≡ old.sequences
   pub left_out : new.left_out.items ≡ old.left_out.items ++ record { format = Some format; item = items.Signature id; why = why } ∷ []

@@ -1,8 +1,8 @@
 -- Which signatures the registry has.
-use Rattle.std.specs.Prelude.{◌≡◌, ◌⊎◌, ℕ, ◌+◌, ◌*◌, ◌<◌, ◌≤◌, List, [], ◌∷◌, length, map, Some, slice_get}
-use Rattle.droid_signature_patterns.specs.Choices.{IsReasonOf}
-use Rattle.droid_signature_rows.specs.RegistryTables.{SequenceRow, SignatureRow, sequence_count, signature_lines}
-use Rattle.droid_signature_spec.specs.Records.{SignatureRecord}
+use Rattle.std.specs.Prelude.{◌≡◌, ◌⊎◌, ℕ, ◌+◌, ◌-◌, ◌*◌, ◌^◌, ◌<◌, ◌≤◌, min, List, [], ◌∷◌, length, map, Some, slice_get}
+use Rattle.droid_signature_tables.specs.Choices.{IsReasonOf}
+use Rattle.droid_signature_tables.specs.RegistryTables.{SequenceRow, SignatureRow, sequence_count, signature_lines}
+use Rattle.droid_signature_tables.specs.Records.{SignatureRecord}
 use Rattle.droid_signature_tables.specs.Formats.{Placed, puid_in}
 use Rattle.droid_signature_tables.specs.Holders.{holder}
 use Rattle.droid_signature_tables.specs.Sifting.{IsLeft, Sifted, by_place}
@@ -83,5 +83,7 @@ pub record Signs (signatures : List SignatureRecord) (xs : List Named) (table : 
   pub rows : List (List SignatureRow)
   pub sifted : Sifted (TakesSignature signatures) (LeavesSignature signatures) xs rows table.left_out.items
   pub text : table.text.items ≡ signature_lines (flat rows)
+  -- up to the greatest number of 64 bits
+  pub taken : table.taken ≡ min (length rows) (2 ^ 64 - 1)
   pub count : table.count ≡ length (flat rows)
   pub sequences : table.sequences ≡ sequence_count (flat rows)

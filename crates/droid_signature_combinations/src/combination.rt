@@ -2,14 +2,12 @@
 
 ghost use Rattle.std.specs.Prelude.{◌≡◌, ◌*◌, ◌<◌, ◌≤◌, ◌++◌, min, length, OnOk};
 ghost use Rattle.std.specs.List.{flat_map};
-ghost use Rattle.droid_export.specs.Csv.{line};
-ghost use Rattle.droid_signature_patterns.specs.Choices.{ways};
-ghost use Rattle.droid_signature_rows.specs.RegistryTables.{anchor_text};
+ghost use Rattle.droid_signature_tables.specs.Csv.{line};
+ghost use Rattle.droid_signature_tables.specs.Choices.{ways};
+ghost use Rattle.droid_signature_tables.specs.RegistryTables.{anchor_text};
 ghost use Rattle.droid_signature_combinations.specs.Combinations.{further_fields, lines_below, pick, pick_fields, pick_rows, picks};
 
-use droid_pronom_formats::Anchor;
-use droid_signature_patterns::Choices;
-use droid_signature_tables::push_row;
+use droid_signature_tables::{Anchor, Choices, push_row};
 use itoa::Buffer;
 use std::alloc::AllocError;
 

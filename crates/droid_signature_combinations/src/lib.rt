@@ -7,6 +7,11 @@ mod listing;
 mod outcomes;
 mod signature_table;
 
+pub use droid_signature_tables::{
+    FileFault, FileFormat, InternalSignature, Item, Keeping, LeftOut, Problem, Reason,
+    SignatureFile, Table, UnknownName, UnknownPart, Why, Wrong, ids_of, keep_formats,
+    list_extensions, list_priorities, read,
+};
 pub use listing::list_signatures;
 pub use outcomes::{Outcome, Outcomes};
 pub use signature_table::SignatureTable;

@@ -1,7 +1,7 @@
 //! The signatures of all formats.
 
 ghost use Rattle.std.specs.Prelude.{◌≡◌, ◌++◌, ◌∷◌, [], ℕ, List, IfOk, OnOk};
-ghost use Rattle.droid_signature_spec.specs.Records.{SignatureRecord};
+ghost use Rattle.droid_signature_tables.specs.Records.{SignatureRecord};
 ghost use Rattle.droid_signature_tables.specs.Views.{all_of, kept_of};
 ghost use Rattle.droid_signature_combinations.specs.Outcomes.{AreOutcomesOf};
 ghost use Rattle.droid_signature_combinations.specs.Signatures.{Named, Signs, all_signatures, signatures_of};

@@ -1,14 +1,14 @@
 //! What each signature of a file becomes.
 
 ghost use Rattle.std.specs.Prelude.{◌≡◌, ℕ, List, Some, slice_get, option_copied, IfErr, IfOk};
-ghost use Rattle.droid_signature_patterns.specs.Choices.{AreTaken};
-ghost use Rattle.droid_signature_spec.specs.Records.{SignatureRecord};
+ghost use Rattle.droid_signature_tables.specs.Choices.{AreTaken};
+ghost use Rattle.droid_signature_tables.specs.Records.{SignatureRecord};
 ghost use Rattle.droid_signature_combinations.specs.Outcomes.{AreOutcomes, AreOutcomesOf, IsOutcome, IsReasonHere};
 ghost use Rattle.droid_signature_combinations.specs.Signatures.{IsOnlySignature, IsReasonOfId};
 
-use droid_signature_patterns::{Choices, Reason, Stop, choices_of};
-use droid_signature_spec::InternalSignature;
-use droid_signature_tables::{Holder, Ids, Why};
+use droid_signature_tables::{
+    Choices, Holder, Ids, InternalSignature, Reason, Stop, Why, choices_of,
+};
 use std::alloc::{AllocError, Global};
 
 /// What a signature of the file becomes.

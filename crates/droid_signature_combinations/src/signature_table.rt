@@ -1,15 +1,14 @@
 //! The table of signatures.
 
 ghost use Rattle.std.specs.Prelude.{◌≡◌, ◌⊎◌, ◌<◌, ◌≤◌, ◌++◌, ◌∷◌, [], ℕ, List, true, false, OnOk};
-ghost use Rattle.droid_signature_patterns.specs.Choices.{AreTaken, ways};
-ghost use Rattle.droid_signature_spec.specs.Records.{SignatureRecord};
+ghost use Rattle.droid_signature_tables.specs.Choices.{AreTaken, ways};
+ghost use Rattle.droid_signature_tables.specs.Records.{SignatureRecord};
 ghost use Rattle.droid_signature_tables.specs.Views.{kept_of};
 ghost use Rattle.droid_signature_combinations.specs.Signatures.{IsOnlySignature, Named, Signs};
 ghost use Rattle.droid_signature_combinations.specs.SignatureTables.{HasLeft, IsNew};
 
 use crate::combination::{push_combinations, ways};
-use droid_signature_patterns::Choices;
-use droid_signature_tables::{Item, Kept, LeftOut, Why, puid_of};
+use droid_signature_tables::{Choices, Item, Kept, LeftOut, Why, puid_of};
 use std::alloc::{AllocError, Global};
 
 /// The most signatures of a registry.

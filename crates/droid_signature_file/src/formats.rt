@@ -9,8 +9,7 @@ use crate::fault::Stop;
 use crate::from_node::{FromNode, read_each};
 use crate::node::Node;
 use crate::numbers::wanted;
-use droid_frame::Text;
-use droid_signature_spec::{FileFormat, FormatAttributes};
+use droid_signature_spec::{FileFormat, FormatAttributes, Text};
 use std::alloc::{AllocError, Global};
 
 impl FromNode for FileFormat {

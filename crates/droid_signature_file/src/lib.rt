@@ -16,5 +16,10 @@ mod tables;
 mod tally;
 mod words;
 
+pub use droid_signature_spec::{
+    Anchor, FileFormat, Fragment, InternalSignature, OffsetRange, Offsets, Reference,
+    SequenceRecord, SignatureFile, SubSequence, UnknownName, UnknownPart, is_puid,
+};
+pub use droid_xml::Problem;
 pub use fault::{FileFault, Wrong};
 pub use file::read;

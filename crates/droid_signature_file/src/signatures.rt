@@ -9,9 +9,8 @@ use crate::fault::{Stop, Wrong};
 use crate::from_node::{FromNode, read_each};
 use crate::node::Node;
 use crate::numbers::{optional, wanted};
-use droid_frame::Text;
 use droid_signature_spec::{
-    Fragment, InternalSignature, OffsetRange, Reference, SequenceRecord, SubSequence,
+    Fragment, InternalSignature, OffsetRange, Reference, SequenceRecord, SubSequence, Text,
 };
 use std::alloc::Global;
 

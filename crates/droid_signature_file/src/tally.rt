@@ -6,8 +6,7 @@ ghost use Rattle.droid_xml.specs.Views.{part, tag};
 ghost use Rattle.droid_signature_file.specs.Unknown as spec;
 
 use crate::kinds::{Kind, kind_outside};
-use droid_frame::Text;
-use droid_signature_spec::{UnknownName, UnknownPart};
+use droid_signature_spec::{Text, UnknownName, UnknownPart};
 use droid_xml::{Attribute, Element, Piece};
 use std::alloc::{AllocError, Global};
 use std::marker::Model;

@@ -4,14 +4,14 @@ use Rattle.std.specs.Prelude.{nat_le, nat_lt, MatchBool}
 use Rattle.std.specs.List.{AllByRecursion, list_all}
 use Rattle.std.specs.Char.{digit_value}
 use Rattle.std.proofs.lemmas.Bool.{cases_order, lt-ltb, le-ltb, le-leb, lt-leb, leb-true, leb-false, ltb-true, and_parts, and_from, false≢true}
-use Rattle.droid_pronom_pattern.specs.Patterns.{Element, Range, Except}
-use Rattle.droid_pronom_pattern.specs.PatternText.{IsPair, SpellsBytes, SpellsAlternative}
-use Rattle.droid_pronom_pattern.specs.Fronts.{SpellsInBrackets}
-use Rattle.droid_pronom_pattern.proofs.TextLemmas.{first_mark, mark_between, bytes_have}
-use Rattle.droid_pronom_pattern.proofs.FrontLemmas as element
-use Rattle.droid_signature_spec.specs.Terms.{Atom, Plain, Outside, Between, Quoted, AreBytes, number_after}
-use Rattle.droid_signature_spec.specs.TermText.{AreBounds, IsQuotable}
-use Rattle.droid_signature_spec.proofs.Numbers.{less_after}
+use Rattle.droid_signature_file.specs.Patterns.{Element, Range, Except}
+use Rattle.droid_signature_file.specs.PatternText.{IsPair, SpellsBytes, SpellsAlternative}
+use Rattle.droid_signature_file.specs.Fronts.{SpellsInBrackets}
+use Rattle.droid_signature_file.proofs.TextLemmas.{first_mark, mark_between, bytes_have}
+use Rattle.droid_signature_file.proofs.FrontLemmas as element
+use Rattle.droid_signature_file.specs.Terms.{Atom, Plain, Outside, Between, Quoted, AreBytes, number_after}
+use Rattle.droid_signature_file.specs.TermText.{AreBounds, IsQuotable}
+use Rattle.droid_signature_file.proofs.Numbers.{less_after}
 use Rattle.droid_signature_parser.specs.TextFronts.{InBrackets, InQuotes}
 use Rattle.droid_signature_parser.proofs.ItemFronts.{heads}
 

@@ -5,13 +5,13 @@ use Rattle.std.specs.Char.{digit_value}
 use Rattle.std.proofs.lemmas.Bool.{cases_eq}
 use Rattle.std.proofs.lemmas.List.{append-nil, length-append}
 use Rattle.std.proofs.lemmas.List.Elements.{Contains-append_cases}
-use Rattle.droid_pronom_pattern.specs.Patterns.{Element, Byte, AnyByte, Gap, OpenGap, Range, Except, Choice}
-use Rattle.droid_pronom_pattern.specs.PatternText.{SpellsBytes, SpellsElement}
-use Rattle.droid_pronom_pattern.specs.Fronts.{SpellsInPair, SpellsInBraces, SpellsInBrackets}
-use Rattle.droid_pronom_pattern.proofs.TextLemmas.{first_mark, mark_between, bytes_have, pair_text, same_bytes}
-use Rattle.droid_pronom_pattern.proofs.FrontLemmas as element
-use Rattle.droid_signature_spec.specs.Terms.{Atom, Plain, Outside, Between, Quoted}
-use Rattle.droid_signature_spec.specs.TermText.{IsPlain, AreBounds, IsQuotable, SpellsAtom}
+use Rattle.droid_signature_file.specs.Patterns.{Element, Byte, AnyByte, Gap, OpenGap, Range, Except, Choice}
+use Rattle.droid_signature_file.specs.PatternText.{SpellsBytes, SpellsElement}
+use Rattle.droid_signature_file.specs.Fronts.{SpellsInPair, SpellsInBraces, SpellsInBrackets}
+use Rattle.droid_signature_file.proofs.TextLemmas.{first_mark, mark_between, bytes_have, pair_text, same_bytes}
+use Rattle.droid_signature_file.proofs.FrontLemmas as element
+use Rattle.droid_signature_file.specs.Terms.{Atom, Plain, Outside, Between, Quoted}
+use Rattle.droid_signature_file.specs.TermText.{IsPlain, AreBounds, IsQuotable, SpellsAtom}
 use Rattle.droid_signature_parser.specs.TextFronts.{IsOnlyFront, HasNoFront, InPair, InBraces, InBrackets, InQuotes}
 
 -- an item of a list is the first or a later one

@@ -3,8 +3,8 @@ use Rattle.std.proofs.Common.{◌≡◌, ◌⊎◌, ℕ, ◌+◌, ◌<◌, ◌�
 use Rattle.std.proofs.lemmas.Bool.{false≢true, eqb-true, or_cases}
 use Rattle.std.specs.Prelude.{◌==◌}
 use Rattle.std.proofs.lemmas.List.{append-nil, length-append}
-use Rattle.droid_signature_spec.specs.Terms.{Atom, Term, One, OneOf}
-use Rattle.droid_signature_spec.specs.TermText.{SpellsAtom, SpellsAtoms, SpellsAlternatives, SpellsTerm, SpellsTerms}
+use Rattle.droid_signature_file.specs.Terms.{Atom, Term, One, OneOf}
+use Rattle.droid_signature_file.specs.TermText.{SpellsAtom, SpellsAtoms, SpellsAlternatives, SpellsTerm, SpellsTerms}
 use Rattle.droid_signature_parser.specs.TextFronts.{IsOnlyFront, HasNoFront, AtomsTo, InParentheses, is_stop}
 use Rattle.droid_signature_parser.proofs.ItemFronts.{heads, not_bar, not_closing, not_parenthesis, some_item}
 

@@ -1,7 +1,7 @@
 -- The terms that the code's values stand for.
 use Rattle.std.specs.Prelude.{ℕ, Option, Some, None, map}
-use Rattle.droid_pronom_pattern.specs.Patterns.{Element, Byte, AnyByte, Gap, OpenGap, Range, Except}
-use Rattle.droid_signature_spec.specs.Terms.{Atom, Plain, Outside, Between, Quoted, Term, One, OneOf}
+use Rattle.droid_signature_file.specs.Patterns.{Element, Byte, AnyByte, Gap, OpenGap, Range, Except}
+use Rattle.droid_signature_file.specs.Terms.{Atom, Plain, Outside, Between, Quoted, Term, One, OneOf}
 use Rattle.droid_signature_parser.specs.declared.term.TextItem.{TextItem}
 use Rattle.droid_signature_parser.specs.declared.term.TextItem.TheVariants as items
 use Rattle.droid_signature_parser.specs.declared.term.TextTerm.{TextTerm}

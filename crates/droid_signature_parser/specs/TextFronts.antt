@@ -1,10 +1,10 @@
 -- For proofs: what stands at the front of a text, and the text between the marks of an item.
 use Rattle.std.specs.Prelude.{◌≡◌, ℕ, ◌+◌, ◌≤◌, ◌<◌, ◌==◌, ◌||◌, Bool, true, List, [], ◌∷◌, ◌++◌, length}
 use Rattle.std.specs.List.{AllByRecursion}
-use Rattle.droid_pronom_pattern.specs.PatternText.{SpellsBytes}
-use Rattle.droid_pronom_pattern.specs.Fronts.{SpellsInPair, SpellsInBraces, SpellsInBrackets}
-use Rattle.droid_signature_spec.specs.Terms.{Atom, Plain, Outside, Between, Quoted}
-use Rattle.droid_signature_spec.specs.TermText.{AreBounds, IsQuotable, SpellsAtoms, SpellsAlternatives}
+use Rattle.droid_signature_file.specs.PatternText.{SpellsBytes}
+use Rattle.droid_signature_file.specs.Fronts.{SpellsInPair, SpellsInBraces, SpellsInBrackets}
+use Rattle.droid_signature_file.specs.Terms.{Atom, Plain, Outside, Between, Quoted}
+use Rattle.droid_signature_file.specs.TermText.{AreBounds, IsQuotable, SpellsAtoms, SpellsAlternatives}
 
 -- The text begins with this, spelled so, with this text after it, and with nothing else.
 pub record IsOnlyFront {X : Type 0} (Spells : List ℕ → X → Type 0) (text : List ℕ) (x : X) (rest : List ℕ) : Type 0 where

@@ -2,11 +2,11 @@
 
 ghost use Rattle.std.specs.Prelude.{◌≡◌, ◌∷◌, ◌++◌, ℕ, List, length, nat_le, nat_lt, IfOk, IsErrOf, MatchOption, MatchBool, Contains};
 ghost use Rattle.std.specs.List.{list_all};
-ghost use Rattle.droid_pronom_pattern.specs.Patterns.{Element, Range, Except};
-ghost use Rattle.droid_pronom_pattern.specs.PatternText.{IsPair, IsNumber, SpellsAlternative};
-ghost use Rattle.droid_pronom_pattern.specs.Fronts.{SpellsInPair, SpellsInBraces, SpellsInBrackets};
-ghost use Rattle.droid_signature_spec.specs.Terms.{Atom, Outside, Between, number_after};
-ghost use Rattle.droid_signature_spec.specs.TermText.{AreBounds, SpellsAtom};
+ghost use Rattle.droid_signature_file.specs.Patterns.{Element, Range, Except};
+ghost use Rattle.droid_signature_file.specs.PatternText.{IsPair, IsNumber, SpellsAlternative};
+ghost use Rattle.droid_signature_file.specs.Fronts.{SpellsInPair, SpellsInBraces, SpellsInBrackets};
+ghost use Rattle.droid_signature_file.specs.Terms.{Atom, Outside, Between, number_after};
+ghost use Rattle.droid_signature_file.specs.TermText.{AreBounds, SpellsAtom};
 ghost use Rattle.droid_signature_parser.specs.TermValues.{atom_of};
 ghost use Rattle.droid_signature_parser.specs.TextFronts.{IsOnlyFront, HasNoFront, InPair, InBraces, InBrackets, InQuotes};
 

@@ -6,6 +6,11 @@ mod parser;
 mod term;
 mod text_fault;
 
+pub use droid_signature_file::{
+    Anchor, FileFault, FileFormat, Fragment, InternalSignature, OffsetRange, Offsets, Problem,
+    Reference, SequenceRecord, SignatureFile, SubSequence, UnknownName, UnknownPart, Wrong,
+    is_puid, read,
+};
 pub use parser::read_text;
 pub use term::{TextItem, TextTerm};
 pub use text_fault::TextFault;

@@ -1,8 +1,8 @@
 //! Reads the text of a sequence or a fragment, term by term.
 
 ghost use Rattle.std.specs.Prelude.{◌≡◌, ◌<◌, ℕ, List, length, map, IfOk, IsErrOf};
-ghost use Rattle.droid_signature_spec.specs.Terms.{Atom, Term};
-ghost use Rattle.droid_signature_spec.specs.TermText.{SpellsTerm, SpellsTerms};
+ghost use Rattle.droid_signature_file.specs.Terms.{Atom, Term};
+ghost use Rattle.droid_signature_file.specs.TermText.{SpellsTerm, SpellsTerms};
 ghost use Rattle.droid_signature_parser.specs.TermValues.{atom_of, term_of};
 ghost use Rattle.droid_signature_parser.specs.TextFronts.{IsOnlyFront, HasNoFront, AtomsTo, InParentheses, is_stop};
 

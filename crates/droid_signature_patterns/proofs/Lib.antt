@@ -1,3 +1,6 @@
+-- Lemmas of the crates below, passed on.
+pub use Rattle.droid_signature_texts.proofs.SequenceChoices
+pub use Rattle.droid_signature_texts.proofs.Flags
 pub mod PartSets
 pub mod PartLevels
 pub mod ReadTexts

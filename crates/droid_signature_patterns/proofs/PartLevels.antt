@@ -3,9 +3,9 @@ use Rattle.std.proofs.Common.{◌≡◌, ℕ, suc, ◌+◌, ◌<◌, List, [], �
 use Rattle.std.specs.Prelude.{◌==◌, if◌then◌else◌}
 use Rattle.std.proofs.lemmas.List.{append-nil, map-append, take_more}
 use Rattle.std.proofs.lemmas.Bool.{eq-eqb, ne_eqb}
-use Rattle.droid_signature_spec.specs.Pieces.{gap_patterns}
-use Rattle.droid_pronom_pattern.specs.Patterns.{Element, Gap, OpenGap}
-use Rattle.droid_signature_spec.specs.Expansions as spec
+use Rattle.droid_signature_texts.specs.Pieces.{gap_patterns}
+use Rattle.droid_signature_texts.specs.Patterns.{Element, Gap, OpenGap}
+use Rattle.droid_signature_texts.specs.Expansions as spec
 use Rattle.droid_signature_texts.specs.Texts as texts
 use Rattle.droid_signature_texts.specs.Written.{written, written_all, written_each}
 use Rattle.droid_signature_texts.proofs.Joined.{written_joined}

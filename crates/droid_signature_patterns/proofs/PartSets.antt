@@ -2,17 +2,17 @@
 use Rattle.std.proofs.Common.{◌≡◌, ◌↔◌, ◌⊎◌, ℕ, zero, suc, Bool, true, false, List, [], ◌∷◌, ◌++◌, map, inl, inr, ⊎_elim, refl, sym, ap, ◌∙◌, subst, append_assoc}
 use Rattle.std.specs.Prelude.{◌==◌, max, if◌then◌else◌}
 use Rattle.std.proofs.lemmas.List.{append-nil}
-use Rattle.droid_pronom_pattern.specs.Patterns.{Element, OpenGap}
-use Rattle.droid_signature_spec.specs.Records.{SubSequenceRecord}
-use Rattle.droid_signature_spec.specs.declared.subsequence.Fragment.{Fragment}
-use Rattle.droid_signature_spec.specs.Terms.{InTurn}
-use Rattle.droid_signature_spec.specs.Expansions.{MatchesAny, joined, patterns_of}
-use Rattle.droid_signature_spec.specs.Meaning.{PartMatches, RowMatches}
-use Rattle.droid_signature_spec.specs.Pieces.{AreSides, ArePieces, IsPiece, Side, gap_patterns, left_at, left_patterns, outermost_side, piece_patterns, further_patterns, right_at, right_patterns}
-use Rattle.droid_signature_spec.specs.Pieces as pieces
-use Rattle.droid_signature_spec.specs.Sequences.{ArePatternsOf}
-use Rattle.droid_signature_spec.proofs.PatternSets.{any_append, any_joined, any_one, both_ways, same_turns}
-use Rattle.droid_signature_spec.proofs.PieceSets.{row_match}
+use Rattle.droid_signature_texts.specs.Patterns.{Element, OpenGap}
+use Rattle.droid_signature_texts.specs.Records.{SubSequenceRecord}
+use Rattle.droid_signature_texts.specs.record_types.subsequence.Fragment.{Fragment}
+use Rattle.droid_signature_texts.specs.Terms.{InTurn}
+use Rattle.droid_signature_texts.specs.Expansions.{MatchesAny, joined, patterns_of}
+use Rattle.droid_signature_texts.specs.Meaning.{PartMatches, RowMatches}
+use Rattle.droid_signature_texts.specs.Pieces.{AreSides, ArePieces, IsPiece, Side, gap_patterns, left_at, left_patterns, outermost_side, piece_patterns, further_patterns, right_at, right_patterns}
+use Rattle.droid_signature_texts.specs.Pieces as pieces
+use Rattle.droid_signature_texts.specs.Sequences.{ArePatternsOf}
+use Rattle.droid_signature_texts.proofs.PatternSets.{any_append, any_joined, any_one, both_ways, same_turns}
+use Rattle.droid_signature_texts.proofs.PieceSets.{row_match}
 use Rattle.droid_signature_patterns.specs.Parts.{AreReadFragments, AreReadParts, IsReadPart, ReadFragment, ReadPart, further_levels, joined_all, left_levels, level, outermost_of, part_levels, piece_of, right_levels, row_patterns, side_of, side_patterns}
 use Rattle.droid_signature_patterns.specs.declared.part_texts.Way.TheVariants as way
 

@@ -4,11 +4,11 @@ use Rattle.std.specs.Prelude.{◌==◌, ◌&&◌, ◌||◌, not, decimal, codes,
 use Rattle.std.specs.List.{AllByRecursion, list_all}
 use Rattle.std.proofs.lemmas.Bool.{and_parts, false≢true}
 use Rattle.std.proofs.lemmas.List.{take_more}
-use Rattle.droid_pronom_pattern.specs.Patterns.{Element, Byte, AnyByte, Gap, OpenGap, Range, Except, Choice, has_byte, is_gap}
-use Rattle.droid_signature_spec.specs.Records.{SubSequenceRecord}
-use Rattle.droid_signature_spec.specs.declared.subsequence.Fragment.{Fragment}
-use Rattle.droid_signature_spec.specs.Expansions.{joined, patterns_of}
-use Rattle.droid_signature_spec.specs.Pieces.{gap_patterns}
+use Rattle.droid_signature_texts.specs.Patterns.{Element, Byte, AnyByte, Gap, OpenGap, Range, Except, Choice, has_byte, is_gap}
+use Rattle.droid_signature_texts.specs.Records.{SubSequenceRecord}
+use Rattle.droid_signature_texts.specs.record_types.subsequence.Fragment.{Fragment}
+use Rattle.droid_signature_texts.specs.Expansions.{joined, patterns_of}
+use Rattle.droid_signature_texts.specs.Pieces.{gap_patterns}
 use Rattle.droid_signature_texts.specs.Texts.{AreShort}
 use Rattle.droid_signature_texts.specs.Written.{AreAllWritable, AreWritable, written, written_all, written_each}
 use Rattle.droid_signature_texts.proofs.Exits.{all_append}

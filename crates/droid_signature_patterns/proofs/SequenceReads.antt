@@ -2,12 +2,12 @@
 use Rattle.std.proofs.Common.{◌≡◌, ◌↔◌, ℕ, suc, ◌<◌, Bool, false, List, [], ◌∷◌, length, refl, sym, ap, ◌∙◌, subst, arith}
 use Rattle.std.specs.Bool.{IsTrue}
 use Rattle.std.proofs.lemmas.Bool.{false≢true}
-use Rattle.droid_pronom_formats.specs.declared.rows.Anchor.{Anchor}
-use Rattle.droid_pronom_formats.specs.declared.rows.Offsets.{Offsets}
-use Rattle.droid_signature_spec.specs.Records.{ByteSequenceRecord, SubSequenceRecord}
-use Rattle.droid_signature_spec.specs.declared.sequence.Reference.{Reference}
-use Rattle.droid_signature_spec.specs.declared.sequence.Reference.TheVariants.{End}
-use Rattle.droid_signature_spec.specs.Sequences.{IsAnchorOf}
+use Rattle.droid_signature_texts.specs.pronom_types.rows.Anchor.{Anchor}
+use Rattle.droid_signature_texts.specs.pronom_types.rows.Offsets.{Offsets}
+use Rattle.droid_signature_texts.specs.Records.{ByteSequenceRecord, SubSequenceRecord}
+use Rattle.droid_signature_texts.specs.record_types.sequence.Reference.{Reference}
+use Rattle.droid_signature_texts.specs.record_types.sequence.Reference.TheVariants.{End}
+use Rattle.droid_signature_texts.specs.Sequences.{IsAnchorOf}
 use Rattle.droid_signature_texts.specs.declared.reason.Reason.{Reason}
 use Rattle.droid_signature_patterns.specs.Parts.{ReadPart}
 use Rattle.droid_signature_patterns.specs.Reasons.{AreRead, IsRead, IsReasonOfParts}

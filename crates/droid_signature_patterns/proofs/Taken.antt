@@ -3,13 +3,13 @@ use Rattle.std.proofs.Common.{◌≡◌, ℕ, suc, Bool, true, false, List, [], 
 use Rattle.std.specs.Prelude.{◌&&◌}
 use Rattle.std.specs.List.{Any, list_all}
 use Rattle.std.proofs.lemmas.Bool.{false≢true}
-use Rattle.droid_pronom_pattern.specs.Patterns.{Element}
-use Rattle.droid_pronom_formats.specs.declared.rows.Offsets.{Offsets}
-use Rattle.droid_signature_spec.specs.Records.{ByteSequenceRecord, SubSequenceRecord}
-use Rattle.droid_signature_spec.specs.declared.sequence.Reference.{Reference}
-use Rattle.droid_signature_spec.specs.declared.sequence.Reference.TheVariants.{Beginning, End, Other}
-use Rattle.droid_pronom_formats.specs.declared.rows.Anchor.{Anchor}
-use Rattle.droid_signature_spec.specs.Sequences.{ArePatternsOf, IsAnchorOf, StandFor, WholeMatches}
+use Rattle.droid_signature_texts.specs.Patterns.{Element}
+use Rattle.droid_signature_texts.specs.pronom_types.rows.Offsets.{Offsets}
+use Rattle.droid_signature_texts.specs.Records.{ByteSequenceRecord, SubSequenceRecord}
+use Rattle.droid_signature_texts.specs.record_types.sequence.Reference.{Reference}
+use Rattle.droid_signature_texts.specs.record_types.sequence.Reference.TheVariants.{Beginning, End, Other}
+use Rattle.droid_signature_texts.specs.pronom_types.rows.Anchor.{Anchor}
+use Rattle.droid_signature_texts.specs.Sequences.{ArePatternsOf, IsAnchorOf, StandFor, WholeMatches}
 use Rattle.droid_signature_texts.specs.Texts.{AreSmall, AreShort}
 use Rattle.droid_signature_texts.specs.Written.{written_all, written_each}
 use Rattle.droid_signature_texts.specs.declared.reason.Reason.TheVariants as reasons

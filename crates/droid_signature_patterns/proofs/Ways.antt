@@ -1,7 +1,7 @@
 -- The ways to take one choice for each byte sequence.
 use Rattle.std.proofs.Common.{◌≡◌, ℕ, ◌+◌, ◌*◌, ◌<◌, List, [], ◌∷◌, ◌++◌, length, take, get_or, sym, ap, ◌∙◌, subst, arith}
 use Rattle.std.proofs.lemmas.List.{take_more}
-use Rattle.droid_signature_spec.specs.Records.{ByteSequenceRecord}
+use Rattle.droid_signature_texts.specs.Records.{ByteSequenceRecord}
 use Rattle.droid_signature_patterns.specs.Choices.{AreAllTaken, IsTaken, ways}
 use Rattle.droid_signature_patterns.specs.declared.choices.Choices.{Choices}
 

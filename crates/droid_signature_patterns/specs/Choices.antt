@@ -1,10 +1,10 @@
 -- What a signature becomes.
 use Rattle.std.specs.Prelude.{◌≡◌, ◌⊎◌, ℕ, ◌*◌, ◌<◌, ◌≤◌, List, [], ◌∷◌, length, take, ⊤}
 use Rattle.std.specs.List.{Any}
-use Rattle.droid_pronom_pattern.specs.Patterns.{Element}
-use Rattle.droid_pronom_pattern.specs.PatternText.{Spells}
-use Rattle.droid_signature_spec.specs.Records.{ByteSequenceRecord}
-use Rattle.droid_signature_spec.specs.Sequences.{StandFor}
+use Rattle.droid_signature_texts.specs.Patterns.{Element}
+use Rattle.droid_signature_texts.specs.PatternText.{Spells}
+use Rattle.droid_signature_texts.specs.Records.{ByteSequenceRecord}
+use Rattle.droid_signature_texts.specs.Sequences.{StandFor}
 use Rattle.droid_signature_texts.specs.declared.reason.Reason.{Reason}
 use Rattle.droid_signature_texts.specs.declared.reason.Reason.TheVariants as reasons
 use Rattle.droid_signature_texts.specs.Written.{written_each}

@@ -1,15 +1,15 @@
 -- Subsequences whose texts are read, and the patterns that they are written as: a list of patterns for each position of a
 -- fragment, each with each.
 use Rattle.std.specs.Prelude.{◌≡◌, ℕ, zero, suc, ◌≤◌, ◌==◌, max, List, [], ◌∷◌, ◌++◌, map, if◌then◌else◌, ⊤}
-use Rattle.droid_pronom_pattern.specs.Patterns.{Element, OpenGap}
-use Rattle.droid_signature_spec.specs.Records.{SubSequenceRecord}
-use Rattle.droid_signature_spec.specs.declared.subsequence.Fragment.{Fragment}
-use Rattle.droid_signature_spec.specs.Terms.{Term}
-use Rattle.droid_signature_spec.specs.TermText.{SpellsTerms}
-use Rattle.droid_signature_spec.specs.Expansions.{joined, patterns_of}
-use Rattle.droid_signature_spec.specs.Meaning.{TextMatches, lowest}
-use Rattle.droid_signature_spec.specs.Pieces.{IsSide, Piece, Side, gap_patterns}
-use Rattle.droid_signature_spec.specs.Sequences.{ArePatternsOf}
+use Rattle.droid_signature_texts.specs.Patterns.{Element, OpenGap}
+use Rattle.droid_signature_texts.specs.Records.{SubSequenceRecord}
+use Rattle.droid_signature_texts.specs.record_types.subsequence.Fragment.{Fragment}
+use Rattle.droid_signature_texts.specs.Terms.{Term}
+use Rattle.droid_signature_texts.specs.TermText.{SpellsTerms}
+use Rattle.droid_signature_texts.specs.Expansions.{joined, patterns_of}
+use Rattle.droid_signature_texts.specs.Meaning.{TextMatches, lowest}
+use Rattle.droid_signature_texts.specs.Pieces.{IsSide, Piece, Side, gap_patterns}
+use Rattle.droid_signature_texts.specs.Sequences.{ArePatternsOf}
 use Rattle.droid_signature_patterns.specs.declared.part_texts.Way.{Way}
 use Rattle.droid_signature_patterns.specs.declared.part_texts.Way.TheVariants as way
 

@@ -1,17 +1,17 @@
 -- Why a registry cannot hold a byte sequence: what each reason says of it.
 use Rattle.std.specs.Prelude.{◌≡◌, ◌⊎◌, ℕ, suc, ◌<◌, ◌≤◌, ◌==◌, ◌&&◌, Bool, true, false, List, [], ◌∷◌, length, map, take, unwrap_or, Option, Some, None}
 use Rattle.std.specs.List.{Any, list_any}
-use Rattle.droid_pronom_pattern.specs.Patterns.{Element}
-use Rattle.droid_pronom_formats.specs.declared.rows.Anchor.{Anchor}
-use Rattle.droid_pronom_formats.specs.declared.rows.Offsets.{Offsets}
-use Rattle.droid_signature_spec.specs.Records.{ByteSequenceRecord, SubSequenceRecord}
-use Rattle.droid_signature_spec.specs.declared.subsequence.Fragment.{Fragment}
-use Rattle.droid_signature_spec.specs.declared.subsequence.OffsetRange.{OffsetRange}
-use Rattle.droid_signature_spec.specs.declared.sequence.Reference.TheVariants.{End, Other}
-use Rattle.droid_signature_spec.specs.Terms.{Term}
-use Rattle.droid_signature_spec.specs.TermText.{SpellsTerms}
-use Rattle.droid_signature_spec.specs.Meaning.{lowest, outermost}
-use Rattle.droid_signature_spec.specs.Sequences.{IsAnchorOf}
+use Rattle.droid_signature_texts.specs.Patterns.{Element}
+use Rattle.droid_signature_texts.specs.pronom_types.rows.Anchor.{Anchor}
+use Rattle.droid_signature_texts.specs.pronom_types.rows.Offsets.{Offsets}
+use Rattle.droid_signature_texts.specs.Records.{ByteSequenceRecord, SubSequenceRecord}
+use Rattle.droid_signature_texts.specs.record_types.subsequence.Fragment.{Fragment}
+use Rattle.droid_signature_texts.specs.record_types.subsequence.OffsetRange.{OffsetRange}
+use Rattle.droid_signature_texts.specs.record_types.sequence.Reference.TheVariants.{End, Other}
+use Rattle.droid_signature_texts.specs.Terms.{Term}
+use Rattle.droid_signature_texts.specs.TermText.{SpellsTerms}
+use Rattle.droid_signature_texts.specs.Meaning.{lowest, outermost}
+use Rattle.droid_signature_texts.specs.Sequences.{IsAnchorOf}
 use Rattle.droid_signature_texts.specs.Outcomes.{AreTooMuch, HasMany, IsReasonOfTerms}
 use Rattle.droid_signature_texts.specs.Written.{written_all, written_each}
 use Rattle.droid_signature_texts.specs.declared.reason.Reason.{Reason}

@@ -9,9 +9,9 @@ ghost use Rattle.droid_signature_patterns.specs.Reasons.{IsReasonOfOne};
 
 use crate::part_texts::sequence_texts;
 use crate::reading::read_sequence;
-use droid_pronom_formats::Offsets;
-use droid_signature_spec::{InternalSignature, SequenceRecord};
-use droid_signature_texts::{PatternText, PatternTexts, Reason, Stop};
+use droid_signature_texts::{
+    InternalSignature, Offsets, PatternText, PatternTexts, Reason, SequenceRecord, Stop,
+};
 use std::alloc::Global;
 
 /// The most ways to choose one pattern for each byte sequence of a signature. This limit is the project's own.

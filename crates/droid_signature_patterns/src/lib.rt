@@ -9,4 +9,7 @@ mod read_parts;
 mod reading;
 
 pub use choices::{Choices, choices_of};
-pub use droid_signature_texts::{PatternText, PatternTexts, Reason, Stop};
+pub use droid_signature_texts::{
+    Anchor, FileFault, FileFormat, InternalSignature, PatternText, PatternTexts, Problem, Reason,
+    SignatureFile, Stop, UnknownName, UnknownPart, Wrong, is_puid, read,
+};

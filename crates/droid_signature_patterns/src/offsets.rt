@@ -1,11 +1,10 @@
 //! Offsets that a registry can hold.
 
 ghost use Rattle.std.specs.Prelude.{◌≡◌, ◌≤◌, Some, IfErr, IfOk};
-ghost use Rattle.droid_signature_spec.specs.Meaning.{lowest};
+ghost use Rattle.droid_signature_texts.specs.Meaning.{lowest};
 ghost use Rattle.droid_signature_patterns.specs.Reasons.{IsReasonOfBounds, IsReasonOfLower, IsReasonOfUpper};
 
-use droid_signature_spec::OffsetRange;
-use droid_signature_texts::Reason;
+use droid_signature_texts::{OffsetRange, Reason};
 
 /// Returns the lower and the upper offset.
 pub(crate) fn bounds_of(offsets: OffsetRange) -> Result<(u16, u16), Reason>

@@ -2,8 +2,8 @@
 
 ghost use Rattle.std.specs.Prelude.{◌≡◌, ◌==◌, ◌++◌, ◌∷◌, [], ℕ, IfOk, OnOk, map, if◌then◌else◌};
 ghost use Rattle.std.specs.List.{Any};
-ghost use Rattle.droid_pronom_pattern.specs.Patterns.{OpenGap};
-ghost use Rattle.droid_signature_spec.specs.Pieces.{gap_patterns};
+ghost use Rattle.droid_signature_texts.specs.Patterns.{OpenGap};
+ghost use Rattle.droid_signature_texts.specs.Pieces.{gap_patterns};
 ghost use Rattle.droid_signature_texts.specs.Outcomes.{IfLeftOut};
 ghost use Rattle.droid_signature_texts.specs.Texts.{AreSmall};
 ghost use Rattle.droid_signature_texts.specs.Written.{written_each};

@@ -1,11 +1,10 @@
 //! The positions of fragments and subsequences.
 
 ghost use Rattle.std.specs.Prelude.{◌≡◌, IfErr};
-ghost use Rattle.droid_signature_spec.specs.Meaning.{outermost};
+ghost use Rattle.droid_signature_texts.specs.Meaning.{outermost};
 ghost use Rattle.droid_signature_patterns.specs.Reasons as spec;
 
-use droid_signature_spec::{Fragment, SubSequence};
-use droid_signature_texts::Reason;
+use droid_signature_texts::{Fragment, Reason, SubSequence};
 
 /// The largest position of a fragment. This limit is the project's own.
 const LARGEST_POSITION: u32 = 64;

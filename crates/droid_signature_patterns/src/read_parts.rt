@@ -1,10 +1,9 @@
 //! Subsequences whose texts are read.
 
 ghost use Rattle.std.specs.Prelude.{◌≡◌, map};
-ghost use Rattle.droid_signature_parser.specs.TermValues.{term_of};
+ghost use Rattle.droid_signature_texts.specs.TermValues.{term_of};
 
-use droid_pronom_formats::Offsets;
-use droid_signature_parser::TextTerm;
+use droid_signature_texts::{Offsets, TextTerm};
 use std::marker::Model;
 
 /// A fragment: its position, how far away it lies, and its terms.
@@ -18,7 +17,7 @@ pub(crate) struct ReadFragment {
 
 impl Model for ReadFragment {
     ghost use Rattle.std.specs.Prelude.{map};
-    ghost use Rattle.droid_signature_parser.specs.TermValues.{term_of};
+    ghost use Rattle.droid_signature_texts.specs.TermValues.{term_of};
     ghost use Rattle.droid_signature_patterns.specs.Parts as spec;
 
     ghost Value = { spec.ReadFragment };
@@ -79,7 +78,7 @@ pub(crate) struct ReadPart {
 
 impl Model for ReadPart {
     ghost use Rattle.std.specs.Prelude.{map};
-    ghost use Rattle.droid_signature_parser.specs.TermValues.{term_of};
+    ghost use Rattle.droid_signature_texts.specs.TermValues.{term_of};
     ghost use Rattle.droid_signature_patterns.specs.Parts as spec;
 
     ghost Value = { spec.ReadPart };

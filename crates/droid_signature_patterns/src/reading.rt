@@ -1,9 +1,9 @@
 //! Reads the texts of byte sequences, and checks what a registry asks of their offsets and positions.
 
 ghost use Rattle.std.specs.Prelude.{◌≡◌, ◌↔◌, ◌<◌, ◌∷◌, IsTrue, IfErr, IfOk, map};
-ghost use Rattle.droid_signature_spec.specs.Sequences.{IsAnchorOf};
-ghost use Rattle.droid_signature_spec.specs.declared.sequence.Reference.TheVariants.{End, Other};
-ghost use Rattle.droid_signature_parser.specs.TermValues.{term_of};
+ghost use Rattle.droid_signature_texts.specs.Sequences.{IsAnchorOf};
+ghost use Rattle.droid_signature_texts.specs.record_types.sequence.Reference.TheVariants.{End, Other};
+ghost use Rattle.droid_signature_texts.specs.TermValues.{term_of};
 ghost use Rattle.droid_signature_texts.specs.Outcomes.{IfLeftOut};
 ghost use Rattle.droid_signature_texts.specs.declared.reason.Reason.TheVariants as reasons;
 ghost use Rattle.droid_signature_patterns.specs.Parts.{AreReadFragments, AreReadParts, IsReadFragment, IsReadPart, IsReadText};
@@ -13,10 +13,10 @@ ghost use Rattle.std.specs.List.{Any};
 use crate::offsets::{bounds_of, lower_of};
 use crate::positions::{are_numbered, see_positions};
 use crate::read_parts::{ReadFragment, ReadPart, ReadSequence};
-use droid_pronom_formats::{Anchor, Offsets};
-use droid_signature_parser::{TextFault, TextTerm, read_text};
-use droid_signature_spec::{Fragment, Reference, SequenceRecord, SubSequence};
-use droid_signature_texts::{Reason, Stop};
+use droid_signature_texts::{
+    Anchor, Fragment, Offsets, Reason, Reference, SequenceRecord, Stop, SubSequence, TextFault,
+    TextTerm, read_text,
+};
 use std::alloc::Global;
 
 /// Reads a byte sequence.

@@ -3,8 +3,8 @@ use Rattle.std.proofs.Common.{ℕ, List, Ok, refl}
 use Rattle.std.specs.List.{flat_map}
 use Rattle.csv.specs.Machine.{next_record}
 use Rattle.csv.specs.declared.parser.State.TheVariants as st
-use Rattle.droid_export.specs.Csv.{line}
-use Rattle.droid_export.proofs.CsvRoundTrip.{read_line}
+use Rattle.droid_signature_rows.specs.Csv.{line}
+use Rattle.droid_signature_rows.proofs.CsvReading.{read_line}
 use Rattle.droid_pronom.specs.RegistryFile.{Outcome}
 use Rattle.droid_pronom.specs.RegistryFile as outcome
 use Rattle.droid_pronom.specs.RegistryRecords.{Draft}

@@ -12,7 +12,7 @@ use Rattle.std.proofs.lemmas.Str.Ascii.{IsAscii-cons, IsAscii-nil}
 use Rattle.csv.specs.Reading.{strip_bom}
 use Rattle.csv.specs.Records.{AllText}
 use Rattle.csv.specs.declared.parser.State.TheVariants as st
-use Rattle.droid_export.specs.Csv.{doubled, joined, line, quoted}
+use Rattle.droid_signature_rows.specs.Csv.{doubled, joined, line, quoted}
 use Rattle.droid_pronom.specs.Registry.{Signed, place_of}
 use Rattle.droid_pronom.specs.RegistryFields.{is_empty, is_extension, is_name, is_note, is_puid}
 use Rattle.droid_pronom.specs.types.format.Format.{Format}

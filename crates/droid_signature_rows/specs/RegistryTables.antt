@@ -13,7 +13,7 @@ use Rattle.droid_pronom.specs.types.rows.ByteSequence.{ByteSequence}
 use Rattle.droid_pronom.specs.types.rows.ListedExtension.{ListedExtension}
 use Rattle.droid_pronom.specs.types.rows.Offsets.{Offsets}
 use Rattle.droid_pronom.specs.types.rows.Priority.{Priority}
-use Rattle.droid_export.specs.Csv.{line}
+use Rattle.droid_signature_rows.specs.Csv.{line}
 
 -- an extension of the format at a place
 pub record ExtensionRow : Type 0 where

@@ -3,7 +3,7 @@
 ghost use Rattle.std.specs.Prelude.{ℕ, ◌≤◌, List, length, Ok};
 ghost use Rattle.std.specs.List.{flat_map};
 ghost use Rattle.csv.specs.declared.parser.State.TheVariants as st;
-ghost use Rattle.droid_export.specs.Csv.{line};
+ghost use Rattle.droid_signature_rows.specs.Csv.{line};
 ghost use Rattle.droid_pronom.specs.RegistryFile.{File, Outcome};
 ghost use Rattle.droid_pronom.specs.RegistryRecords.{Draft};
 ghost use Rattle.droid_signature_rows.specs.RegistryTables.{AreTables, Tables, file_of, registry_of};

@@ -1,3 +1,8 @@
+-- What the crates below define, passed on.
+pub use Rattle.droid_pronom_pattern.specs.Patterns
+pub use Rattle.droid_pronom_pattern.specs.PatternText
+pub use Rattle.droid_pronom_pattern.specs.Fronts
+pub use Rattle.droid_pronom_formats.specs.declared as pronom_types
 -- What a signature file says.
 pub mod Records
 -- The terms of a text and the bytes that they stand for, and how they are written.

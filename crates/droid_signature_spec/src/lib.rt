@@ -11,6 +11,8 @@ mod sequence;
 mod signature;
 mod subsequence;
 
+pub use droid_frame::Text;
+pub use droid_pronom_formats::{Anchor, Offsets, is_puid};
 pub use file::{SignatureFile, UnknownName, UnknownPart};
 pub use format::{FileFormat, FormatAttributes};
 pub use sequence::{Reference, SequenceRecord};

@@ -2,10 +2,10 @@
 use Rattle.std.proofs.Common.{◌≡◌, ◌∙◌, ℕ, ◌+◌, ◌<◌, ◌≤◌, List, [], ◌∷◌, ◌++◌, length, take, get_or, Some, refl, sym, ap, subst}
 use Rattle.std.proofs.lemmas.List.{append-nil, length-map, map-append, take_all}
 use Rattle.std.proofs.lemmas.List.Concat.{flat_map-append}
-use Rattle.droid_export.specs.Csv.{line}
-use Rattle.droid_pronom.specs.types.format.Format.{Format}
+use Rattle.droid_signature_rows.specs.Csv.{line}
+use Rattle.droid_signature_rows.specs.pronom_types.format.Format.{Format}
 use Rattle.droid_signature_rows.specs.RegistryTables.{FormatFits, format_fields, format_lines}
-use Rattle.droid_signature_spec.specs.Records.{FormatRecord}
+use Rattle.droid_signature_patterns.specs.Records.{FormatRecord}
 use Rattle.droid_signature_tables.specs.Formats.{IsReasonOfFormat, LeavesFormat, Placed, TakesFormat, format_of, formats_of, placed}
 use Rattle.droid_signature_tables.specs.Keepings.{Keeps}
 use Rattle.droid_signature_tables.specs.PlaceMaps.{AreOf}

@@ -1,9 +1,9 @@
 -- The places of formats by their PUIDs, with one more.
 use Rattle.std.proofs.Common.{◌≡◌, ◌∙◌, ℕ, cond, List, [], ◌∷◌, ◌++◌, length, Option, Some, None, sym, ap}
 use Rattle.std.specs.Str.{bytes_eq}
-use Rattle.droid_pronom.specs.Registry.{place_of}
-use Rattle.droid_pronom.specs.types.format.Format.{Format}
-use Rattle.droid_pronom.proofs.RegistryTables.{places_push}
+use Rattle.droid_signature_rows.specs.Registry.{place_of}
+use Rattle.droid_signature_rows.specs.pronom_types.format.Format.{Format}
+use Rattle.droid_signature_rows.proofs.RegistryTables.{places_push}
 
 pub placed_push : (q puid : List ℕ) (n : ℕ) (formats : List Format) (it : Format) (old new : Option ℕ) → new ≡ cond (bytes_eq puid q) (Some n) old → old ≡ place_of q formats
     → it.puid ≡ puid → place_of it.puid formats ≡ None → n ≡ length formats → new ≡ place_of q (formats ++ it ∷ [])

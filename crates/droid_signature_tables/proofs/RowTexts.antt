@@ -1,7 +1,7 @@
 -- A row of six fields.
 use Rattle.std.proofs.Common.{◌≡◌, ℕ, List, [], ◌∷◌, ◌++◌, refl, sym, ap, ◌∙◌, append_assoc}
 use Rattle.std.specs.List.{flat_map}
-use Rattle.droid_export.specs.Csv.{doubled, joined, line, quoted}
+use Rattle.droid_signature_rows.specs.Csv.{doubled, joined, line, quoted}
 
 pub quoted_joined : (text field : List ℕ) → ((text ++ 34 ∷ []) ++ flat_map doubled field) ++ 34 ∷ [] ≡ text ++ quoted field
 unfolding quoted

@@ -3,7 +3,7 @@ use Rattle.std.proofs.Common.{◌≡◌, ◌∙◌, ℕ, zero, suc, ◌+◌, ◌
 use Rattle.std.specs.List.{flat_map, slice_get}
 use Rattle.std.proofs.lemmas.List.{append-nil, get_or-map, length-map, length-take-le, take_all, take_more}
 use Rattle.std.proofs.lemmas.List.Concat.{flat_map-append}
-use Rattle.droid_export.specs.Csv.{line}
+use Rattle.droid_signature_rows.specs.Csv.{line}
 use Rattle.droid_signature_tables.specs.Sifting.{Sifted, by_place, left_out, none, taken}
 use Rattle.droid_signature_tables.specs.Tables.{Fills, HasLeft, HasRow, IsNew}
 use Rattle.droid_signature_tables.specs.declared.left_out.LeftOut.{LeftOut}

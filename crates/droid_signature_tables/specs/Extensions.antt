@@ -1,6 +1,6 @@
 -- Which extensions the registry has.
 use Rattle.std.specs.Prelude.{◌≡◌, ℕ, ◌<◌, ◌≤◌, true, false, List, [], ◌∷◌, length, IsUtf8}
-use Rattle.droid_pronom.specs.RegistryFields.{is_extension}
+use Rattle.droid_signature_rows.specs.RegistryFields.{is_extension}
 use Rattle.droid_signature_rows.specs.RegistryTables.{ExtensionRow}
 use Rattle.droid_signature_tables.specs.Formats.{Placed, puid_in}
 use Rattle.droid_signature_tables.specs.Sifting.{IsLeft, by_place}

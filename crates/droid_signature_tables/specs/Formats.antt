@@ -1,10 +1,10 @@
 -- Which formats of a signature file the registry has: those that it can hold, in the file's order.
 use Rattle.std.specs.Prelude.{◌≡◌, ℕ, ◌≤◌, ◌&&◌, false, List, [], ◌∷◌, length, map, Some, None, unwrap_or}
-use Rattle.droid_pronom.specs.Registry.{place_of}
-use Rattle.droid_pronom.specs.RegistryFields.{is_name, is_note, is_puid}
-use Rattle.droid_pronom.specs.types.format.Format.{Format}
+use Rattle.droid_signature_rows.specs.Registry.{place_of}
+use Rattle.droid_signature_rows.specs.RegistryFields.{is_name, is_note, is_puid}
+use Rattle.droid_signature_rows.specs.pronom_types.format.Format.{Format}
 use Rattle.droid_signature_rows.specs.RegistryTables.{FormatFits}
-use Rattle.droid_signature_spec.specs.Records.{FormatRecord}
+use Rattle.droid_signature_patterns.specs.Records.{FormatRecord}
 use Rattle.droid_signature_tables.specs.Sifting.{IsLeft, by_place}
 use Rattle.droid_signature_tables.specs.declared.left_out.Item.TheVariants as items
 use Rattle.droid_signature_tables.specs.declared.left_out.LeftOut.{LeftOut}

@@ -1,8 +1,8 @@
 -- For proofs: a map from PUIDs to places.
 use Rattle.std.specs.Prelude.{◌≡◌, ℕ, List}
 use Rattle.std.specs.BTreeMap.{get_by_text}
-use Rattle.droid_pronom.specs.Registry.{place_of}
-use Rattle.droid_pronom.specs.types.format.Format.{Format}
+use Rattle.droid_signature_rows.specs.Registry.{place_of}
+use Rattle.droid_signature_rows.specs.pronom_types.format.Format.{Format}
 use Rattle.droid_signature_tables.specs.declared.places.Places.{Places}
 
 -- the map has for each PUID the place of the first of these formats with it

@@ -1,7 +1,7 @@
 -- A table's rows.
 use Rattle.std.specs.Prelude.{◌≡◌, ℕ, ◌+◌, ◌<◌, ◌^◌, List, [], ◌∷◌, ◌++◌, length}
 use Rattle.std.specs.List.{flat_map}
-use Rattle.droid_export.specs.Csv.{line}
+use Rattle.droid_signature_rows.specs.Csv.{line}
 use Rattle.droid_signature_tables.specs.Sifting.{Sifted}
 use Rattle.droid_signature_tables.specs.declared.left_out.LeftOut.{LeftOut}
 use Rattle.droid_signature_tables.specs.declared.table.Table.{Table}

@@ -2,7 +2,7 @@
 
 ghost use Rattle.std.specs.Prelude.{◌≡◌, ◌++◌, ◌∷◌, [], List, IfOk, OnOk};
 ghost use Rattle.std.specs.List.{list_all};
-ghost use Rattle.droid_pronom.specs.RegistryFields as field;
+ghost use Rattle.droid_signature_rows.specs.RegistryFields as field;
 ghost use Rattle.droid_signature_rows.specs.RegistryTables.{extension_fields};
 ghost use Rattle.droid_signature_tables.specs.Extensions.{Extension, LeavesExtension, TakesExtension, all_extensions, extensions_of};
 ghost use Rattle.droid_signature_tables.specs.Tables.{Fills};

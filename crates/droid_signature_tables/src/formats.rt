@@ -1,8 +1,8 @@
 //! Which formats the registry has.
 
 ghost use Rattle.std.specs.Prelude.{◌≡◌, ℕ, List, ◌++◌, ◌∷◌, [], ◌&&◌, None, IfOk, IfSome, OnOk, length};
-ghost use Rattle.droid_pronom.specs.RegistryFields as field;
-ghost use Rattle.droid_pronom.specs.types.format.Format.{Format};
+ghost use Rattle.droid_signature_rows.specs.RegistryFields as field;
+ghost use Rattle.droid_signature_rows.specs.pronom_types.format.Format.{Format};
 ghost use Rattle.droid_signature_rows.specs.RegistryTables.{FormatFits};
 ghost use Rattle.droid_signature_tables.specs.Formats.{IsReasonOfFormat, Placed, format_of, formats_of, placed, puid_in};
 ghost use Rattle.droid_signature_tables.specs.Keepings.{Keeps};
@@ -12,8 +12,7 @@ ghost use Rattle.droid_signature_tables.specs.Views.{all_of};
 use crate::left_out::{Item, Why};
 use crate::places::Places;
 use crate::table::Table;
-use droid_pronom_formats::is_puid;
-use droid_signature_spec::FileFormat;
+use droid_signature_patterns::{FileFormat, is_puid};
 use std::alloc::{AllocError, Global};
 
 /// The most formats of a registry.

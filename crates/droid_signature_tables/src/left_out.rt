@@ -1,6 +1,6 @@
 //! What a registry does not have of a signature file, and why.
 
-use droid_signature_texts::Reason;
+use droid_signature_patterns::Reason;
 
 /// Something that the registry does not have.
 #[derive(Clone, Copy, PartialEq, Eq)]

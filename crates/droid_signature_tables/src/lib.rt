@@ -12,7 +12,10 @@ mod priorities;
 mod row_text;
 mod table;
 
-pub use droid_signature_texts::Reason;
+pub use droid_signature_patterns::{
+    Anchor, Choices, FileFault, FileFormat, InternalSignature, Problem, Reason, SignatureFile,
+    Stop, UnknownName, UnknownPart, Wrong, choices_of, read,
+};
 pub use extensions::list_extensions;
 pub use formats::{Keeping, Kept, keep_formats, puid_of};
 pub use ids::{Holder, Ids};

@@ -1,8 +1,8 @@
 //! The PUIDs of the formats so far.
 
 ghost use Rattle.std.specs.Prelude.{◌≡◌, ℕ, List, ◌++◌, ◌∷◌, [], None, is_some, length, OnOk};
-ghost use Rattle.droid_pronom.specs.Registry.{place_of};
-ghost use Rattle.droid_pronom.specs.types.format.Format.{Format};
+ghost use Rattle.droid_signature_rows.specs.Registry.{place_of};
+ghost use Rattle.droid_signature_rows.specs.pronom_types.format.Format.{Format};
 
 use std::alloc::{AllocError, Global};
 use std::collections::BTreeMap;

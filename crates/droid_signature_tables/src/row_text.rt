@@ -2,7 +2,7 @@
 
 ghost use Rattle.std.specs.Prelude.{◌≡◌, ◌++◌, ◌∷◌, [], OnOk};
 ghost use Rattle.std.specs.List.{flat_map};
-ghost use Rattle.droid_export.specs.Csv.{doubled, line, quoted};
+ghost use Rattle.droid_signature_rows.specs.Csv.{doubled, line, quoted};
 
 use std::alloc::AllocError;
 

@@ -5,8 +5,8 @@ use Rattle.std.specs.List.{Any, flat_map}
 use Rattle.std.proofs.lemmas.Bool.{cases_lt, false≢true}
 use Rattle.std.proofs.lemmas.List.{append-nil, map-append, map-id, length-append, length-map, take_more}
 use Rattle.std.proofs.lemmas.List.Concat.{flat_map-append}
-use Rattle.droid_pronom_pattern.specs.Patterns.{Element}
-use Rattle.droid_signature_spec.specs.Expansions as spec
+use Rattle.droid_signature_parser.specs.Patterns.{Element}
+use Rattle.droid_signature_parser.specs.Expansions as spec
 use Rattle.droid_signature_texts.specs.Texts.{each_behind, joined, joined_all, AreShort}
 use Rattle.droid_signature_texts.specs.Written.{written, written_all, written_each}
 use Rattle.droid_signature_texts.proofs.Exits.{any_left, any_right, all_append}

@@ -4,8 +4,8 @@ use Rattle.std.specs.Prelude.{◌==◌, nat_lt, if◌then◌else◌}
 use Rattle.std.specs.List.{flat_map}
 use Rattle.std.proofs.lemmas.Bool.{ltb-true, ltb-false, eqb-true, eqb-false}
 use Rattle.std.proofs.lemmas.List.{append-nil, map-append}
-use Rattle.droid_pronom_pattern.specs.Patterns.{Element, Byte, Range}
-use Rattle.droid_signature_spec.specs.Expansions.{with_byte, any_bytes, range_before, upward_from, up_to, ranges}
+use Rattle.droid_signature_parser.specs.Patterns.{Element, Byte, Range}
+use Rattle.droid_signature_parser.specs.Expansions.{with_byte, any_bytes, range_before, upward_from, up_to, ranges}
 use Rattle.droid_signature_texts.specs.Written.{pair, written, written_all, written_each, behind}
 
 pub behind_append : (front : List ℕ) (ps qs : List (List Element)) → behind front (ps ++ qs) ≡ behind front ps ++ behind front qs

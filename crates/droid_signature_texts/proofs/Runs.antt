@@ -2,8 +2,8 @@
 use Rattle.std.proofs.Common.{◌≡◌, ℕ, zero, suc, ◌+◌, ◌-◌, ◌<◌, ◌≤◌, List, [], ◌∷◌, ◌++◌, length, map, take, get_or, refl, sym, ap, ◌∙◌, arith, append_assoc}
 use Rattle.std.specs.List.{flat_map}
 use Rattle.std.proofs.lemmas.List.{append-nil, map-append, length-map, length-take-le, take_more}
-use Rattle.droid_signature_spec.specs.Expansions.{runs_outside, upward}
-use Rattle.droid_pronom_pattern.specs.Patterns.{Choice}
+use Rattle.droid_signature_parser.specs.Expansions.{runs_outside, upward}
+use Rattle.droid_signature_parser.specs.Patterns.{Choice}
 use Rattle.droid_signature_texts.specs.Written.{marked, next_mark, pair, written}
 
 bars_append : {X : Type 0} (text : X → List ℕ) (xs ys : List X) → marked text 124 (xs ++ ys) ≡ marked text 124 xs ++ marked text 124 ys

@@ -7,10 +7,10 @@ use Rattle.std.proofs.lemmas.Bool.{eqb-true}
 use Rattle.std.proofs.lemmas.Fmt.{decimal_by_steps, decimal_nonempty, length-decimal-le}
 use Rattle.std.proofs.lemmas.List.{append-nil}
 use Rattle.std.proofs.lemmas.List.Elements.{All-push}
-use Rattle.droid_pronom_pattern.specs.Patterns.{Element, Byte, AnyByte, Gap, OpenGap, Range, Except, Choice}
-use Rattle.droid_pronom_pattern.specs.PatternText.{IsPair, IsNumber, SpellsBytes, SpellsGap, SpellsAlternative, SpellsChoice, SpellsElement, SpellsAll, decimal_after}
-use Rattle.droid_pronom_pattern.proofs.TextLemmas.{decimal_push}
-use Rattle.droid_signature_spec.specs.Terms.{AreBytes}
+use Rattle.droid_signature_parser.specs.Patterns.{Element, Byte, AnyByte, Gap, OpenGap, Range, Except, Choice}
+use Rattle.droid_signature_parser.specs.PatternText.{IsPair, IsNumber, SpellsBytes, SpellsGap, SpellsAlternative, SpellsChoice, SpellsElement, SpellsAll, decimal_after}
+use Rattle.droid_signature_parser.proofs.TextLemmas.{decimal_push}
+use Rattle.droid_signature_parser.specs.Terms.{AreBytes}
 use Rattle.droid_signature_texts.specs.Written.{digit, pair, gap, open_gap, marked, written, written_all, IsWritable, AreWritable}
 
 -- a hexadecimal digit has its value

@@ -7,13 +7,13 @@ use Rattle.std.specs.declared.alloc.Global.{Global}
 use Rattle.std.proofs.lemmas.List.{append-nil, get_or-map, map-append, take-map, take_more, length-append, length-map}
 use Rattle.std.proofs.lemmas.List.Concat.{flat_map-append}
 use Rattle.std.proofs.lemmas.Bool.{false≢true}
-use Rattle.droid_pronom_pattern.specs.Patterns.{Element, Byte, AnyByte, Gap, OpenGap, Range, Except, Choice}
+use Rattle.droid_signature_parser.specs.Patterns.{Element, Byte, AnyByte, Gap, OpenGap, Range, Except, Choice}
 use Rattle.droid_signature_parser.specs.TermValues.{atom_of, gap_of}
 use Rattle.droid_signature_parser.specs.declared.term.TextItem.{TextItem}
 use Rattle.droid_signature_parser.specs.declared.term.TextItem.TheVariants as text_items
 use Rattle.droid_signature_texts.specs.Items.{items_of}
-use Rattle.droid_signature_spec.specs.Terms.{Atom, Plain, Outside, Between, Quoted, Term, One, OneOf}
-use Rattle.droid_signature_spec.specs.Expansions.{patterns_of, patterns_of_atom, patterns_of_atoms, patterns_of_term, patterns_of_each, patterns_of_choice, run_of, runs_of, with_run}
+use Rattle.droid_signature_parser.specs.Terms.{Atom, Plain, Outside, Between, Quoted, Term, One, OneOf}
+use Rattle.droid_signature_parser.specs.Expansions.{patterns_of, patterns_of_atom, patterns_of_atoms, patterns_of_term, patterns_of_each, patterns_of_choice, run_of, runs_of, with_run}
 use Rattle.droid_signature_texts.specs.Texts.{joined, joined_all}
 use Rattle.droid_signature_texts.specs.Written.{pair, written, written_all, written_each, one_text, is_run, marked}
 use Rattle.droid_signature_texts.specs.Outcomes.{AreTooMuch, HasMany, IsTooMuch, IsReasonOfAtom, IsReasonOfAtoms, IsReasonOfTerm, IsReasonOfTerms}

@@ -4,12 +4,12 @@ use Rattle.std.specs.Prelude.{◌==◌, nat_lt, option_map, if◌then◌else◌}
 use Rattle.std.specs.List.{AllByRecursion}
 use Rattle.std.proofs.lemmas.Bool.{ltb-true}
 use Rattle.std.proofs.lemmas.List.{length-append, length-map}
-use Rattle.droid_pronom_pattern.specs.Patterns.{Element, Byte, AnyByte, Gap, OpenGap, Range, Except, Choice}
-use Rattle.droid_pronom_pattern.specs.PatternText.{SpellsBytes, SpellsElement}
-use Rattle.droid_signature_spec.specs.Terms.{Atom, Plain, Outside, Between, Quoted, Term, One, OneOf, AreBytes}
-use Rattle.droid_signature_spec.specs.TermText.{IsPlain, IsQuotable, SpellsAtom, SpellsAtoms, SpellsAlternatives, SpellsTerm, SpellsTerms}
-use Rattle.droid_signature_spec.specs.Expansions.{joined, upward, runs_outside, with_byte, any_bytes, range_before, upward_from, up_to, ranges, patterns_of_atom, patterns_of_atoms, patterns_of_each, patterns_of_choice, patterns_of_term, patterns_of, run_of, runs_of, with_run}
-use Rattle.droid_signature_spec.proofs.TermSets.{spelled_bytes}
+use Rattle.droid_signature_parser.specs.Patterns.{Element, Byte, AnyByte, Gap, OpenGap, Range, Except, Choice}
+use Rattle.droid_signature_parser.specs.PatternText.{SpellsBytes, SpellsElement}
+use Rattle.droid_signature_parser.specs.Terms.{Atom, Plain, Outside, Between, Quoted, Term, One, OneOf, AreBytes}
+use Rattle.droid_signature_parser.specs.TermText.{IsPlain, IsQuotable, SpellsAtom, SpellsAtoms, SpellsAlternatives, SpellsTerm, SpellsTerms}
+use Rattle.droid_signature_parser.specs.Expansions.{joined, upward, runs_outside, with_byte, any_bytes, range_before, upward_from, up_to, ranges, patterns_of_atom, patterns_of_atoms, patterns_of_each, patterns_of_choice, patterns_of_term, patterns_of, run_of, runs_of, with_run}
+use Rattle.droid_signature_parser.proofs.TermSets.{spelled_bytes}
 use Rattle.droid_signature_texts.specs.Written.{IsWritable, AreWritable, AreAllWritable}
 use Rattle.droid_signature_texts.proofs.Exits.{all_append}
 

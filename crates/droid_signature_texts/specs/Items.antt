@@ -4,7 +4,7 @@ use Rattle.std.specs.declared.vec.Vec.{Vec}
 use Rattle.std.specs.declared.alloc.Global.{Global}
 use Rattle.droid_signature_parser.specs.TermValues.{atom_of}
 use Rattle.droid_signature_parser.specs.declared.term.TextItem.{TextItem}
-use Rattle.droid_signature_spec.specs.Terms.{Atom}
+use Rattle.droid_signature_parser.specs.Terms.{Atom}
 
 abbrev pub items_of : Vec TextItem Global → List Atom
 items_of items = map atom_of items.items

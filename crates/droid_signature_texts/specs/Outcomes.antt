@@ -1,8 +1,8 @@
 -- Why a registry cannot hold what stands for terms: what each reason says of them. Running out of memory says nothing.
 use Rattle.std.specs.Prelude.{◌≡◌, ◌⊎◌, ℕ, ◌<◌, List, length, take, Result, Ok, Err, ⊤}
 use Rattle.std.specs.List.{Any}
-use Rattle.droid_signature_spec.specs.Terms.{Atom, Plain, Outside, Between, Quoted, Term, One, OneOf}
-use Rattle.droid_signature_spec.specs.Expansions.{patterns_of, patterns_of_atoms, patterns_of_each}
+use Rattle.droid_signature_parser.specs.Terms.{Atom, Plain, Outside, Between, Quoted, Term, One, OneOf}
+use Rattle.droid_signature_parser.specs.Expansions.{patterns_of, patterns_of_atoms, patterns_of_each}
 use Rattle.droid_signature_texts.specs.Written.{written_each}
 use Rattle.droid_signature_texts.specs.Texts.{joined_all}
 use Rattle.droid_signature_texts.specs.declared.reason.Stop.{Stop}

@@ -2,9 +2,9 @@
 use Rattle.std.specs.Prelude.{ℕ, zero, suc, ◌+◌, ◌≤◌, ◌<◌, ◌/◌, ◌%◌, ◌==◌, nat_lt, List, [], ◌∷◌, ◌++◌, length, map, codes, decimal, if◌then◌else◌, ⊤}
 use Rattle.std.specs.List.{flat_map, AllByRecursion}
 use Rattle.std.specs.Prelude.{Bool, true, false}
-use Rattle.droid_pronom_pattern.specs.Patterns.{Element, Byte, AnyByte, Gap, OpenGap, Range, Except, Choice}
-use Rattle.droid_signature_spec.specs.Terms.{Atom, Plain, Outside, Between, Quoted, AreBytes}
-use Rattle.droid_signature_spec.specs.Expansions.{runs_outside}
+use Rattle.droid_signature_parser.specs.Patterns.{Element, Byte, AnyByte, Gap, OpenGap, Range, Except, Choice}
+use Rattle.droid_signature_parser.specs.Terms.{Atom, Plain, Outside, Between, Quoted, AreBytes}
+use Rattle.droid_signature_parser.specs.Expansions.{runs_outside}
 
 -- a hexadecimal digit
 abbrev pub digit : ℕ → ℕ

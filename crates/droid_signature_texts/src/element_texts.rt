@@ -2,7 +2,7 @@
 
 ghost use Rattle.std.specs.Prelude.{◌≡◌, ◌++◌, ◌<◌, OnOk, decimal};
 ghost use Rattle.std.specs.List.{flat_map};
-ghost use Rattle.droid_pronom_pattern.specs.Patterns.{Byte, Except, Range};
+ghost use Rattle.droid_signature_parser.specs.Patterns.{Byte, Except, Range};
 ghost use Rattle.droid_signature_parser.specs.TermValues.{gap_of};
 ghost use Rattle.droid_signature_texts.specs.Written as spec;
 ghost use Rattle.droid_signature_texts.specs.Written.{pair, written};

@@ -1,11 +1,11 @@
 //! Laws of the texts. Each is the contract of a function that does nothing.
 
 ghost use Rattle.std.specs.Prelude.{ℕ, List};
-ghost use Rattle.droid_pronom_pattern.specs.Patterns.{Element};
-ghost use Rattle.droid_pronom_pattern.specs.PatternText.{SpellsAll};
-ghost use Rattle.droid_signature_spec.specs.Expansions.{patterns_of};
-ghost use Rattle.droid_signature_spec.specs.Terms.{Term};
-ghost use Rattle.droid_signature_spec.specs.TermText.{SpellsTerms};
+ghost use Rattle.droid_signature_parser.specs.Patterns.{Element};
+ghost use Rattle.droid_signature_parser.specs.PatternText.{SpellsAll};
+ghost use Rattle.droid_signature_parser.specs.Expansions.{patterns_of};
+ghost use Rattle.droid_signature_parser.specs.Terms.{Term};
+ghost use Rattle.droid_signature_parser.specs.TermText.{SpellsTerms};
 ghost use Rattle.droid_signature_texts.specs.Written.{AreAllWritable, AreWritable, written_all};
 
 /// States that what is written for a pattern is read as that pattern.

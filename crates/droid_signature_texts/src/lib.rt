@@ -12,6 +12,11 @@ mod range_texts;
 mod reason;
 mod term_texts;
 
+pub use droid_signature_parser::{
+    Anchor, FileFault, FileFormat, Fragment, InternalSignature, OffsetRange, Offsets, Problem,
+    Reference, SequenceRecord, SignatureFile, SubSequence, TextFault, TextTerm, UnknownName,
+    UnknownPart, Wrong, is_puid, read, read_text,
+};
 pub use element_texts::push_gap;
 pub use growing::expanded;
 pub use pattern_text::PatternText;

@@ -1,7 +1,7 @@
 //! Ranges of several bytes, written out byte by byte.
 
 ghost use Rattle.std.specs.Prelude.{◌≡◌, ◌≢◌, ◌≤◌, ◌++◌, ◌∷◌, [], IfOk, OnOk};
-ghost use Rattle.droid_signature_spec.specs.Expansions.{any_bytes, ranges, upward_from, up_to, range_before};
+ghost use Rattle.droid_signature_parser.specs.Expansions.{any_bytes, ranges, upward_from, up_to, range_before};
 ghost use Rattle.droid_signature_texts.specs.Written.{behind, pair, written_all, written_each};
 
 use crate::element_texts::{push_byte, push_range};

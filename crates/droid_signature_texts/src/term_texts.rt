@@ -2,10 +2,10 @@
 
 ghost use Rattle.std.specs.Prelude.{◌≡◌, ◌+◌, ◌≤◌, ◌++◌, ◌∷◌, [], IfOk, OnOk, map};
 ghost use Rattle.std.specs.List.{flat_map, list_all};
-ghost use Rattle.droid_pronom_pattern.specs.Patterns.{Choice};
+ghost use Rattle.droid_signature_parser.specs.Patterns.{Choice};
 ghost use Rattle.droid_signature_parser.specs.TermValues.{atom_of, term_of};
-ghost use Rattle.droid_signature_spec.specs.Terms.{Between, OneOf};
-ghost use Rattle.droid_signature_spec.specs.Expansions.{patterns_of, patterns_of_atom, patterns_of_atoms, patterns_of_each, patterns_of_term, ranges, runs_outside, upward};
+ghost use Rattle.droid_signature_parser.specs.Terms.{Between, OneOf};
+ghost use Rattle.droid_signature_parser.specs.Expansions.{patterns_of, patterns_of_atom, patterns_of_atoms, patterns_of_each, patterns_of_term, ranges, runs_outside, upward};
 ghost use Rattle.droid_signature_texts.specs.Outcomes.{IfLeftOut, IsReasonOfAtom, IsReasonOfAtoms, IsReasonOfEach, IsReasonOfTerm, IsReasonOfTerms};
 ghost use Rattle.droid_signature_texts.specs.Items.{items_of};
 ghost use Rattle.droid_signature_texts.specs.Texts.{AreSmall};

@@ -1,13 +1,13 @@
 //! Lists the entries of a folder with their metadata.
 
-ghost use Rattle.std.specs.Prelude.{◌≡◌, ◌≢◌, ◌++◌, ◌∷◌, [], IfErr, IfOk, OnOk};
+ghost use Rattle.std.specs.Prelude.{◌≡◌, ◌≢◌, ◌++◌, ◌∷◌, [], IfErr, IfOk, OnOk, string_bytes};
 ghost use Rattle.droid_tree.specs.Paths.{below};
 ghost use Rattle.droid_tree.specs.declared.fault.TreeFault.TheVariants.{Memory};
 ghost use Rattle.droid_tree_disk.specs.Said.{NoNames};
 ghost use Rattle.droid_tree_disk.specs.FolderObservation.{ListsAll, LooksAt, SaysOfText, Shows};
 
 use crate::disk::{Disk, FileMetadata};
-use droid_frame::{Blob, Text};
+use droid_frame::Blob;
 use droid_tree::{EntryKind, FolderEntry, TreeFault};
 use std::alloc::{AllocError, Global};
 
@@ -23,8 +23,9 @@ pub(crate) fn list<D: Disk>(
 {
     let names = disk.names(alloc, path)?;
     let mut entries = Vec::new(alloc);
+    let mut place = String::new(alloc);
     for name in names {
-        let entry = entry_of(alloc, disk, folder, name)?;
+        let entry = entry_of(disk, folder, name, &mut place)?;
         add(&mut entries, entry)?;
     }
     Ok(entries)
@@ -41,18 +42,18 @@ fn add(entries: &mut Vec<FolderEntry>, entry: FolderEntry) -> Result<(), TreeFau
     }
 }
 
-/// Returns the entry of this name.
+/// Returns the entry of this name. The path is put together in `place`, whatever stood there.
 fn entry_of<D: Disk>(
-    alloc: Global,
     disk: &mut D,
     folder: &str,
     name: Blob,
+    place: &mut String,
 ) -> Result<FolderEntry, TreeFault>
     ensures name { IfOk result (λ entry. entry.name ≡ name) }
     ensures looks { IfOk result (λ entry. LooksAt D.says folder.now disk.old entry disk.new) }
     ensures memory { IfErr result (λ fault. fault ≡ Memory) }
 {
-    match look_below(alloc, disk, folder, &name) {
+    match look_below(disk, folder, &name, place) {
         Ok(found) => Ok(entry_with(name, found)),
         Err(_) => Err(TreeFault::Memory),
     }
@@ -85,28 +86,27 @@ fn entry_with(name: Blob, found: Option<FileMetadata>) -> FolderEntry
 
 /// Returns the metadata of a name in a folder, or `None`. Does not ask for names that are not valid UTF-8.
 fn look_below<D: Disk>(
-    alloc: Global,
     disk: &mut D,
     folder: &str,
     name: &Blob,
+    place: &mut String,
 ) -> Result<Option<FileMetadata>, AllocError>
     ensures { IfOk result (λ found. SaysOfText D.says folder.now name.now found disk.old disk.new) }
 {
     let Ok(name) = std::str::from_utf8(name.as_slice()) else {
         return Ok(None);
     };
-    let path = path_below(alloc, folder, name)?;
-    Ok(disk.look(path.as_str()))
+    put_path(place, folder, name)?;
+    Ok(disk.look(place.as_str()))
 }
 
-/// Returns the path of a name in a folder.
-fn path_below(alloc: Global, folder: &str, name: &str) -> Result<Text, AllocError>
-    ensures { IfOk result (λ text. text ≡ below folder.now name.now) }
+/// Puts the path of a name in a folder in the place of what stood in `place`.
+fn put_path(place: &mut String, folder: &str, name: &str) -> Result<(), AllocError>
+    ensures { OnOk result (string_bytes place.new ≡ below folder.now name.now) }
 {
-    let room = folder.len().saturating_add(1).saturating_add(name.len());
-    let mut path = String::with_capacity(alloc, room)?;
-    path.push_str(folder)?;
-    path.push_str("/")?;
-    path.push_str(name)?;
-    Ok(Text::from(path))
+    place.clear();
+    place.push_str(folder)?;
+    place.push_str("/")?;
+    place.push_str(name)?;
+    Ok(())
 }

@@ -24,8 +24,14 @@ pub(crate) struct OpenFolder {
 }
 
 impl OpenFolder {
-    /// Opens the folder at this path. Returns `None` for a link, unless the path ends in `/`.
-    pub fn open<R: Files<File = File>>(rt: &R, alloc: Global, path: &str) -> Option<OpenFolder> {
+    /// Opens the folder at this path. Returns `None` for a link, unless the path ends in `/`. `process` is the name of
+    /// this process below `/proc`.
+    pub fn open<R: Files<File = File>>(
+        rt: &R,
+        alloc: Global,
+        process: &str,
+        path: &str,
+    ) -> Option<OpenFolder> {
         let Ok(there) = fs::symlink_metadata(rt, path) else {
             return None;
         };
@@ -42,7 +48,7 @@ impl OpenFolder {
             return None;
         }
         let number = file.as_raw_fd();
-        let Ok(through) = format!(in alloc; "/proc/self/fd/{number}/") else {
+        let Ok(through) = format!(in alloc; "/proc/{process}/fd/{number}/") else {
             return None;
         };
         Some(OpenFolder {

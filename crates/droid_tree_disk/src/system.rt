@@ -21,6 +21,8 @@ use std::os::unix::fs::MetadataExt;
 pub struct System<'a, R> {
     runtime: &'a R,
     listed: Option<OpenFolder>,
+    /// The name of this process below `/proc`, once it is known.
+    process: Option<Text>,
 }
 
 /// An open file of this machine.
@@ -37,6 +39,7 @@ impl<'a, R: Files<File = File>> System<'a, R> {
         System {
             runtime,
             listed: None,
+            process: None,
         }
     }
 
@@ -68,7 +71,11 @@ impl<R: Files<File = File>> Disk for System<'_, R> {
 
     fn names(&mut self, alloc: Global, path: &str) -> Result<Vec<Blob>, TreeFault> {
         self.listed = None;
-        let Some((folder, names)) = names_through(self.runtime, alloc, path) else {
+        if self.process.is_none() {
+            self.process = own_process(self.runtime, alloc);
+        }
+        let process = name_of(&self.process);
+        let Some((folder, names)) = names_through(self.runtime, alloc, process, path) else {
             return names_at(self.runtime, alloc, path);
         };
         self.listed = Some(folder);
@@ -119,14 +126,32 @@ impl<R: Files<File = File>> Disk for System<'_, R> {
     }
 }
 
+/// Returns the name of this process below `/proc`: the number that the link `/proc/self` has. A path by the number costs
+/// the system less than one by the link, which it would follow each time.
+fn own_process<R: Files>(rt: &R, alloc: Global) -> Option<Text> {
+    match rt.read_link(alloc, "/proc/self") {
+        Ok(number) => Some(Text::from(number.into_string())),
+        Err(_) => None,
+    }
+}
+
+/// Returns the name of this process below `/proc`, or that of the link to it.
+fn name_of(process: &Option<Text>) -> &str {
+    match process {
+        Some(number) => number.as_str(),
+        None => "self",
+    }
+}
+
 /// Opens a folder, and returns it with the names that are read through it. Returns `None` if the folder can't be read so,
 /// as where the machine has no `/proc`.
 fn names_through<R: Files<File = File>>(
     rt: &R,
     alloc: Global,
+    process: &str,
     path: &str,
 ) -> Option<(OpenFolder, Vec<Blob>)> {
-    let Some(folder) = OpenFolder::open(rt, alloc, path) else {
+    let Some(folder) = OpenFolder::open(rt, alloc, process, path) else {
         return None;
     };
     match names_at(rt, alloc, folder.through()) {

@@ -9,13 +9,13 @@ use Rattle.droid_frame.specs.types.reply.Reply.{Reply}
 use Rattle.droid_frame.specs.types.reply.Reply.TheVariants.{Refused}
 use Rattle.droid_frame.specs.types.request.Request.{Request}
 use Rattle.droid_frame.specs.Bodies.{request_kind}
-use Rattle.droid_core.specs.Histories.{Entry, History, kept, command, frame_mark, is_request_of, New, answer, history_with, next, verdict_reply, world_of}
-use Rattle.droid_core.specs.Judging.{Verdict, Accepted, Answered, Refuses as RefusesIt, judge}
-use Rattle.droid_core.specs.Setting.{Setting}
-use Rattle.droid_core.specs.Verdicts.{is_of_judging, MayCome}
-use Rattle.droid_core.specs.World.{World}
-use Rattle.droid_core.proofs.Judged.{judged}
-use Rattle.droid_core.proofs.Meetings.{answer_malformed, next_malformed, answer_kept, next_kept, answer_new, next_new}
+use Rattle.droid_wire_journal.specs.core.Histories.{Entry, History, kept, command, frame_mark, is_request_of, New, answer, history_with, next, verdict_reply, world_of}
+use Rattle.droid_wire_journal.specs.core.Judging.{Verdict, Accepted, Answered, Refuses as RefusesIt, judge}
+use Rattle.droid_wire_journal.specs.core.Setting.{Setting}
+use Rattle.droid_wire_journal.specs.core.Verdicts.{is_of_judging, MayCome}
+use Rattle.droid_wire_journal.specs.core.World.{World}
+use Rattle.droid_wire_journal.proofs.core.Judged.{judged}
+use Rattle.droid_wire_journal.proofs.core.Meetings.{answer_malformed, next_malformed, answer_kept, next_kept, answer_new, next_new}
 use Rattle.droid_wire.specs.Desks.{Answering, Again, Accepts, Refuses, Tells, IsDesk, IsItsOwn, IsAccepted, desk_of, is_refused}
 use Rattle.droid_wire.proofs.RequestKinds.{kind_of_request}
 

@@ -9,7 +9,7 @@ use Rattle.droid_frame.specs.types.refusal.Refusal.TheVariants.{NumberReused}
 use Rattle.droid_frame.specs.types.reply.Reply.{Reply}
 use Rattle.droid_frame.specs.types.reply.Reply.TheVariants.{Refused}
 use Rattle.droid_frame.specs.types.request.Request.{Request}
-use Rattle.droid_core.specs.Histories.{History, is_under}
+use Rattle.droid_wire_journal.specs.core.Histories.{History, is_under}
 use Rattle.droid_wire_client.specs.declared.slot.Slot.{Slot}
 use Rattle.droid_wire_client.specs.declared.slot.State.{State}
 use Rattle.droid_wire_client.specs.declared.slot.State.TheVariants.{Pending, Answered}

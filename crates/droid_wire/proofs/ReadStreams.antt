@@ -8,9 +8,9 @@ use Rattle.droid_frame.specs.Streams.{BeginsNoFrame, Frames}
 use Rattle.droid_frame.specs.types.frame.Frame.{Frame}
 use Rattle.droid_frame.specs.types.reply.Reply.{Reply}
 use Rattle.droid_frame.proofs.StreamFrames.{no_frame_in_short}
-use Rattle.droid_core.specs.declared.service.Service.{Service}
-use Rattle.droid_core.specs.Histories.{History}
-use Rattle.droid_core.specs.Setting.{Setting}
+use Rattle.droid_wire_journal.specs.core.declared.service.Service.{Service}
+use Rattle.droid_wire_journal.specs.core.Histories.{History}
+use Rattle.droid_wire_journal.specs.core.Setting.{Setting}
 use Rattle.droid_wire.specs.declared.ended.Ended.TheVariants.{Closed, Turns}
 use Rattle.droid_wire.specs.declared.serve_fault.ServeFault.TheVariants as faults
 use Rattle.droid_wire.specs.Serving.{Handled}

@@ -3,18 +3,18 @@ use Rattle.std.proofs.Common.{◌≡◌, ◌≢◌, Bool, true, false, List, [],
 use Rattle.std.proofs.lemmas.List.{append-nil}
 use Rattle.droid_frame.specs.types.frame.Frame.{Frame}
 use Rattle.droid_frame.specs.types.reply.Reply.{Reply}
-use Rattle.droid_core.specs.Histories.{History, history_from}
-use Rattle.droid_core.specs.Running.{Runs, without_memory_faults}
-use Rattle.droid_core.specs.Setting.{Setting}
-use Rattle.droid_core.specs.Standing.{StandsFor, limits_of, registry_of}
-use Rattle.droid_core.proofs.Running.{Runs-none, Runs-push}
-use Rattle.droid_wire_turns.specs.Chains.{GoesOver}
-use Rattle.droid_wire_turns.specs.Events.{Event}
-use Rattle.droid_wire_turns.specs.Turns.{EndsBy, ServesAll}
-use Rattle.droid_wire_turns.specs.Steps.{Does, FailedToSettle, Goes, Handles, Happens, Settles, Step}
-use Rattle.droid_wire_turns.specs.declared.rules.Rules.{Rules}
-use Rattle.droid_wire_turns.specs.declared.served.Served.{Served}
-use Rattle.droid_wire_turns.specs.declared.served.Served.TheVariants as ways
+use Rattle.droid_wire_journal.specs.core.Histories.{History, history_from}
+use Rattle.droid_wire_journal.specs.core.Running.{Runs, without_memory_faults}
+use Rattle.droid_wire_journal.specs.core.Setting.{Setting}
+use Rattle.droid_wire_journal.specs.core.Standing.{StandsFor, limits_of, registry_of}
+use Rattle.droid_wire_journal.proofs.core.Running.{Runs-none, Runs-push}
+use Rattle.droid_wire_journal.specs.turns.Chains.{GoesOver}
+use Rattle.droid_wire_journal.specs.turns.Events.{Event}
+use Rattle.droid_wire_journal.specs.turns.Turns.{EndsBy, ServesAll}
+use Rattle.droid_wire_journal.specs.turns.Steps.{Does, FailedToSettle, Goes, Handles, Happens, Settles, Step}
+use Rattle.droid_wire_journal.specs.turns.declared.rules.Rules.{Rules}
+use Rattle.droid_wire_journal.specs.turns.declared.served.Served.{Served}
+use Rattle.droid_wire_journal.specs.turns.declared.served.Served.TheVariants as ways
 use Rattle.droid_wire.specs.OneAnswer.{IsAnswered}
 use Rattle.droid_wire.specs.ManyConnections.{ServesMany, events_of, frames_of, replies_of}
 use Rattle.droid_wire.specs.declared.service_handler.ServiceHandler.{ServiceHandler}

@@ -10,7 +10,7 @@ use Rattle.droid_frame.specs.types.refusal.Refusal.TheVariants as refusals
 use Rattle.droid_frame.specs.types.reply.Reply.{Reply}
 use Rattle.droid_frame.specs.types.reply.Reply.TheVariants.{Made, Node, Taken, Finished, Abandoned, Progress, Part, Refused}
 use Rattle.droid_frame.specs.types.request.Request.{Request}
-use Rattle.droid_core.specs.Histories.{Entry, History, is_under, kept}
+use Rattle.droid_wire_journal.specs.core.Histories.{Entry, History, is_under, kept}
 use Rattle.droid_wire_client.specs.declared.heard.Heard.{Heard}
 use Rattle.droid_wire_client.specs.declared.heard.Heard.TheVariants as heard
 use Rattle.droid_wire_client.specs.declared.slot.Slot.{Slot}

@@ -14,10 +14,10 @@ use Rattle.droid_frame.specs.types.reply.Reply.{Reply}
 use Rattle.droid_frame.specs.Writes.{LacksRoom, ReportsWrite}
 use Rattle.droid_frame.specs.stream_types.seen.Seen.{Seen}
 use Rattle.droid_frame.proofs.StreamFrames.{no_frame_in_short}
-use Rattle.droid_core.specs.Standing.{StandsFor}
-use Rattle.droid_core.specs.declared.service.Service.{Service}
-use Rattle.droid_core.specs.Histories.{History, Handles}
-use Rattle.droid_core.specs.Setting.{Setting}
+use Rattle.droid_wire_journal.specs.core.Standing.{StandsFor}
+use Rattle.droid_wire_journal.specs.core.declared.service.Service.{Service}
+use Rattle.droid_wire_journal.specs.core.Histories.{History, Handles}
+use Rattle.droid_wire_journal.specs.core.Setting.{Setting}
 use Rattle.droid_wire.specs.declared.serve_fault.ServeFault.TheVariants as faults
 use Rattle.droid_wire.specs.Steps.{Turn, TurnGives}
 

@@ -13,15 +13,15 @@ use Rattle.droid_frame.specs.declared.stream.fault.FrameFault.TheVariants.{Trunc
 use Rattle.droid_frame.specs.types.frame.Frame.{Frame}
 use Rattle.droid_frame.proofs.FrameLaws.{reported_frame}
 use Rattle.droid_frame.proofs.StreamFrames.{no_frame_in_short, why_nothing}
-use Rattle.droid_core.specs.Running.{Runs}
-use Rattle.droid_core.specs.declared.service.Service.{Service}
-use Rattle.droid_core.specs.Histories.{History}
-use Rattle.droid_core.specs.Setting.{Setting}
+use Rattle.droid_wire_journal.specs.core.Running.{Runs}
+use Rattle.droid_wire_journal.specs.core.declared.service.Service.{Service}
+use Rattle.droid_wire_journal.specs.core.Histories.{History}
+use Rattle.droid_wire_journal.specs.core.Setting.{Setting}
 use Rattle.droid_wire.specs.declared.ended.Ended.{Ended}
 use Rattle.droid_wire.specs.declared.ended.Ended.TheVariants.{Closed, Turns}
 use Rattle.droid_wire.specs.declared.serve_fault.ServeFault.{ServeFault}
 use Rattle.droid_wire.specs.declared.serve_fault.ServeFault.TheVariants as faults
-use Rattle.droid_core.specs.Written.{reply_frames}
+use Rattle.droid_wire_journal.specs.core.Written.{reply_frames}
 use Rattle.droid_wire.specs.Serving.{Outcome, Serves}
 use Rattle.droid_wire.specs.Whole.{FirstFramesAreAnswered, ServesWhole, UnlessFailed, end_of, last_end}
 

@@ -5,9 +5,9 @@ use Rattle.droid_frame.specs.types.refusal.Refusal.{Refusal}
 use Rattle.droid_frame.specs.types.refusal.Refusal.TheVariants.{NumberReused}
 use Rattle.droid_frame.specs.types.reply.Reply.{Reply}
 use Rattle.droid_frame.specs.types.reply.Reply.TheVariants.{Refused}
-use Rattle.droid_core.specs.Setting.{Setting}
-use Rattle.droid_core.specs.Histories.{Entry, History, kept, command, frame_mark, answer, next}
-pub use Rattle.droid_core.specs.Verdicts.{is_refused}
+use Rattle.droid_wire_journal.specs.core.Setting.{Setting}
+use Rattle.droid_wire_journal.specs.core.Histories.{Entry, History, kept, command, frame_mark, answer, next}
+pub use Rattle.droid_wire_journal.specs.core.Verdicts.{is_refused}
 
 -- the kinds from 1 to 6 are commands; the others are queries, or none
 abbrev pub is_command : Frame → Bool

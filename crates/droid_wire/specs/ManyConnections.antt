@@ -3,16 +3,16 @@ use Rattle.std.specs.Prelude.{List, [], ◌∷◌, map}
 use Rattle.std.specs.List.{flat_map}
 use Rattle.droid_frame.specs.types.frame.Frame.{Frame}
 use Rattle.droid_frame.specs.types.reply.Reply.{Reply}
-use Rattle.droid_core.specs.Histories.{History}
-use Rattle.droid_core.specs.Running.{Runs}
-use Rattle.droid_core.specs.Setting.{Setting}
-use Rattle.droid_core.specs.declared.service.Service.{Service}
-use Rattle.droid_wire_turns.specs.Chains.{GoesOver}
-use Rattle.droid_wire_turns.specs.Events.{Event}
-use Rattle.droid_wire_turns.specs.Turns.{ServesAll}
-use Rattle.droid_wire_turns.specs.Steps.{Handles, Happens, Settles, Step, all_handled}
-use Rattle.droid_wire_turns.specs.declared.rules.Rules.{Rules}
-use Rattle.droid_wire_turns.specs.declared.served.Served.{Served}
+use Rattle.droid_wire_journal.specs.core.Histories.{History}
+use Rattle.droid_wire_journal.specs.core.Running.{Runs}
+use Rattle.droid_wire_journal.specs.core.Setting.{Setting}
+use Rattle.droid_wire_journal.specs.core.declared.service.Service.{Service}
+use Rattle.droid_wire_journal.specs.turns.Chains.{GoesOver}
+use Rattle.droid_wire_journal.specs.turns.Events.{Event}
+use Rattle.droid_wire_journal.specs.turns.Turns.{ServesAll}
+use Rattle.droid_wire_journal.specs.turns.Steps.{Handles, Happens, Settles, Step, all_handled}
+use Rattle.droid_wire_journal.specs.turns.declared.rules.Rules.{Rules}
+use Rattle.droid_wire_journal.specs.turns.declared.served.Served.{Served}
 
 -- the frames of all connections that were handled, in order, and their replies
 abbrev pub frames_of : List Step → List Frame

@@ -3,10 +3,10 @@ use Rattle.std.specs.Prelude.{◌≡◌}
 use Rattle.droid_frame.specs.Replies.{HasReplySpelling}
 use Rattle.droid_frame.specs.types.frame.Frame.{Frame}
 use Rattle.droid_frame.specs.types.reply.Reply.{Reply}
-use Rattle.droid_core.specs.Histories.{Handles, History}
-use Rattle.droid_core.specs.Setting.{Setting}
-use Rattle.droid_core.specs.Standing.{StandsFor, limits_of, registry_of}
-use Rattle.droid_core.specs.declared.service.Service.{Service}
+use Rattle.droid_wire_journal.specs.core.Histories.{Handles, History}
+use Rattle.droid_wire_journal.specs.core.Setting.{Setting}
+use Rattle.droid_wire_journal.specs.core.Standing.{StandsFor, limits_of, registry_of}
+use Rattle.droid_wire_journal.specs.core.declared.service.Service.{Service}
 
 -- the frame was handled, with this one reply, in whatever history the service stood for
 pub record IsAnswered (old : Service) (frame : Frame) (reply : Reply) (new : Service) : Type 0 where

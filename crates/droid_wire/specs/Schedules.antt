@@ -8,7 +8,7 @@ use Rattle.droid_frame.specs.types.reply.Reply.{Reply}
 use Rattle.droid_frame.specs.types.reply.Reply.TheVariants.{Refused}
 use Rattle.droid_frame.specs.types.request.Request.{Request}
 use Rattle.droid_wire_client.specs.Cores.{Core, new_core, next_number, next_frame, core_submitting, core_hearing, answer_of}
-use Rattle.droid_core.specs.Histories.{Entry, History, is_under}
+use Rattle.droid_wire_journal.specs.core.Histories.{Entry, History, is_under}
 use Rattle.droid_wire.specs.Desks.{Desk, is_command}
 
 -- a reply that was sent, and the version, the client and the number of its request

@@ -7,11 +7,11 @@ use Rattle.droid_frame.specs.Streams.{IsReadable}
 use Rattle.droid_frame.specs.Frames.{frame_bytes}
 use Rattle.droid_frame.specs.types.frame.Frame.{Frame}
 use Rattle.droid_frame.specs.types.reply.Reply.{Reply}
-use Rattle.droid_core.specs.Running.{Runs}
-use Rattle.droid_core.specs.declared.service.Service.{Service}
-use Rattle.droid_core.specs.Histories.{History}
-use Rattle.droid_core.specs.Setting.{Setting}
-use Rattle.droid_core.specs.Written.{reply_frames}
+use Rattle.droid_wire_journal.specs.core.Running.{Runs}
+use Rattle.droid_wire_journal.specs.core.declared.service.Service.{Service}
+use Rattle.droid_wire_journal.specs.core.Histories.{History}
+use Rattle.droid_wire_journal.specs.core.Setting.{Setting}
+use Rattle.droid_wire_journal.specs.core.Written.{reply_frames}
 use Rattle.droid_wire.specs.declared.ended.Ended.{Ended}
 use Rattle.droid_wire.specs.declared.ended.Ended.TheVariants.{Closed, Turns}
 use Rattle.droid_wire.specs.declared.serve_fault.ServeFault.{ServeFault}

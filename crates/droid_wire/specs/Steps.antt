@@ -8,10 +8,10 @@ use Rattle.droid_frame.specs.StreamReads.{Tells, ReadsNoFrame}
 use Rattle.droid_frame.specs.Streams.{IsReadable}
 use Rattle.droid_frame.specs.types.frame.Frame.{Frame}
 use Rattle.droid_frame.specs.types.reply.Reply.{Reply}
-use Rattle.droid_core.specs.Standing.{StandsFor}
-use Rattle.droid_core.specs.declared.service.Service.{Service}
-use Rattle.droid_core.specs.Histories.{History, Handles}
-use Rattle.droid_core.specs.Setting.{Setting}
+use Rattle.droid_wire_journal.specs.core.Standing.{StandsFor}
+use Rattle.droid_wire_journal.specs.core.declared.service.Service.{Service}
+use Rattle.droid_wire_journal.specs.core.Histories.{History, Handles}
+use Rattle.droid_wire_journal.specs.core.Setting.{Setting}
 use Rattle.droid_wire.specs.declared.serve_fault.ServeFault.{ServeFault}
 use Rattle.droid_wire.specs.declared.serve_fault.ServeFault.TheVariants as faults
 

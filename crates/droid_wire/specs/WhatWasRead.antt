@@ -4,14 +4,14 @@ use Rattle.std.specs.Io.KnownBytes.{Appends, Consumes}
 use Rattle.droid_frame.specs.Streams.{Frames}
 use Rattle.droid_frame.specs.types.frame.Frame.{Frame}
 use Rattle.droid_frame.specs.types.reply.Reply.{Reply}
-use Rattle.droid_core.specs.Running.{Runs}
-use Rattle.droid_core.specs.declared.service.Service.{Service}
-use Rattle.droid_core.specs.Histories.{History}
-use Rattle.droid_core.specs.Setting.{Setting}
+use Rattle.droid_wire_journal.specs.core.Running.{Runs}
+use Rattle.droid_wire_journal.specs.core.declared.service.Service.{Service}
+use Rattle.droid_wire_journal.specs.core.Histories.{History}
+use Rattle.droid_wire_journal.specs.core.Setting.{Setting}
 use Rattle.droid_wire.specs.declared.ended.Ended.{Ended}
 use Rattle.droid_wire.specs.declared.serve_fault.ServeFault.{ServeFault}
 use Rattle.droid_wire.specs.declared.serve_fault.ServeFault.TheVariants as faults
-use Rattle.droid_core.specs.Written.{reply_frames}
+use Rattle.droid_wire_journal.specs.core.Written.{reply_frames}
 use Rattle.droid_wire.specs.Serving.{Outcome}
 
 -- all of these bytes; or, where writing failed, the first `written` of them

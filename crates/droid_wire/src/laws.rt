@@ -1,7 +1,7 @@
 //! Laws of both ends of a stream, and of every schedule of deliveries between them. Each law is the contract of a
 //! function that does nothing.
 
-ghost use Rattle.droid_core.specs.Setting.{Setting};
+ghost use Rattle.droid_wire_journal.specs.core.Setting.{Setting};
 ghost use Rattle.droid_frame.specs.types.reply.Reply.{Reply};
 ghost use Rattle.droid_wire.specs.WhatWasRead.{ReadFramesAreAnswered};
 ghost use Rattle.droid_wire.specs.Whole.{FirstFramesAreAnswered};

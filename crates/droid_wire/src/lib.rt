@@ -1,6 +1,6 @@
 //! Both ends of a stream of requests. [`serve`] answers the frames of a stream for a service, [`serve_many`] those of
 //! many connections at once. [`Client`] is the other end: it numbers requests and takes their replies. The crate re-exports
-//! the [`Service`], so that a program that serves one names this crate alone.
+//! the [`Service`], and one with a journal, so that a program that serves one names this crate alone.
 #![tactic(auto)]
 
 mod ended;
@@ -11,9 +11,13 @@ mod serve_fault;
 mod server;
 mod service_handler;
 
-pub use droid_core::{Limits, Service};
 pub use droid_wire_client::{Client, HearFault, Heard, SubmitFault};
-pub use droid_wire_turns::{Came, Connections, Departure, Rules, Served, Took, WaitFault};
+pub use droid_wire_journal::{
+    Came, Connections, Departure, DiskFault, DiskLog, Drive, DriveError, Fault, FileDrive,
+    FileError, JournalHandler, Limits, LogFile, Pipe, Rules, Served, Service, ServiceJournal,
+    ServiceMachine, Tears, Took, WaitFault, answer_journal, crash_and_reopen, header_for,
+    serve_journal,
+};
 pub use ended::Ended;
 pub use many::serve_many;
 pub use serve_fault::ServeFault;

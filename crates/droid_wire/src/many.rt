@@ -1,13 +1,13 @@
 //! Many connections, served by one service.
 
 ghost use Rattle.std.specs.Prelude.{◌≡◌, ◌≢◌};
-ghost use Rattle.droid_core.specs.Histories.{History};
-ghost use Rattle.droid_core.specs.Setting.{Setting};
-ghost use Rattle.droid_core.specs.Standing.{StandsFor, limits_of, registry_of};
+ghost use Rattle.droid_wire_journal.specs.core.Histories.{History};
+ghost use Rattle.droid_wire_journal.specs.core.Setting.{Setting};
+ghost use Rattle.droid_wire_journal.specs.core.Standing.{StandsFor, limits_of, registry_of};
 ghost use Rattle.droid_wire.specs.ManyConnections.{ServesMany};
 
 use crate::service_handler::ServiceHandler;
-use droid_wire_turns::{Connections, Rules, Served, serve_in_turns};
+use droid_wire_journal::{Connections, Rules, Served, serve_in_turns};
 use std::alloc::Global;
 
 /// Serves many connections by one service, in turns, until as many as are wanted came and left.

@@ -4,9 +4,9 @@ ghost use Rattle.std.specs.Prelude.{◌≡◌, ◌+◌, ◌*◌, ◌≤◌, ℕ,
 ghost use Rattle.droid_frame.specs.types.frame.Frame.{Frame};
 ghost use Rattle.droid_frame.specs.types.reply.Reply.{Reply};
 ghost use Rattle.droid_frame.specs.Seen.{IsSound};
-ghost use Rattle.droid_core.specs.Standing.{StandsFor, limits_of, registry_of};
-ghost use Rattle.droid_core.specs.Histories.{History};
-ghost use Rattle.droid_core.specs.Setting.{Setting};
+ghost use Rattle.droid_wire_journal.specs.core.Standing.{StandsFor, limits_of, registry_of};
+ghost use Rattle.droid_wire_journal.specs.core.Histories.{History};
+ghost use Rattle.droid_wire_journal.specs.core.Setting.{Setting};
 ghost use Rattle.droid_frame.specs.InTurn.{ReportsFaultInOne, ReportsFaultInTurn};
 ghost use Rattle.droid_wire.specs.Turns.{ReadsFrame, WritesReply};
 ghost use Rattle.droid_wire.specs.Serving.{GoesOnFrom, Outcome};
@@ -15,10 +15,10 @@ ghost use Rattle.droid_wire.specs.Steps.{TurnGives};
 use crate::ended::Ended;
 use crate::reply_frame::send_reply;
 use crate::serve_fault::ServeFault;
-use droid_core::Service;
 use droid_frame::{
     Arrival, FrameFault, HEADER_LENGTH, SteadyRead, SteadyWrite, read_frame, reply_body_len,
 };
+use droid_wire_journal::Service;
 use std::alloc::Global;
 
 /// Reads up to `turns` frames and answers each with one reply frame of the same version, client and number.

@@ -1,8 +1,7 @@
 //! A service as what handles the frames of all connections.
 
-use droid_core::Service;
 use droid_frame::{Frame, Reply};
-use droid_wire_turns::Handler;
+use droid_wire_journal::{Handler, Service};
 
 /// A service that handles the frames of all connections, one after another. It keeps everything in memory, so there is
 /// nothing to settle.

@@ -3,9 +3,9 @@ use Rattle.std.proofs.Common.{◌≡◌, Bool, true, false, List, [], ◌∷◌,
 use Rattle.std.specs.Prelude.{MatchBool}
 use Rattle.droid_frame.specs.types.frame.Frame.{Frame}
 use Rattle.droid_frame.specs.types.reply.Reply.{Reply}
-use Rattle.droid_core.specs.Histories.{History, answer, command, next}
-use Rattle.droid_core.specs.MemoryFaults.{is_out_of_memory}
-use Rattle.droid_core.specs.Setting.{Setting}
+use Rattle.droid_journal_service.specs.core.Histories.{History, answer, command, next}
+use Rattle.droid_journal_service.specs.core.MemoryFaults.{is_out_of_memory}
+use Rattle.droid_journal_service.specs.core.Setting.{Setting}
 use Rattle.droid_journal_service.specs.Standing.{AnswersIn}
 use Rattle.droid_wire_journal.specs.Serving.{Answered}
 

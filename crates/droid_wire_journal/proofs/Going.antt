@@ -4,19 +4,19 @@ use Rattle.std.proofs.lemmas.Bool.{false≢true}
 use Rattle.std.proofs.lemmas.List.{append-nil}
 use Rattle.droid_frame.specs.types.frame.Frame.{Frame}
 use Rattle.droid_frame.specs.types.reply.Reply.{Reply}
-use Rattle.droid_core.specs.Histories.{History}
-use Rattle.droid_core.specs.Setting.{Setting}
-use Rattle.droid_journal.specs.declared.journal.Journal.{Journal}
-use Rattle.droid_journal_chain.specs.Records.{Record}
+use Rattle.droid_journal_service.specs.core.Histories.{History}
+use Rattle.droid_journal_service.specs.core.Setting.{Setting}
+use Rattle.droid_journal_service.specs.journal.declared.journal.Journal.{Journal}
+use Rattle.droid_journal_service.specs.chain.Records.{Record}
 use Rattle.droid_journal_service.specs.Standing.{AnswersIn, KeepsHistory, StandsForHistory}
 use Rattle.droid_journal_service.specs.declared.service_machine.ServiceMachine.{ServiceMachine}
 use Rattle.droid_journal_service.proofs.Journals.{keeps_history}
-use Rattle.droid_wire_turns.specs.Chains.{GoesOver}
-use Rattle.droid_wire_turns.specs.Events.{Event, Unwritten, Wrote}
-use Rattle.droid_wire_turns.specs.Steps.{AllSettled, AtEach, Does, EachSettled, Goes, Handles, Happens, NeverFailed, Settles, Step, all_handled}
-use Rattle.droid_wire_turns.specs.Turns.{ServesAll, SettlesFirst}
-use Rattle.droid_wire_turns.specs.declared.rules.Rules.{Rules}
-use Rattle.droid_wire_turns.specs.declared.served.Served.{Served}
+use Rattle.droid_wire_pipe.specs.turns.Chains.{GoesOver}
+use Rattle.droid_wire_pipe.specs.turns.Events.{Event, Unwritten, Wrote}
+use Rattle.droid_wire_pipe.specs.turns.Steps.{AllSettled, AtEach, Does, EachSettled, Goes, Handles, Happens, NeverFailed, Settles, Step, all_handled}
+use Rattle.droid_wire_pipe.specs.turns.Turns.{ServesAll, SettlesFirst}
+use Rattle.droid_wire_pipe.specs.turns.declared.rules.Rules.{Rules}
+use Rattle.droid_wire_pipe.specs.turns.declared.served.Served.{Served}
 use Rattle.droid_wire_journal.specs.Handling.{HandlesIn, HandlesSo, SettlesIn, SettlesSo}
 use Rattle.droid_wire_journal.specs.Serving.{Answered, AnswersJournal, AtMoments, CameOf, IsNextOf, IsWrite, Moment, ServesJournal, Shows}
 use Rattle.droid_wire_pipe.specs.Pipes.{AnswersOne, PipeDoes, rules_of_one}
@@ -227,7 +227,7 @@ module _ {F : Type 0} (has : F → List ℕ → Type 0) (kept : F → List ℕ) 
     }
 
   pub answers_journal : {R W : Type 0} (remaining : R → Option (List ℕ)) (contents : W → Option (List ℕ)) (pipe later : Pipe R W) (h after : JournalHandler F) (result : Served) → StandsForHistory has kept setting header h.journal.journal history history
-      → Goes (PipeDoes remaining contents) (HandlesSo has kept) (SettlesSo has kept) pipe h later after (AnswersOne (remaining pipe.reader) (remaining later.reader) (contents pipe.writer) (contents later.writer) result)
+      → Goes (PipeDoes remaining contents) (HandlesSo has kept) (SettlesSo has kept) pipe h later after (AnswersOne (remaining pipe.reader) (remaining later.reader) (contents pipe.writer) (contents later.writer) pipe.departure later.departure result)
       → AnswersJournal remaining contents has kept setting header history pipe h later after result
   answers_journal remaining contents pipe later h after result stood goes = record {
     steps = goes.steps;

@@ -3,9 +3,9 @@ use Rattle.std.proofs.Common.{◌≡◌, ℕ, true, false, List, [], ◌∷◌, 
 use Rattle.std.proofs.lemmas.List.{append-nil}
 use Rattle.droid_frame.specs.types.frame.Frame.{Frame}
 use Rattle.droid_frame.specs.types.reply.Reply.{Reply}
-use Rattle.droid_wire_turns.specs.Chains.{GoesOver}
-use Rattle.droid_wire_turns.specs.Events.{Event}
-use Rattle.droid_wire_turns.specs.Steps.{AtEach, EachSettled, FailedToSettle, Handles, Happens, SettledSo, Settles, Step, all_handled, handled_by}
+use Rattle.droid_wire_pipe.specs.turns.Chains.{GoesOver}
+use Rattle.droid_wire_pipe.specs.turns.Events.{Event}
+use Rattle.droid_wire_pipe.specs.turns.Steps.{AtEach, EachSettled, FailedToSettle, Handles, Happens, SettledSo, Settles, Step, all_handled, handled_by}
 
 -- ---- chains
 

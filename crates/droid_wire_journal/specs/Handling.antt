@@ -2,10 +2,10 @@
 use Rattle.std.specs.Prelude.{◌≡◌, ℕ, Bool, true, false, List, None, IsSome}
 use Rattle.droid_frame.specs.types.frame.Frame.{Frame}
 use Rattle.droid_frame.specs.types.reply.Reply.{Reply}
-use Rattle.droid_core.specs.Histories.{History}
-use Rattle.droid_core.specs.Setting.{Setting}
-use Rattle.droid_journal.specs.declared.journal.Journal.{Journal}
-use Rattle.droid_journal_chain.specs.Records.{Record}
+use Rattle.droid_journal_service.specs.core.Histories.{History}
+use Rattle.droid_journal_service.specs.core.Setting.{Setting}
+use Rattle.droid_journal_service.specs.journal.declared.journal.Journal.{Journal}
+use Rattle.droid_journal_service.specs.chain.Records.{Record}
 use Rattle.droid_journal_service.specs.Standing.{AnswersIn, IsNextOr, KeepsHistory, StandsForHistory}
 use Rattle.droid_journal_service.specs.declared.service_machine.ServiceMachine.{ServiceMachine}
 use Rattle.droid_wire_journal.specs.declared.journal_handler.JournalHandler.{JournalHandler}

@@ -2,20 +2,20 @@
 use Rattle.std.specs.Prelude.{◌≡◌, ◌⊎◌, ℕ, List, [], ◌∷◌, ◌++◌, Option}
 use Rattle.droid_frame.specs.types.frame.Frame.{Frame}
 use Rattle.droid_frame.specs.types.reply.Reply.{Reply}
-use Rattle.droid_core.specs.Histories.{History, next}
-use Rattle.droid_core.specs.Setting.{Setting}
-use Rattle.droid_journal_chain.specs.Records.{Record}
+use Rattle.droid_journal_service.specs.core.Histories.{History, next}
+use Rattle.droid_journal_service.specs.core.Setting.{Setting}
+use Rattle.droid_journal_service.specs.chain.Records.{Record}
 use Rattle.droid_journal_service.specs.Standing.{AnswersIn, KeepsHistory}
 use Rattle.droid_wire_journal.specs.Handling.{HandlesSo, SettlesSo}
 use Rattle.droid_wire_journal.specs.declared.journal_handler.JournalHandler.{JournalHandler}
 use Rattle.droid_wire_pipe.specs.Pipes.{AnswersOne, PipeDoes}
 use Rattle.droid_wire_pipe.specs.declared.pipe.Pipe.{Pipe}
-use Rattle.droid_wire_turns.specs.Chains.{GoesOver}
-use Rattle.droid_wire_turns.specs.Events.{Event, Unwritten, Wrote}
-use Rattle.droid_wire_turns.specs.Steps.{AtEach, Does, Happens, Step, all_handled}
-use Rattle.droid_wire_turns.specs.Turns.{ServesAll}
-use Rattle.droid_wire_turns.specs.declared.rules.Rules.{Rules}
-use Rattle.droid_wire_turns.specs.declared.served.Served.{Served}
+use Rattle.droid_wire_pipe.specs.turns.Chains.{GoesOver}
+use Rattle.droid_wire_pipe.specs.turns.Events.{Event, Unwritten, Wrote}
+use Rattle.droid_wire_pipe.specs.turns.Steps.{AtEach, Does, Happens, Step, all_handled}
+use Rattle.droid_wire_pipe.specs.turns.Turns.{ServesAll}
+use Rattle.droid_wire_pipe.specs.turns.declared.rules.Rules.{Rules}
+use Rattle.droid_wire_pipe.specs.turns.declared.served.Served.{Served}
 
 -- These frames were handled one after another from this history on, each with this reply; `after` is the history then.
 abbrev pub Answered : Setting → History → List (Frame × Reply) → History → Type 0
@@ -83,5 +83,5 @@ pub record ServesJournal {C F : Type 0} (does : C → Event → C → Type 0) (h
 -- The same of one connection over a reader and a writer.
 pub record AnswersJournal {R W F : Type 0} (remaining : R → Option (List ℕ)) (contents : W → Option (List ℕ)) (has : F → List ℕ → Type 0) (kept : F → List ℕ) (setting : Setting) (header : List ℕ) (history : History) (pipe : Pipe R W) (before : JournalHandler F) (later : Pipe R W) (after : JournalHandler F) (result : Served) : Type 0 where
   pub steps : List Step
-  pub one : AnswersOne (remaining pipe.reader) (remaining later.reader) (contents pipe.writer) (contents later.writer) result steps
+  pub one : AnswersOne (remaining pipe.reader) (remaining later.reader) (contents pipe.writer) (contents later.writer) pipe.departure later.departure result steps
   pub moments : AtMoments (PipeDoes remaining contents) has kept setting header history (pipe, before) (later, after) steps

@@ -1,14 +1,16 @@
 //! A service with its journal as what handles the frames of all connections.
 
 use droid_frame::{Frame, Reply};
-use droid_journal_service::{LogFile, ServiceJournal};
-use droid_wire_turns::Handler;
+use droid_journal_service::{Fault, LogFile, ServiceJournal};
+use droid_wire_pipe::Handler;
 
 /// A service with its journal that handles the frames of all connections, one after another.
 #[derive(Drop)]
 pub struct JournalHandler<F: LogFile> {
     /// The service and its journal.
     pub journal: ServiceJournal<F>,
+    /// Why it could not settle, once it could not.
+    pub fault: Option<Fault>,
 }
 
 impl<F: LogFile + Drop> Handler for JournalHandler<F> {
@@ -25,7 +27,10 @@ impl<F: LogFile + Drop> Handler for JournalHandler<F> {
     fn settle(&mut self) -> bool {
         match self.journal.settle() {
             Ok(()) => true,
-            Err(_) => false,
+            Err(fault) => {
+                self.fault = Some(fault);
+                false
+            }
         }
     }
 }

@@ -1,10 +1,18 @@
-//! Many connections, served by a service whose accepted requests are on the disk before their replies are written.
+//! Many connections, served by a service whose accepted requests are on the disk before their replies are written. The
+//! crate re-exports the service, the file of a journal, and the loop.
 #![tactic(auto)]
 
 mod journal_handler;
 mod serving;
 mod stream;
 
+pub use droid_journal_service::{
+    DiskFault, DiskLog, Drive, DriveError, Fault, FileDrive, FileError, Limits, LogFile, Service,
+    ServiceJournal, ServiceMachine, Tears, crash_and_reopen, header_for,
+};
+pub use droid_wire_pipe::{
+    Came, Connections, Departure, Handler, Pipe, Rules, Served, Took, WaitFault, serve_in_turns,
+};
 pub use journal_handler::JournalHandler;
 pub use serving::serve_journal;
 pub use stream::answer_journal;

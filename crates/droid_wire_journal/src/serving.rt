@@ -1,14 +1,17 @@
 //! Many connections, served by a service with a journal.
 
 ghost use Rattle.std.specs.Prelude.{ℕ, List};
-ghost use Rattle.droid_core.specs.Histories.{History};
-ghost use Rattle.droid_core.specs.Setting.{Setting};
+ghost use Rattle.droid_journal_service.specs.core.Histories.{History};
+ghost use Rattle.droid_journal_service.specs.core.Setting.{Setting};
 ghost use Rattle.droid_journal_service.specs.Standing.{StandsForHistory};
+ghost use Rattle.droid_wire_journal.specs.Handling.{HandlesSo, SettlesSo};
 ghost use Rattle.droid_wire_journal.specs.Serving.{ServesJournal};
+ghost use Rattle.droid_wire_pipe.specs.turns.Steps.{Goes};
+ghost use Rattle.droid_wire_pipe.specs.turns.Turns.{ServesAll};
 
 use crate::journal_handler::JournalHandler;
 use droid_journal_service::LogFile;
-use droid_wire_turns::{Connections, Rules, Served, serve_in_turns};
+use droid_wire_pipe::{Connections, Rules, Served, serve_in_turns};
 use std::alloc::Global;
 
 /// Serves many connections by one service with a journal, in turns, until as many as are wanted came and left, or the
@@ -26,8 +29,10 @@ pub fn serve_journal<C: Connections, F: LogFile + Drop>(
     // on the disk and what may be written behind it are histories, as a crash needs them. The one that may be written has
     // nothing but frames that came, in their order, each with its answer. Whatever was handled before a byte was written to
     // any connection is on the disk.
-    ensures { (setting : Setting) (header : List ℕ) (history : History) → StandsForHistory F.has F.kept setting header handler.old.journal.journal history history
+    ensures journal { (setting : Setting) (header : List ℕ) (history : History) → StandsForHistory F.has F.kept setting header handler.old.journal.journal history history
         → ServesJournal C.does F.has F.kept rules setting header history connections.old handler.old connections.new handler.new result }
+    // Whatever is known of the file: each connection was served well, and the handler settled before each write.
+    ensures serves { Goes C.does (HandlesSo F.has F.kept) (SettlesSo F.has F.kept) connections.old handler.old connections.new handler.new (ServesAll rules result) }
 {
     serve_in_turns(alloc, connections, handler, rules)
 }

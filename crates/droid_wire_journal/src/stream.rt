@@ -1,16 +1,15 @@
 //! One stream, answered by a service with a journal.
 
 ghost use Rattle.std.specs.Prelude.{ℕ, List};
-ghost use Rattle.droid_core.specs.Histories.{History};
-ghost use Rattle.droid_core.specs.Setting.{Setting};
+ghost use Rattle.droid_journal_service.specs.core.Histories.{History};
+ghost use Rattle.droid_journal_service.specs.core.Setting.{Setting};
 ghost use Rattle.droid_journal_service.specs.Standing.{StandsForHistory};
 ghost use Rattle.droid_wire_journal.specs.Serving.{AnswersJournal};
 
 use crate::journal_handler::JournalHandler;
 use droid_frame::{SteadyRead, SteadyWrite};
 use droid_journal_service::LogFile;
-use droid_wire_pipe::{Pipe, answer_pipe};
-use droid_wire_turns::Served;
+use droid_wire_pipe::{Pipe, Served, answer_pipe};
 use std::alloc::Global;
 
 /// Answers the frames of a reader by a service with a journal, until the input ends, or a frame, a stream or the journal

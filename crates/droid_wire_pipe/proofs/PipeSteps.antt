@@ -1,16 +1,18 @@
 -- What steps of the loop did to a reader and a writer.
-use Rattle.std.proofs.Common.{◌≡◌, ◌⊎◌, ℕ, Bool, true, false, cond, eqb, List, [], ◌∷◌, Option, refl, sym, ap, subst, inl, inr}
+use Rattle.std.proofs.Common.{◌≡◌, ◌⊎◌, ℕ, Bool, true, false, cond, eqb, List, [], ◌∷◌, Option, refl, sym, ap, subst, ◌∙◌, inl, inr}
 use Rattle.std.proofs.KnownBytes.{Appends-nil, Appends-trans, Consumes-nil, Consumes-trans}
 use Rattle.std.proofs.lemmas.Bool.{eq-eqb}
 use Rattle.std.specs.Io.KnownBytes.{Appends, Consumes}
+use Rattle.std.specs.Prelude.{fold}
 use Rattle.droid_frame.specs.types.frame.Frame.{Frame}
 use Rattle.droid_frame.specs.types.reply.Reply.{Reply}
 use Rattle.droid_wire_turns.specs.Chains.{GoesOver}
 use Rattle.droid_wire_turns.specs.Events.{Read, Wrote}
 use Rattle.droid_wire_turns.specs.Steps.{Does, Goes, Handles, Happens, Settles, Step, bytes_read, bytes_written, came, went}
 use Rattle.droid_wire_turns.specs.Turns.{ServesAll}
+use Rattle.droid_wire_turns.specs.declared.departure.Departure.{Departure}
 use Rattle.droid_wire_turns.specs.declared.served.Served.{Served}
-use Rattle.droid_wire_pipe.specs.Pipes.{AnswersOne, PipeDoes, rules_of_one}
+use Rattle.droid_wire_pipe.specs.Pipes.{AnswersOne, PipeDoes, left_behind, rules_of_one}
 use Rattle.droid_wire_pipe.specs.declared.pipe.Pipe.{Pipe}
 
 -- bytes of one connection
@@ -47,10 +49,25 @@ module _ {R W H : Type 0} (remaining : R → Option (List ℕ)) (contents : W �
       Appends-trans (contents old.writer) (contents over.0.0.writer) (contents new.writer) (bytes_written 0 step) (went 0 steps)
       (write_one old over.0.0 h over.0.1 step over.1) (write_all steps over.0.0 new over.0.1 after over.2)
 
+  leave_one : (old new : Pipe R W) (h after : H) (step : Step) → Does (PipeDoes remaining contents) handles settles (old, h) step (new, after) → new.departure ≡ left_behind old.departure step
+  leave_one old new h after (Happens event) did = did.0.left
+  leave_one old new h after (Handles id frame reply) did = ap (λ (p : Pipe R W). p.departure) did.0
+  leave_one old new h after (Settles done) did = ap (λ (p : Pipe R W). p.departure) did.0
+
+  leave_all : (steps : List Step) (old new : Pipe R W) (h after : H) → GoesOver (Does (PipeDoes remaining contents) handles settles) (old, h) steps (new, after) → new.departure ≡ fold left_behind old.departure steps
+  leave_all [] old new h after over = ap (λ (pair : Pipe R W × H). pair.0.departure) over
+  leave_all (step ∷ steps) old new h after over =
+      leave_all steps over.0.0 new over.0.1 after over.2 ∙ ap (λ (d : Option Departure). fold left_behind d steps) (leave_one old over.0.0 h over.0.1 step over.1)
+
   pub answers_one : (old new : Pipe R W) (h after : H) (result : Served) → Goes (PipeDoes remaining contents) handles settles old h new after (ServesAll rules_of_one result)
-      → Goes (PipeDoes remaining contents) handles settles old h new after (AnswersOne (remaining old.reader) (remaining new.reader) (contents old.writer) (contents new.writer) result)
+      → Goes (PipeDoes remaining contents) handles settles old h new after (AnswersOne (remaining old.reader) (remaining new.reader) (contents old.writer) (contents new.writer) old.departure new.departure result)
   answers_one old new h after result goes = record {
     steps = goes.steps;
     done = goes.done;
-    holds = record { serves = goes.holds; read = read_all goes.steps old new h after goes.done; written = write_all goes.steps old new h after goes.done };
+    holds = record {
+      serves = goes.holds;
+      read = read_all goes.steps old new h after goes.done;
+      written = write_all goes.steps old new h after goes.done;
+      departed = leave_all goes.steps old new h after goes.done;
+    };
   }

@@ -1,13 +1,14 @@
 -- One connection over a reader and a writer (this project's own).
-use Rattle.std.specs.Prelude.{◌≡◌, ◌⊎◌, ℕ, List, [], Option, Some, take}
+use Rattle.std.specs.Prelude.{◌≡◌, ◌⊎◌, ℕ, ◌==◌, if◌then◌else◌, List, [], Option, Some, fold, take}
 use Rattle.std.specs.Io.KnownBytes.{Appends, Consumes, IsAtEnd}
-use Rattle.droid_wire_turns.specs.Events.{Event, Ended, Opened, Read, Wrote}
-use Rattle.droid_wire_turns.specs.Steps.{Step, came, went}
+use Rattle.droid_wire_turns.specs.Events.{Event, Closed, Ended, Opened, Read, Wrote}
+use Rattle.droid_wire_turns.specs.Steps.{Happens, Step, came, went}
 use Rattle.droid_wire_turns.specs.Turns.{ServesAll}
 use Rattle.droid_wire_turns.specs.declared.connections.Came.{Came}
 use Rattle.droid_wire_turns.specs.declared.connections.Came.TheVariants as came_as
 use Rattle.droid_wire_turns.specs.declared.connections.Took.{Took}
 use Rattle.droid_wire_turns.specs.declared.connections.Took.TheVariants as took_as
+use Rattle.droid_wire_turns.specs.declared.departure.Departure.{Departure}
 use Rattle.droid_wire_turns.specs.declared.rules.Rules.{Rules}
 use Rattle.droid_wire_turns.specs.declared.served.Served.{Served}
 use Rattle.droid_wire_pipe.specs.declared.pipe.Pipe.{Pipe}
@@ -46,19 +47,32 @@ abbrev pub EndsThere : Option (List ℕ) → Event → Type 0
 EndsThere left (Ended id) = IsAtEnd left
 EndsThere left _ = Unit {0}
 
+-- why the connection was closed
+abbrev pub left_by : Event → Option Departure → Option Departure
+left_by (Closed id why) before = if id == 0 then Some why else before
+left_by _ before = before
+
 -- what an event does
 pub record PipeDoes {R W : Type 0} (remaining : R → Option (List ℕ)) (contents : W → Option (List ℕ)) (old : Pipe R W) (event : Event) (new : Pipe R W) : Type 0 where
   pub read : Consumes (remaining old.reader) (remaining new.reader) (taken event)
   pub written : Appends (contents old.writer) (contents new.writer) (given event)
   pub one : IsOfOne event
   pub ends : EndsThere (remaining new.reader) event
+  pub left : new.departure ≡ left_by event old.departure
 
 -- one connection, which may be idle for ever
 abbrev pub rules_of_one : Rules
 rules_of_one = record { seats = 1; total = Some 1; idle = 18446744073709551615 }
 
--- The loop served one connection. What came of it was read, what it took was written, and nothing else.
-pub record AnswersOne (left left_now wrote wrote_now : Option (List ℕ)) (result : Served) (steps : List Step) : Type 0 where
+-- why the connection was closed, behind a step
+abbrev pub left_behind : Option Departure → Step → Option Departure
+left_behind before (Happens event) = left_by event before
+left_behind before _ = before
+
+-- The loop served one connection. What came of it was read, what it took was written, and nothing else. It is known why it
+-- was closed.
+pub record AnswersOne (left left_now wrote wrote_now : Option (List ℕ)) (departure departure_now : Option Departure) (result : Served) (steps : List Step) : Type 0 where
   pub serves : ServesAll rules_of_one result steps
   pub read : Consumes left left_now (came 0 steps)
   pub written : Appends wrote wrote_now (went 0 steps)
+  pub departed : departure_now ≡ fold left_behind departure steps

@@ -1,8 +1,8 @@
 //! One connection over a reader and a writer.
 
-ghost use Rattle.std.specs.Prelude.{◌≡◌, length};
-ghost use Rattle.droid_wire_turns.specs.Events.{CameWithin, TookWithin};
-ghost use Rattle.droid_wire_pipe.specs.Pipes.{CameSo, TookSo};
+ghost use Rattle.std.specs.Prelude.{◌≡◌, None, length};
+ghost use Rattle.droid_wire_turns.specs.Events.{CameWithin, Closed, TookWithin};
+ghost use Rattle.droid_wire_pipe.specs.Pipes.{CameSo, TookSo, left_by};
 
 use droid_frame::{Retries, SteadyRead, SteadyWrite, read_some};
 use droid_wire_turns::{Came, Connections, Departure, Took, WaitFault};
@@ -21,6 +21,8 @@ pub struct Pipe<R, W> {
     pub reader: R,
     /// What it takes.
     pub writer: W,
+    /// Why it was closed, once it was.
+    pub departure: Option<Departure>,
     /// Whether it was accepted.
     accepted: bool,
     /// Whether it may be read before the next wait.
@@ -32,10 +34,12 @@ impl<R: SteadyRead, W: SteadyWrite> Pipe<R, W> {
     pub fn new(reader: R, writer: W) -> Pipe<R, W>
         ensures reader { result.reader ≡ reader }
         ensures writer { result.writer ≡ writer }
+        ensures departure { result.departure ≡ None }
     {
         Pipe {
             reader,
             writer,
+            departure: None,
             accepted: false,
             readable: false,
         }
@@ -85,7 +89,19 @@ impl<R: SteadyRead, W: SteadyWrite> Connections for Pipe<R, W> {
         write_to(&mut self.writer, bytes)
     }
 
-    fn close(&mut self, _id: u64, _why: Departure, _frames: u64) {}
+    fn close(&mut self, id: u64, why: Departure, _frames: u64) {
+        self.departure = leaving(self.departure, id, why);
+    }
+}
+
+/// Returns why the connection was closed, by the number of the one that is closed now.
+fn leaving(before: Option<Departure>, id: u64, why: Departure) -> Option<Departure>
+    ensures { result ≡ left_by (Closed id why) before }
+{
+    if id == 0 {
+        return Some(why);
+    }
+    before
 }
 
 /// Reads once. An interrupted read is tried again, up to 64 times.

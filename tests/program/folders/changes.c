@@ -3,7 +3,8 @@
  *   EXCHANGED         before the program looks at a file of this name for the time of this number,
  *   EXCHANGED_LOOK    counted from 1, or where the number is 0, before it opens the file for the first time,
  *   EXCHANGED_BY      this path is renamed
- *   EXCHANGED_TO      to this one */
+ *   EXCHANGED_TO      to this one
+ *   EXCHANGED_BOTH    and what is there to the first one */
 #define _GNU_SOURCE
 #include <dirent.h>
 #include <dlfcn.h>
@@ -29,7 +30,8 @@ static int has_name(const char *path, const char *name) {
 }
 
 static void exchange(void) {
-    if (!is_done) rename(text("EXCHANGED_BY"), text("EXCHANGED_TO"));
+    unsigned both = *text("EXCHANGED_BOTH") ? RENAME_EXCHANGE : 0;
+    if (!is_done) renameat2(AT_FDCWD, text("EXCHANGED_BY"), AT_FDCWD, text("EXCHANGED_TO"), both);
     is_done = 1;
 }
 

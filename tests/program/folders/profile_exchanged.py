@@ -1,14 +1,12 @@
 """Folders that change while `profile` or `submit` reads them: a listing has a name twice, or something else is put in a
 file's place."""
 import os
-import shutil
 import unittest
 
 from lib.program import Serve
 from lib.submissions import records, submit
-from lib.trees import CHANGED, KIND, LINK, SKIPPED, TWICE, UNREAD, InFolder, lines, profile, status_of, walk
+from lib.trees import CHANGED, KIND, LINK, SKIPPED, TWICE, UNREAD, InChangingFolder, lines, profile, status_of, walk
 
-PATH = b"/in/b.txt"
 # `profile` looks at each file when it lists the folder, and before it opens the file. Then it opens the file, which has
 # the number 0 here. What is put there before the listing is taken as it is.
 DUE_OF_PROFILE = {
@@ -28,24 +26,10 @@ DUE_OF_SUBMIT = {("file", 1): None, ("pipe", 1): KIND} | {
 DUE = {"profile": DUE_OF_PROFILE, "submit": DUE_OF_SUBMIT}
 
 
-class Exchanged(InFolder):
+class Exchanged(InChangingFolder):
     def setUp(self):
         super().setUp()
-        self.export, self.other = self.work + b"/export.csv", self.work + b"/other"
-
-    def make(self, kind):
-        """Makes the tree, and what is to be exchanged for a file: another of its size and moment, a pipe, or a link to it."""
-        shutil.rmtree(self.top)
-        self.folder(b"/in")
-        for path, content in ((b"/in/a.txt", b"one"), (PATH, b"two"), (b"/in/c.txt", b"three")):
-            self.file(path, content)
-        if kind == "file":
-            self.file(b"/../other", b"six")
-        elif kind == "pipe":
-            os.mkfifo(self.other)
-        else:
-            self.file(b"/../target", b"six")
-            os.symlink(self.work + b"/target", self.other)
+        self.export = self.work + b"/export.csv"
 
     def ended(self, command, **how):
         """Runs `profile` or `submit` while the folder changes: the status, the skipped entries, and the CSV."""
@@ -62,9 +46,9 @@ class Exchanged(InFolder):
     def check(self, command, ended, reason):
         """Checks that the file was skipped for this reason, and nothing else; or nothing at all."""
         status, skipped, text = ended
-        due = 5 if reason and command == "submit" else status_of({PATH: reason} if reason else {})
-        self.assertEqual((status, skipped), (due, [PATH + b": " + reason] if reason else []))
-        due = {row["FILE_PATH"] for row in walk(self.top)[0]} - ({PATH.decode()} if reason and reason != TWICE else set())
+        due = 5 if reason and command == "submit" else status_of({self.PATH: reason} if reason else {})
+        self.assertEqual((status, skipped), (due, [self.PATH + b": " + reason] if reason else []))
+        due = {row["FILE_PATH"] for row in walk(self.top)[0]} - ({self.PATH.decode()} if reason and reason != TWICE else set())
         self.assertEqual(set(records(text)), due)
 
     def test_listed_twice(self):
@@ -78,9 +62,28 @@ class Exchanged(InFolder):
             for (kind, look), reason in DUE[command].items():
                 with self.subTest(command=command, kind=kind, look=look):
                     self.make(kind)
-                    there = {"EXCHANGED": "b.txt", "EXCHANGED_BY": os.fsdecode(self.other), "EXCHANGED_TO": os.fsdecode(self.top + PATH)}
-                    self.check(command, self.ended(command, EXCHANGED_LOOK=str(look), **there), reason)
+                    self.check(command, self.ended(command, **self.exchanging(look)), reason)
                     self.assertFalse(os.path.lexists(self.other))
+
+    def test_link_in_the_middle(self):
+        """A folder is exchanged for a link to another one while it is listed. What lies in it is looked at and read through
+        the folder that was opened, so the profile is that of the first one."""
+        self.make("file")
+        self.folder(b"/../target")
+        for name in (b"/a.txt", b"/b.txt", b"/c.txt"):
+            self.file(b"/../target" + name, b"of another folder")
+        link, there = self.work + b"/link", self.top + b"/in"
+        os.symlink(self.work + b"/target", link)
+        due = profile(self.top, "--quiet")
+        paths = {"EXCHANGED_BY": os.fsdecode(link), "EXCHANGED_TO": os.fsdecode(there), "EXCHANGED_BOTH": "1"}
+        for look in range(1, 3):
+            with self.subTest(look=look):
+                status, skipped, text = self.ended("profile", EXCHANGED="b.txt", EXCHANGED_LOOK=str(look), **paths)
+                self.assertTrue(os.path.islink(there))
+                self.assertEqual((status, skipped, text), (due[0], [], due[1]))
+                os.unlink(there)
+                os.rename(link, there)
+                os.symlink(self.work + b"/target", link)
 
 
 if __name__ == "__main__":

@@ -7,5 +7,5 @@ tests=$(cd "$(dirname "$0")/../.." && pwd)
 export PRELOAD_READS="$work/reads.so" PRELOAD_CHANGES="$work/changes.so"
 build_library reads.c "$PRELOAD_READS"
 build_library changes.c "$PRELOAD_CHANGES"
-run_modules profile_trees profile_random profile_skipped profile_reads profile_exchanged profile_output profile_manifest profile_many \
-    profile_progress profile_arguments verify_lists
+run_modules profile_trees profile_random profile_skipped profile_reads profile_exchanged profile_output profile_manifest profile_report \
+    profile_many profile_progress profile_arguments verify_lists

@@ -9,7 +9,7 @@ import subprocess
 import unittest
 
 from lib.program import PROGRAM, SAMPLE
-from lib.trees import CHANGED, UNREAD, InFolder, profile
+from lib.trees import CHANGED, UNREAD, InChangingFolder, InFolder, profile
 
 COLUMNS = ["difference", "path", "size", "hash", "formats", "found_path", "found_size", "found_hash", "found_formats", "reason"]
 # names of files and folders that a list has to quote or escape
@@ -470,27 +470,16 @@ class Formats(InLists):
         self.assertNotIn(b"format", said)
 
 
-class Changes(InLists):
+class Changes(InChangingFolder):
     """Trees that change, or cannot be read, while they are compared."""
 
-    PATH = b"/in/b.txt"
     # before which look at the file something else is put in its place, as profile_exchanged has it
     DUE = {("file", 1): "other", ("file", 2): CHANGED, ("file", 0): CHANGED, ("pipe", 2): UNREAD, ("link", 1): "gone", ("link", 2): UNREAD, ("link", 0): CHANGED}
 
     def make(self, kind):
-        subprocess.run(["rm", "-rf", self.top], check=True)
-        self.folder(b"/in")
-        for path, content in ((b"/in/a.txt", b"one"), (self.PATH, b"two"), (b"/in/c.txt", b"three")):
-            self.file(path, content)
-        self.path, self.other = self.work + b"/list.csv", self.work + b"/other"
+        super().make(kind)
+        self.path = self.work + b"/list.csv"
         self.assertEqual(profile(self.top, "--hash", "md5", "--output", self.path, "--quiet")[0], 0)
-        if kind == "file":
-            self.file(b"/../other", b"six")
-        elif kind == "pipe":
-            os.mkfifo(self.other)
-        else:
-            self.file(b"/../target", b"six")
-            os.symlink(self.work + b"/target", self.other)
 
     def seen(self, **how):
         status, out, said = verify(self.top, "--against", self.path, "--quiet", env=os.environ | how)
@@ -502,8 +491,7 @@ class Changes(InLists):
         for (kind, look), due in self.DUE.items():
             with self.subTest(kind=kind, look=look):
                 self.make(kind)
-                there = {"EXCHANGED": "b.txt", "EXCHANGED_BY": os.fsdecode(self.other), "EXCHANGED_TO": os.fsdecode(self.top + self.PATH)}
-                rows = self.seen(LD_PRELOAD=os.environ["PRELOAD_CHANGES"], EXCHANGED_LOOK=str(look), **there)
+                rows = self.seen(LD_PRELOAD=os.environ["PRELOAD_CHANGES"], **self.exchanging(look))
                 self.assertEqual(rows, [kinds.get(due, (b"unreadable", self.PATH, due))])
 
     def test_failed_reads(self):

@@ -1,16 +1,26 @@
 """What `submit` writes: the profile's number, and the files of --export and --skipped, which must not lie in the folder."""
 import os
+import re
+import resource
+import signal
+import subprocess
 import unittest
 
 from lib.connections import free_port
 from lib.frames import ADD_FILE, CAUSES, EXPORT
 from lib.lying import Lying, closing, first_of, refusing
-from lib.program import Serve
+from lib.program import PROGRAM, Serve
 from lib.submissions import WithSmallTree, fault, submit, submit_and_print
 from lib.trees import KIND, LINK, NAME, SKIPPED, lines, read_skipped, walk
 
 IN_FOLDER = "%s: lies in the folder that is submitted, and would change it: choose another place"
 NO_FOLDER = "%s: cannot be created: its folder does not exist: create it first"
+
+
+def page_in(path):
+    """Returns the page in a file, without the moment when it was made."""
+    with open(path, "rb") as file:
+        return re.sub(rb" at [^ ]+ \(UTC\)", b"", file.read())
 
 
 class Outputs(WithSmallTree):
@@ -57,6 +67,38 @@ class Written(Outputs):
         self.assertEqual(len(lines(err, SKIPPED)), 3)
         self.same(self.exported(), walk(self.top)[0])
         self.assertEqual(self.beside(), [b"skipped.csv"])
+
+    def test_report(self):
+        """The page is the one that `report` makes of the export. It names no registry, which only the service knows."""
+        page, made = self.work + b"/page.html", self.work + b"/made.html"
+        with Serve.lasting() as service:
+            for words, title in ((["--export", self.export], b"export.csv"), ([], b"tree")):
+                self.assertEqual(submit(self.top, service.port, 7, *words, "--report", page), (0, b""))
+                named = self.work + b"/in/" + title
+                os.makedirs(self.work + b"/in", exist_ok=True)
+                with open(named, "wb") as file:
+                    file.write(self.exported())
+                subprocess.run([PROGRAM, "report", named, "--output", made], check=True, timeout=120)
+                self.assertEqual(page_in(page), page_in(made))
+                self.assertNotIn(b"Registry: ", page_in(page))
+
+    def test_report_not_written(self):
+        """The export is in its place, and the page is missing, or as it was before."""
+        page = self.work + b"/page.html"
+
+        def small():
+            resource.setrlimit(resource.RLIMIT_FSIZE, (2_000, 2_000))
+            signal.signal(signal.SIGXFSZ, signal.SIG_IGN)
+
+        with Serve.lasting() as service:
+            status, err = submit(self.top, service.port, 7, "--export", self.export, "--report", page, preexec_fn=small, restore_signals=False)
+            self.assertEqual((status, err), (4, fault("Write", os.fsdecode(page) + ": could not be written: is the disk full, or its reader gone?")))
+            self.same(self.exported(), walk(self.top)[0])
+            self.assertEqual(self.beside(), [])
+            for option, path in (("--export", page), ("--skipped", self.work + b"/./page.html")):
+                status, err = submit(self.top, service.port, 7, option, path, "--report", page)
+                self.assertEqual((status, err), (4, fault("Output", os.fsdecode(page) + ": another FILE has this path: choose another place")))
+        self.assertEqual(self.beside(), [])
 
     def test_nothing_skipped(self):
         with Serve.lasting() as service:

@@ -6,10 +6,10 @@ use Rattle.droid_desk_arguments.proofs.arguments.asked_of_program.Goals as goal
 
 pub returns-clause-asks : goal.returns-clause-asks
 returns-clause-asks c =
-    let program_is = c.in_ok-command.ensures.shape in
+    let program_is = c.in_ok-command.ensures.0 in
     subst (λ (a : App). IfOk c.asked_of.result (λ (asked : Asked). IsAsked (subcommand_of a (map string_bytes c.args.words.now)) asked)) program_is (c.asked_of.ensures.asks (ap is_simple program_is))
 
 pub returns-clause-taken : goal.returns-clause-taken
 returns-clause-taken c =
-    let program_is = c.in_ok-command.ensures.shape in
+    let program_is = c.in_ok-command.ensures.0 in
     subst (λ (a : App). IfOk c.asked_of.result (λ _. fault_of a (map string_bytes c.args.words.now) ≡ [])) program_is (c.asked_of.ensures.taken (ap is_simple_and_free program_is))

@@ -17,6 +17,7 @@ returns c =
     let output = c.get_str-output.ensures ∙ first_value-rows found (codes "output") in
     let manifest = c.get_str-manifest.ensures ∙ first_value-rows found (codes "manifest") in
     let skipped = c.get_str-skipped.ensures ∙ first_value-rows found (codes "skipped") in
+    let report = c.get_str-report.ensures ∙ first_value-rows found (codes "report") in
     record {
       folder = folder;
       registry = registry;
@@ -27,5 +28,6 @@ returns c =
       manifest = manifest;
       checksums = sym c.has_no_checksums.ensures ∙ c.if-has_no_checksums.false;
       skipped = skipped;
+      report = report;
       quiet = c.flag_of-quiet.ensures;
     }

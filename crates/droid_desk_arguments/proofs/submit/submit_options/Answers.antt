@@ -18,6 +18,7 @@ returns c =
     let hash = subst (λ (o : Option Text). IsHash o c.in_ok-hash.hash) (c.get_str-hash_word.ensures ∙ first_value-rows found (codes "hash")) c.in_ok-hash.ensures in
     let export = c.get_str-export.ensures ∙ first_value-rows found (codes "export") in
     let skipped = c.get_str-skipped.ensures ∙ first_value-rows found (codes "skipped") in
+    let report = c.get_str-report.ensures ∙ first_value-rows found (codes "report") in
     record {
       folder = folder;
       destination = c.in_ok-to.ensures;
@@ -28,5 +29,6 @@ returns c =
       hash = hash;
       export = export;
       skipped = skipped;
+      report = report;
       quiet = c.flag_of-quiet.ensures;
     }

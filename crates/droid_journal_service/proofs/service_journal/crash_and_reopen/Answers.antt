@@ -7,8 +7,9 @@ pub returns-in-Ok : goal.returns-in-Ok
 returns-in-Ok g c = λ setting written synced all fresh keeps chance.
     let stands : StandsForRecords setting c.args.fresh [] = record { history = []; its = no_history setting; stands = fresh } in
     let found = c.in-Ok.ensures.reopened setting keeps.first written stands keeps.keeps chance in
-    let its = found.1.machine.its in (
-      found.1.machine.history,
-      record { first = found.0; records = found.0; stands = found.1; on_disk = its; accepted = its },
-      between setting keeps.first found.0 written synced found.1.machine.history all found.2 found.3 keeps.on_disk its keeps.accepted,
+    let settled = c.begun.ensures setting c.args.header.now found.0 found.1 in
+    let its = settled.machine.its in (
+      settled.machine.history,
+      record { first = found.0; records = found.0; stands = settled; on_disk = its; accepted = its },
+      between setting keeps.first found.0 written synced settled.machine.history all found.2 found.3 keeps.on_disk its keeps.accepted,
     )

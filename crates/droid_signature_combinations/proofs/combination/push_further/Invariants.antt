@@ -1,8 +1,8 @@
 -- What is written, and what is left.
 use Rattle.std.proofs.Common.{◌≡◌, ◌<◌, ◌++◌, drop}
 use Rattle.std.specs.List.{flat_map}
-use Rattle.droid_export.specs.Csv.{line}
-use Rattle.droid_signature_patterns.specs.Choices.{ways}
+use Rattle.droid_signature_tables.specs.Csv.{line}
+use Rattle.droid_signature_tables.specs.Choices.{ways}
 use Rattle.droid_signature_combinations.specs.Combinations.{further_fields, picks}
 use Rattle.droid_signature_combinations.proofs.combination.push_further.Given as goal
 

@@ -1,7 +1,7 @@
 -- The ways of the first.
 use Rattle.std.proofs.Common.{◌≡◌, take}
 use Rattle.std.specs.Prelude.{min}
-use Rattle.droid_signature_patterns.specs.Choices.{ways}
+use Rattle.droid_signature_tables.specs.Choices.{ways}
 use Rattle.droid_signature_combinations.proofs.combination.ways.Given as goal
 
 abbrev pub invariant-loop-choices : goal.invariant-loop-choices

@@ -1,6 +1,6 @@
 -- The first signatures.
 use Rattle.std.proofs.Common.{List, ℕ, ◌++◌, take}
-use Rattle.droid_signature_spec.specs.Records.{SignatureRecord}
+use Rattle.droid_signature_tables.specs.Records.{SignatureRecord}
 use Rattle.droid_signature_tables.specs.Views.{kept_of}
 use Rattle.droid_signature_combinations.specs.Outcomes.{AreOutcomesOf}
 use Rattle.droid_signature_combinations.specs.Signatures.{Named, Signs, signatures_of}

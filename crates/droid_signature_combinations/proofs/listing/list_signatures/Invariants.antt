@@ -1,6 +1,6 @@
 -- The signatures of the first formats.
 use Rattle.std.proofs.Common.{List, take}
-use Rattle.droid_signature_spec.specs.Records.{SignatureRecord}
+use Rattle.droid_signature_tables.specs.Records.{SignatureRecord}
 use Rattle.droid_signature_tables.specs.Views.{all_of}
 use Rattle.droid_signature_combinations.specs.Outcomes.{AreOutcomesOf}
 use Rattle.droid_signature_combinations.specs.Signatures.{Signs, all_signatures}

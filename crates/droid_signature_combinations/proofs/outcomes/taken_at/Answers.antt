@@ -1,7 +1,7 @@
 -- By what the signature at the place becomes.
 use Rattle.std.proofs.Common.{List, sym, subst}
-use Rattle.droid_signature_patterns.specs.Choices.{AreTaken}
-use Rattle.droid_signature_patterns.specs.declared.choices.Choices.{Choices}
+use Rattle.droid_signature_tables.specs.Choices.{AreTaken}
+use Rattle.droid_signature_tables.specs.choice_types.choices.Choices.{Choices}
 use Rattle.droid_signature_combinations.specs.declared.outcomes.Outcome.TheVariants as outcomes
 use Rattle.droid_signature_combinations.proofs.OutcomeLists.{outcome_is, outcome_there}
 use Rattle.droid_signature_combinations.proofs.outcomes.taken_at.Goals as goal

@@ -1,6 +1,6 @@
 -- One more byte, and where none is.
 use Rattle.std.proofs.Common.{arith}
-use Rattle.droid_pronom_pattern.proofs.TextLemmas.{two_and_rest, is_none, is_some_list, bytes_more, bytes_bad, bytes_odd, bytes_none, bytes_end}
+use Rattle.droid_signature_file.proofs.TextLemmas.{two_and_rest, is_none, is_some_list, bytes_more, bytes_bad, bytes_odd, bytes_none, bytes_end}
 use Rattle.droid_signature_parser.proofs.item_parser.bytes_of.Goals as goal
 
 pub returns-then-is_empty-clause-bad : goal.returns-then-is_empty-clause-bad

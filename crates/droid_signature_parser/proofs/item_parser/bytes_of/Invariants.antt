@@ -1,6 +1,6 @@
 -- What the rest spells completes what the digits spell.
 use Rattle.std.proofs.Common.{length}
-use Rattle.droid_pronom_pattern.proofs.TextLemmas.{BytesLeft}
+use Rattle.droid_signature_file.proofs.TextLemmas.{BytesLeft}
 use Rattle.droid_signature_parser.proofs.item_parser.bytes_of.Given as goal
 
 abbrev pub invariant-loop-rest : goal.invariant-loop-rest

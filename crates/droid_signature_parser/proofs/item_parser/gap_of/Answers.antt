@@ -1,6 +1,6 @@
 -- Where no gap stands in braces.
 use Rattle.std.proofs.Common.{⊎_elim, arith}
-use Rattle.droid_pronom_pattern.proofs.TextLemmas.{undashed, dashed, same_number, star_number, no_star}
+use Rattle.droid_signature_file.proofs.TextLemmas.{undashed, dashed, same_number, star_number, no_star}
 use Rattle.droid_signature_parser.proofs.item_parser.gap_of.Goals as goal
 
 pub returns-in_err-least : goal.returns-in_err-least

@@ -2,7 +2,7 @@
 use Rattle.std.proofs.Common.{◌≡◌, ◌<◌, get_or, ap, arith}
 use Rattle.std.proofs.lemmas.List.Elements.{All-more}
 use Rattle.std.specs.Char.{digit_value}
-use Rattle.droid_pronom_pattern.proofs.TextLemmas.{decimal_more, power_more}
+use Rattle.droid_signature_file.proofs.TextLemmas.{decimal_more, power_more}
 use Rattle.droid_signature_parser.proofs.item_parser.number_of.Goals as goal
 
 pub loop-digit-preserved : goal.loop-digit-preserved

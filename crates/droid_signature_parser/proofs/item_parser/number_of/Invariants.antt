@@ -1,7 +1,7 @@
 -- The value of the digits so far.
 use Rattle.std.proofs.Common.{◌≡◌, ◌<◌, ◌≤◌, ◌^◌, length, take, All}
 use Rattle.std.specs.Char.{digit_value}
-use Rattle.droid_pronom_pattern.specs.PatternText.{decimal_after}
+use Rattle.droid_signature_file.specs.PatternText.{decimal_after}
 use Rattle.droid_signature_parser.proofs.item_parser.number_of.Given as goal
 
 abbrev pub invariant-loop-digit : goal.invariant-loop-digit

@@ -1,6 +1,6 @@
 -- Text that is not ASCII, and text that is.
 use Rattle.std.proofs.Common.{sym}
-use Rattle.droid_pronom_pattern.proofs.TextLemmas.{is_some_list}
+use Rattle.droid_signature_file.proofs.TextLemmas.{is_some_list}
 use Rattle.droid_signature_parser.proofs.BoundLemmas.{not_quoted, quotable, some_length}
 use Rattle.droid_signature_parser.proofs.item_parser.quoted_of.Goals as goal
 

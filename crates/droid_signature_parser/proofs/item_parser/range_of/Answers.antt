@@ -1,7 +1,7 @@
 -- The second byte of a range isn't one.
 use Rattle.std.proofs.Common.{arith}
-use Rattle.droid_pronom_pattern.specs.Patterns.{Range}
-use Rattle.droid_pronom_pattern.proofs.TextLemmas.{five_in_brackets}
+use Rattle.droid_signature_file.specs.Patterns.{Range}
+use Rattle.droid_signature_file.proofs.TextLemmas.{five_in_brackets}
 use Rattle.droid_signature_parser.proofs.item_parser.range_of.Goals as goal
 
 pub returns-in_err-high-in-58 : goal.returns-in_err-high-in-58

@@ -1,5 +1,5 @@
 -- No colon, a bound that is not of bytes, and bounds that are none.
-use Rattle.droid_pronom_pattern.proofs.TextLemmas.{same_bytes}
+use Rattle.droid_signature_file.proofs.TextLemmas.{same_bytes}
 use Rattle.droid_signature_parser.proofs.BoundLemmas.{no_colon, several_parts}
 use Rattle.droid_signature_parser.proofs.FaultLemmas.{passed_on}
 use Rattle.droid_signature_parser.proofs.item_parser.several_of.Goals as goal

@@ -1,7 +1,7 @@
 -- One more term, none, and the last one.
 use Rattle.std.proofs.Common.{◌∷◌, [], map, ap, ◌∙◌}
 use Rattle.std.proofs.lemmas.List.{map-append}
-use Rattle.droid_pronom_pattern.proofs.TextLemmas.{is_none, is_some_list}
+use Rattle.droid_signature_file.proofs.TextLemmas.{is_none, is_some_list}
 use Rattle.droid_signature_parser.specs.TermValues.{term_of}
 use Rattle.droid_signature_parser.proofs.FaultLemmas.{passed_on}
 use Rattle.droid_signature_parser.proofs.TermFronts.{terms_next, terms_bad, terms_end, terms_only}

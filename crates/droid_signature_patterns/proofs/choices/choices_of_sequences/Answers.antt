@@ -2,7 +2,7 @@
 use Rattle.std.proofs.Common.{◌≡◌, ℕ, ◌+◌, ◌*◌, ◌<◌, ◌≤◌, List, length, inl, inr, refl, sym, ap, ◌∙◌, subst, arith}
 use Rattle.std.proofs.lemmas.Bool.{eqb-false}
 use Rattle.std.proofs.lemmas.List.{take_all}
-use Rattle.droid_signature_spec.specs.Records.{ByteSequenceRecord}
+use Rattle.droid_signature_texts.specs.Records.{ByteSequenceRecord}
 use Rattle.droid_signature_texts.proofs.Exits.{any_at, passed_on}
 use Rattle.droid_signature_patterns.specs.Choices.{AreAllTaken, IsReasonOf, ways}
 use Rattle.droid_signature_patterns.specs.Reasons.{IsReasonOfOne}

@@ -1,7 +1,7 @@
 -- A fragment and its gap.
 use Rattle.std.proofs.Common.{inl, inr, ap, ◌∙◌}
-use Rattle.droid_signature_spec.specs.Expansions.{patterns_of}
-use Rattle.droid_signature_spec.specs.Pieces.{gap_patterns}
+use Rattle.droid_signature_texts.specs.Expansions.{patterns_of}
+use Rattle.droid_signature_texts.specs.Pieces.{gap_patterns}
 use Rattle.droid_signature_texts.specs.Outcomes.{AreTooMuch, IsReasonOfTerms}
 use Rattle.droid_signature_texts.specs.Texts as texts
 use Rattle.droid_signature_texts.specs.Written.{written_each}

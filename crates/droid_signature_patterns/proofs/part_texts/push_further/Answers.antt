@@ -1,6 +1,6 @@
 -- One more subsequence, one that cannot be written, and all of them.
 use Rattle.std.proofs.Common.{◌++◌, ◌∷◌, [], map, ap, ◌∙◌, arith}
-use Rattle.droid_pronom_pattern.specs.Patterns.{OpenGap}
+use Rattle.droid_signature_texts.specs.Patterns.{OpenGap}
 use Rattle.std.specs.List.{Any}
 use Rattle.std.proofs.lemmas.List.{take_all}
 use Rattle.droid_signature_texts.specs.Written.{written_each}

@@ -1,6 +1,6 @@
 -- Left fragments, the sequence, right fragments.
 use Rattle.std.proofs.Common.{ℕ, inl, inr, ap, ◌∙◌}
-use Rattle.droid_signature_spec.specs.Expansions.{patterns_of}
+use Rattle.droid_signature_texts.specs.Expansions.{patterns_of}
 use Rattle.droid_signature_texts.specs.Outcomes.{IsReasonOfTerms}
 use Rattle.droid_signature_texts.specs.Written.{written_each}
 use Rattle.droid_signature_texts.proofs.Exits.{passed_on}

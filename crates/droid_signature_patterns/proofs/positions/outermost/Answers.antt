@@ -2,7 +2,7 @@
 use Rattle.std.proofs.Common.{◌≡◌, ◌+◌, drop, sym, ap, ◌∙◌, arith}
 use Rattle.std.specs.Prelude.{max}
 use Rattle.std.proofs.lemmas.List.{at_drop_all, at_drop_more}
-use Rattle.droid_signature_spec.specs.Meaning.{outermost}
+use Rattle.droid_signature_texts.specs.Meaning.{outermost}
 use Rattle.droid_signature_patterns.proofs.positions.outermost.Goals as goal
 
 pub loop-fragment-preserved : goal.loop-fragment-preserved

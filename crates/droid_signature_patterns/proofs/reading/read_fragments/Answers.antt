@@ -2,7 +2,7 @@
 use Rattle.std.proofs.Common.{inl, inr, arith, subst}
 use Rattle.std.proofs.Common.{List}
 use Rattle.std.proofs.lemmas.List.{take_all}
-use Rattle.droid_signature_spec.specs.declared.subsequence.Fragment.{Fragment}
+use Rattle.droid_signature_texts.specs.record_types.subsequence.Fragment.{Fragment}
 use Rattle.droid_signature_texts.proofs.Exits.{any_at, left_out, passed_on}
 use Rattle.droid_signature_patterns.specs.Parts.{AreReadFragments}
 use Rattle.droid_signature_patterns.specs.Reasons.{IsReasonOfFragment, IsReasonOfSide}

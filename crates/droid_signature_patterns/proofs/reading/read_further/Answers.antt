@@ -3,7 +3,7 @@ use Rattle.std.proofs.Common.{arith, subst}
 use Rattle.std.proofs.Common.{List}
 use Rattle.std.specs.List.{Any}
 use Rattle.std.proofs.lemmas.List.{take_all}
-use Rattle.droid_signature_spec.specs.Records.{SubSequenceRecord}
+use Rattle.droid_signature_texts.specs.Records.{SubSequenceRecord}
 use Rattle.droid_signature_texts.proofs.Exits.{any_at, passed_on}
 use Rattle.droid_signature_patterns.specs.Parts.{AreReadParts}
 use Rattle.droid_signature_patterns.specs.Reasons.{IsReasonOfFurther}

@@ -1,6 +1,6 @@
 -- A subsequence is read, or one of its parts is not.
 use Rattle.std.proofs.Common.{inl, inr, sym, ap, ◌∙◌, subst}
-use Rattle.droid_signature_spec.specs.Meaning.{lowest}
+use Rattle.droid_signature_texts.specs.Meaning.{lowest}
 use Rattle.droid_signature_texts.proofs.Exits.{left_out, passed_on}
 use Rattle.droid_signature_patterns.specs.Parts.{IsReadPart, ReadPart}
 use Rattle.droid_signature_patterns.specs.Reasons.{IsReasonOfPart, IsReasonOfSide, IsReasonOfText}

@@ -1,8 +1,8 @@
 -- The subsequences are read, or one of them is not.
 use Rattle.std.proofs.Common.{◌∷◌, inl, inr, refl, sym, ap, subst, ◌∙◌}
 use Rattle.std.specs.List.{Any}
-use Rattle.droid_signature_spec.specs.Meaning.{lowest}
-use Rattle.droid_signature_spec.specs.declared.subsequence.OffsetRange.{OffsetRange}
+use Rattle.droid_signature_texts.specs.Meaning.{lowest}
+use Rattle.droid_signature_texts.specs.record_types.subsequence.OffsetRange.{OffsetRange}
 use Rattle.droid_signature_texts.proofs.Exits.{left_out, passed_on}
 use Rattle.droid_signature_patterns.specs.Reasons.{IsReasonOfBounds, IsReasonOfFurther, IsReasonOfPart, IsReasonOfParts}
 use Rattle.droid_signature_patterns.proofs.reading.read_parts.Goals as goal

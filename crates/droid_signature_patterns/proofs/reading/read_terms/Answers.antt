@@ -1,7 +1,7 @@
 -- A text is read as its one list of terms, or spells none.
 use Rattle.std.proofs.Common.{map}
-use Rattle.droid_signature_parser.specs.TermValues.{term_of}
-use Rattle.droid_signature_spec.proofs.PieceSets.{text_patterns}
+use Rattle.droid_signature_texts.specs.TermValues.{term_of}
+use Rattle.droid_signature_texts.proofs.PieceSets.{text_patterns}
 use Rattle.droid_signature_patterns.proofs.reading.read_terms.Goals as goal
 
 pub returns-in-Ok-clause-ok : goal.returns-in-Ok-clause-ok

@@ -1,7 +1,7 @@
 -- A format has the PUID already.
 use Rattle.std.proofs.Common.{◌≡◌, ℕ, Bool, true, Option, Some, None, refl}
 use Rattle.std.specs.Prelude.{is_some}
-use Rattle.droid_pronom.specs.Registry.{place_of}
+use Rattle.droid_signature_rows.specs.Registry.{place_of}
 use Rattle.droid_signature_tables.specs.Formats.{puid_in}
 use Rattle.droid_signature_tables.proofs.formats.why_not.Goals as goal
 

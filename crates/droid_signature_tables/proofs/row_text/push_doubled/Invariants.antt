@@ -1,7 +1,7 @@
 -- The first bytes.
 use Rattle.std.proofs.Common.{◌≡◌, ◌++◌, take}
 use Rattle.std.specs.List.{flat_map}
-use Rattle.droid_export.specs.Csv.{doubled}
+use Rattle.droid_signature_rows.specs.Csv.{doubled}
 use Rattle.droid_signature_tables.proofs.row_text.push_doubled.Given as goal
 
 abbrev pub invariant-loop-c : goal.invariant-loop-c

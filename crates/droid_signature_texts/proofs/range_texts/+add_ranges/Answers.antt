@@ -1,6 +1,6 @@
 -- Bounds with one first byte, and others.
 use Rattle.std.proofs.Common.{◌≡◌, ◌∷◌, ◌++◌, ap, sym, ◌∙◌, arith}
-use Rattle.droid_signature_spec.specs.Expansions.{ranges}
+use Rattle.droid_signature_parser.specs.Expansions.{ranges}
 use Rattle.droid_signature_texts.specs.Written.{behind}
 use Rattle.droid_signature_texts.proofs.RangeTexts.{same_steps}
 use Rattle.droid_signature_texts.proofs.range_texts.+add_ranges.Goals as goal

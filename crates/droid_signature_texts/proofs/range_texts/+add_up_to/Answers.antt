@@ -1,6 +1,6 @@
 -- What is below the first byte, and what begins with it.
 use Rattle.std.proofs.Common.{◌≡◌, ◌++◌, length, ap, ◌∙◌, arith}
-use Rattle.droid_signature_spec.specs.Expansions.{range_before}
+use Rattle.droid_signature_parser.specs.Expansions.{range_before}
 use Rattle.droid_signature_texts.specs.Written.{behind}
 use Rattle.droid_signature_texts.proofs.RangeTexts.{up_to_steps}
 use Rattle.droid_signature_texts.proofs.range_texts.+add_up_to.Goals as goal

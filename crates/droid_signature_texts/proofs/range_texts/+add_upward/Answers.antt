@@ -1,6 +1,6 @@
 -- What begins with the first byte, and what is above it.
 use Rattle.std.proofs.Common.{◌≡◌, ◌+◌, ◌++◌, length, ap, ◌∙◌, arith}
-use Rattle.droid_signature_spec.specs.Expansions.{range_before}
+use Rattle.droid_signature_parser.specs.Expansions.{range_before}
 use Rattle.droid_signature_texts.specs.Written.{behind}
 use Rattle.droid_signature_texts.proofs.RangeTexts.{upward_steps}
 use Rattle.droid_signature_texts.proofs.range_texts.+add_upward.Goals as goal

@@ -1,6 +1,6 @@
 -- What begins as the low bound, what is between, what begins as the high bound.
 use Rattle.std.proofs.Common.{◌≡◌, ◌+◌, ◌++◌, length, ap, ◌∙◌, arith}
-use Rattle.droid_signature_spec.specs.Expansions.{range_before}
+use Rattle.droid_signature_parser.specs.Expansions.{range_before}
 use Rattle.droid_signature_texts.specs.Written.{behind}
 use Rattle.droid_signature_texts.proofs.RangeTexts.{apart_steps}
 use Rattle.droid_signature_texts.proofs.range_texts.add_apart.Goals as goal

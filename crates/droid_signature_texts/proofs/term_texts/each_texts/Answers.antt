@@ -1,7 +1,7 @@
 -- One more alternative, and what a registry cannot hold.
 use Rattle.std.proofs.Common.{◌≡◌, ◌+◌, ◌<◌, ◌++◌, length, map, take, inl, inr, sym, ap, ◌∙◌, arith}
 use Rattle.std.proofs.lemmas.List.{take_all, length-map}
-use Rattle.droid_signature_spec.specs.Expansions.{patterns_of_atoms, patterns_of_each}
+use Rattle.droid_signature_parser.specs.Expansions.{patterns_of_atoms, patterns_of_each}
 use Rattle.droid_signature_parser.specs.TermValues.{atom_of}
 use Rattle.droid_signature_texts.specs.Items.{items_of}
 use Rattle.droid_signature_texts.specs.Outcomes.{HasMany, IsReasonOfAtoms, IsReasonOfEach}

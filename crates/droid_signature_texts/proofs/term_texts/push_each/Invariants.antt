@@ -1,6 +1,6 @@
 -- The first bytes, each behind its mark.
 use Rattle.std.proofs.Common.{◌≡◌, ◌++◌}
-use Rattle.droid_signature_spec.specs.Expansions.{upward}
+use Rattle.droid_signature_parser.specs.Expansions.{upward}
 use Rattle.droid_signature_texts.specs.Written.{marked, next_mark, pair}
 use Rattle.droid_signature_texts.proofs.term_texts.push_each.Given as goal
 

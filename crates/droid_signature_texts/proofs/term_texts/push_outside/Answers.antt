@@ -1,6 +1,6 @@
 -- The bytes below and those above.
 use Rattle.std.proofs.Common.{◌≡◌, ◌+◌, ◌-◌, ◌++◌, ap, ◌∙◌, arith}
-use Rattle.droid_signature_spec.specs.Expansions.{upward}
+use Rattle.droid_signature_parser.specs.Expansions.{upward}
 use Rattle.droid_signature_texts.specs.Written.{marked, next_mark, pair}
 use Rattle.droid_signature_texts.proofs.Runs.{outside_text}
 use Rattle.droid_signature_texts.proofs.term_texts.push_outside.Goals as goal

@@ -1,6 +1,6 @@
 use Rattle.droid_wire_journal.proofs.Going.{serves_journal}
 use Rattle.droid_wire_journal.proofs.serving.serve_journal.Goals as goal
 
-pub returns : goal.returns
-returns g c = λ setting header history stood.
+pub returns-clause-journal : goal.returns-clause-journal
+returns-clause-journal g c = λ setting header history stood.
     serves_journal g.F.LogFile.has g.F.LogFile.kept setting header history g.C.Connections.does c.args.rules c.args.connections.now c.serve_in_turns.new.connections c.args.handler.now c.serve_in_turns.new.handler c.serve_in_turns.result stood c.serve_in_turns.ensures

@@ -1,4 +1,4 @@
-use Rattle.droid_desk_outputs.specs.SkippedTexts.{entry_text}
+use Rattle.droid_desk_report.specs.SkippedTexts.{entry_text}
 use Rattle.droid_desk_profile.proofs.SkippedLines.{goes_from_none}
 use Rattle.droid_desk_profile.proofs.skipped_file.SkippedFile.add.Goals as goal
 

@@ -1,7 +1,7 @@
 -- A signature is left out, or becomes rows.
 use Rattle.std.proofs.Common.{◌≡◌, ◌∙◌, ◌*◌, ◌++◌, length, inl, inr, refl, sym, ap, arith}
-use Rattle.droid_signature_patterns.specs.Choices.{ways}
-use Rattle.droid_signature_rows.specs.RegistryTables.{signature_lines}
+use Rattle.droid_signature_tables.specs.Choices.{ways}
+use Rattle.droid_signature_tables.specs.RegistryTables.{signature_lines}
 use Rattle.droid_signature_tables.specs.Formats.{puid_in}
 use Rattle.droid_signature_tables.specs.Views.{kept_of}
 use Rattle.droid_signature_tables.specs.declared.left_out.Why.TheVariants as why
@@ -55,4 +55,4 @@ returns c = λ signatures xs place at signature only taken signs.
     ∙ ap (λ n. old ++ lines_below puid all n) whole
     ∙ ap (λ t. old ++ t) (lines_are place puid all rows.lists (ways all) rows.are (omega arith))
     ∙ ap (λ n. old ++ signature_lines (rows_below place puid rows.lists n)) (sym same))
-    (omega arith) (omega arith) refl (omega arith) (omega arith)
+    (omega arith) (omega arith) (omega arith) refl (omega arith) (omega arith)

@@ -1,0 +1,13 @@
+use Rattle.std.proofs.Common.{◌∙◌, codes}
+use Rattle.clap.specs.Words.{found_of}
+use Rattle.clap.proofs.WalkLemmas.{first_value-rows}
+use Rattle.droid_desk_arguments.proofs.conversion.registry_options.Goals as goal
+
+pub returns : goal.returns
+returns c =
+    let found = found_of c.args.registry.now in
+    record {
+      file = c.in_ok-file.ensures ∙ first_value-rows found (codes "file");
+      output = c.get_str-output.ensures ∙ first_value-rows found (codes "output");
+      quiet = c.flag_of-quiet.ensures;
+    }

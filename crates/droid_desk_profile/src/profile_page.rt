@@ -1,0 +1,48 @@
+//! The page of a profile that was just written.
+
+use crate::named_registry::RegistryName;
+use crate::profile_ending::ProfileEnding;
+use droid_desk_arguments::ProfileOptions;
+use droid_desk_report::{PageFault, absolute_path, name_of, page_now, put_page};
+use droid_tree_disk::Output;
+use std::fs::{File, Files};
+use std::time::Clock;
+
+/// Writes the page of the CSV that was kept, if a page is wanted and everything else was written.
+pub(crate) fn add_page<R>(
+    rt: &R,
+    registry: RegistryName<'_>,
+    options: ProfileOptions<'_>,
+    ending: ProfileEnding,
+    csv: Option<Vec<u8>>,
+    page: Option<Output<'_, R>>,
+) -> ProfileEnding
+where
+    R: Files<File = File> + Clock + AllocGlobal,
+{
+    let (Some(csv), Some(page)) = (csv, page) else {
+        return ending;
+    };
+    if !ending.is_written() {
+        return ending;
+    }
+    ending.with_page(write_page_of(rt, registry, options, csv.as_slice(), page))
+}
+
+/// Writes the page of a CSV. It has the name of the CSV's file, or of the folder if there is no such file.
+fn write_page_of<R>(
+    rt: &R,
+    registry: RegistryName<'_>,
+    options: ProfileOptions<'_>,
+    csv: &[u8],
+    page: Output<'_, R>,
+) -> Result<(), PageFault>
+where
+    R: Files<File = File> + Clock + AllocGlobal,
+{
+    let registry = format!(in rt.alloc(); "{registry}")?;
+    let folder = absolute_path(rt, options.folder)?;
+    let name = name_of(options.output.unwrap_or(folder.as_str()));
+    let text = page_now(rt, csv, name, name, Some(registry.as_str()))?;
+    put_page(page, text.as_str())
+}

@@ -1,0 +1,19 @@
+//! The command `registry`: makes a registry file of PRONOM's own signature file.
+//!
+//! [`convert_file`] is the command over any [`Places`]; [`registry_command`] runs it on this machine.
+#![tactic(auto)]
+
+mod command;
+mod conversion;
+mod left_out_line;
+mod machine;
+mod places;
+mod reasons;
+mod registry_ending;
+mod registry_report;
+mod registry_sentences;
+
+pub use command::{convert_file, registry_command};
+pub use conversion::{Conversion, conversion_of};
+pub use places::{Part, Places, Unput, Unread};
+pub use registry_ending::RegistryEnding;

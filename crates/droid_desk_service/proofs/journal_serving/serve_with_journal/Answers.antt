@@ -1,0 +1,9 @@
+use Rattle.droid_desk_service.proofs.journal_serving.serve_with_journal.Goals as goal
+
+pub returns : goal.returns
+returns g c = record {
+  served = c.serve_journal-served.result;
+  ends = c.end_of.ensures;
+  serves = c.serve_journal-served.ensures.journal;
+  whole = (c.serve_journal-served.ensures.serves.steps, c.serve_journal-served.ensures.serves.holds);
+}

@@ -1,0 +1,238 @@
+//! The commands of a service with a journal, over files, standard streams and ports of this machine.
+
+ghost use Rattle.std.specs.Prelude.{◌≡◌, IfErr, IfOk, IfSome};
+ghost use Rattle.droid_desk_service.specs.JournalEndings.{IsUnopened, JournalEndsAs, rules_one_by_one};
+ghost use Rattle.droid_desk_service.specs.Many.{rules_named};
+
+use crate::commands::note_sample;
+use crate::ended::Ended;
+use crate::ending::Ending;
+use crate::fresh::fresh_service;
+use crate::journal::open_journal;
+use crate::journal_fault::JournalFault;
+use crate::journal_serving::{answer_with_journal, one_by_one, serve_with_journal};
+use crate::many::{rules_of, verbosity_of};
+use crate::registry::{note_formats, open_registry};
+use crate::sample::sample_registry;
+use droid_desk_arguments::{ManyOptions, RegistrySource};
+use droid_frame::{InputFault, Noted, Retries, SteadyRead, read_some, read_to_end};
+use droid_pronom::RegistryFault;
+use droid_pronom_common::common_registry;
+use droid_wire::{
+    DiskLog, FileDrive, JournalHandler, Pipe, Rules, ServeFault, Service, ServiceJournal,
+};
+use droid_wire_net::{Sockets, Verbosity};
+use std::alloc::Global;
+use std::fs::{self, File, Files, OpenFile};
+use std::io::{self, ErrorKind};
+use std::net::Net;
+use std::time::Clock;
+
+/// The most bytes of a registry file.
+const REGISTRY_LIMIT: usize = 16_777_216;
+
+/// What gives random bytes.
+const RANDOM: &str = "/dev/urandom";
+
+/// Answers the frames of standard input on standard output, by a service with a journal.
+pub fn run_journal_command<'a, R>(rt: &'a R, source: RegistrySource<'a>, path: &'a str) -> Ended<'a>
+where
+    R: Files<File = File> + Input + Print + Eprint + AllocGlobal,
+{
+    note_sample(rt, source);
+    let journal = match journal_for(rt, source, path) {
+        Ok(journal) => journal,
+        Err(ended) => return ended,
+    };
+    let mut handler = JournalHandler {
+        journal,
+        fault: None,
+    };
+    let mut pipe = Pipe::new(Noted::new(rt.reader()), Noted::new(io::writer(rt)));
+    let ending = answer_with_journal(rt.alloc(), &mut handler, &mut pipe);
+    Ended::at_with_journal(ending, 0, path)
+}
+
+/// Serves this many connections to a port, one after the other, by a service with a journal.
+pub fn serve_journal_command<'a, R>(
+    rt: &'a R,
+    source: RegistrySource<'a>,
+    port: u16,
+    connections: u32,
+    path: &'a str,
+) -> Ended<'a>
+where
+    R: Files<File = File> + Print + Eprint + AllocGlobal + Clock + Net,
+    ensures { JournalEndsAs (rules_one_by_one connections) result.ending result.cause }
+{
+    let rules = one_by_one(connections);
+    serve_by(rt, source, port, rules, Verbosity::Quiet, path)
+}
+
+/// Serves many connections to a port at once, by a service with a journal.
+pub fn serve_many_journal_command<'a, R>(
+    rt: &'a R,
+    source: RegistrySource<'a>,
+    port: u16,
+    options: ManyOptions,
+    path: &'a str,
+) -> Ended<'a>
+where
+    R: Files<File = File> + Print + Eprint + AllocGlobal + Clock + Net,
+    ensures { JournalEndsAs (rules_named options) result.ending result.cause }
+{
+    let rules = rules_of(options);
+    serve_by(rt, source, port, rules, verbosity_of(options), path)
+}
+
+/// Opens a journal, and serves connections to a port by these rules.
+fn serve_by<'a, R>(
+    rt: &'a R,
+    source: RegistrySource<'a>,
+    port: u16,
+    rules: Rules,
+    verbosity: Verbosity,
+    path: &'a str,
+) -> Ended<'a>
+where
+    R: Files<File = File> + Print + Eprint + AllocGlobal + Clock + Net,
+    ensures { JournalEndsAs rules result.ending result.cause }
+{
+    note_sample(rt, source);
+    match journal_for(rt, source, path) {
+        Ok(journal) => serve_port(rt, journal, port, rules, verbosity, path),
+        Err(ended) => ended,
+    }
+}
+
+/// Listens on a port, prints so, and serves connections in turns.
+fn serve_port<'a, R>(
+    rt: &'a R,
+    journal: ServiceJournal<DiskLog<FileDrive<'a, R>>>,
+    port: u16,
+    rules: Rules,
+    verbosity: Verbosity,
+    path: &'a str,
+) -> Ended<'a>
+where
+    R: Files<File = File> + Print + Eprint + AllocGlobal + Clock + Net,
+    ensures { JournalEndsAs rules result.ending result.cause }
+{
+    let mut sockets = match Sockets::bind(rt, rt.alloc(), port, rules.seats, verbosity) {
+        Ok(sockets) => sockets,
+        Err(error) => return Ended::unconnected(port, error.kind()),
+    };
+    if println!(rt; "listening {port}").is_err() {
+        return Ended::at(Ending::Stream(ServeFault::Write { written: 0 }), port);
+    }
+    let mut handler = JournalHandler {
+        journal,
+        fault: None,
+    };
+    let ending = serve_with_journal(rt.alloc(), &mut sockets, &mut handler, rules);
+    Ended::at_with_journal(ending, port, path)
+}
+
+/// Reads this registry, and opens the journal at a path over a new service with it.
+fn journal_for<'a, R>(
+    rt: &'a R,
+    source: RegistrySource<'a>,
+    path: &'a str,
+) -> Result<ServiceJournal<DiskLog<FileDrive<'a, R>>>, Ended<'a>>
+where
+    R: Files<File = File> + Eprint + AllocGlobal,
+    ensures { IfErr result (λ ended. IsUnopened ended.ending) }
+{
+    let registry = match registry_bytes(rt, source) {
+        Ok(registry) => registry,
+        Err(ended) => return Err(ended),
+    };
+    let mut formats = None;
+    let service = match fresh_service(rt.alloc(), &mut registry.as_slice(), &mut formats) {
+        Ok(service) => service,
+        Err(ending) => return Err(Ended::over(ending, source)),
+    };
+    if let RegistrySource::File(name) = source {
+        note_formats(rt, name, formats);
+    }
+    match journal_at(rt, path, &registry, service) {
+        Ok(journal) => Ok(journal),
+        Err(fault) => Err(Ended::by_journal(fault, path)),
+    }
+}
+
+/// Opens the journal at a path over a new service with the registry that has these bytes.
+fn journal_at<'a, R>(
+    rt: &'a R,
+    path: &'a str,
+    registry: &[u8],
+    service: Service,
+) -> Result<ServiceJournal<DiskLog<FileDrive<'a, R>>>, JournalFault>
+where
+    R: Files<File = File> + Eprint + AllocGlobal,
+{
+    let random = match random_bytes(rt) {
+        Ok(random) => random,
+        Err(kind) => return Err(JournalFault::Unopened(kind)),
+    };
+    let drive = match FileDrive::open(rt, path) {
+        Ok(drive) => drive,
+        Err(fault) => return Err(JournalFault::of_disk(fault)),
+    };
+    match open_journal(rt.alloc(), DiskLog { drive }, registry, &random, service) {
+        Ok(journal) => Ok(journal),
+        Err(fault) => Err(JournalFault::Closed(fault)),
+    }
+}
+
+/// Reads 16 random bytes of the system.
+fn random_bytes<R: Files>(rt: &R) -> Result<[u8; 16], ErrorKind> {
+    let mut bytes = [0u8; 16];
+    let file = match fs::open(rt, RANDOM) {
+        Ok(file) => file,
+        Err(error) => return Err(error.kind()),
+    };
+    let mut reader = Noted::new(file);
+    let mut retries = Retries::new();
+    let read = read_some(&mut reader, &mut bytes, &mut retries);
+    match read {
+        Ok(16) => Ok(bytes),
+        _ => Err(ErrorKind::UnexpectedEof),
+    }
+}
+
+/// Reads the bytes of this registry.
+fn registry_bytes<'a, R: Files + AllocGlobal>(
+    rt: &R,
+    source: RegistrySource<'a>,
+) -> Result<Vec<u8>, Ended<'a>>
+    ensures { IfErr result (λ ended. IsUnopened ended.ending) }
+{
+    let read = match source {
+        RegistrySource::Sample => all_of(rt.alloc(), &mut sample_registry()),
+        RegistrySource::Everyday => all_of(rt.alloc(), &mut common_registry()),
+        RegistrySource::File(path) => {
+            let file = match open_registry(rt, path) {
+                Ok(file) => file,
+                Err(cause) => return Err(Ended::unopened(source, cause)),
+            };
+            all_of(rt.alloc(), &mut Noted::new(file))
+        }
+    };
+    match read {
+        Ok(bytes) => Ok(bytes),
+        Err(fault) => Err(Ended::over(Ending::Registry(fault), source)),
+    }
+}
+
+/// Reads all bytes of a registry.
+fn all_of<F: SteadyRead>(alloc: Global, file: &mut F) -> Result<Vec<u8>, RegistryFault>
+    ensures { IfOk result (λ bytes. IfSome (F.remaining file.old) (λ all. bytes.items ≡ all)) }
+{
+    match read_to_end(alloc, file, REGISTRY_LIMIT) {
+        Ok(bytes) => Ok(bytes),
+        Err(InputFault::TooLong) => Err(RegistryFault::TooLong),
+        Err(InputFault::Memory) => Err(RegistryFault::Memory),
+        Err(InputFault::Read) => Err(RegistryFault::Read),
+    }
+}

@@ -1,0 +1,101 @@
+//! Why a journal ends the program.
+
+ghost use Rattle.std.specs.Prelude.{◌≡◌};
+ghost use Rattle.droid_desk_service.specs.Endings.{journal_status_of};
+
+use droid_wire::{DiskFault, Fault};
+use std::io::{self, ErrorKind};
+
+/// Why a journal ends the program.
+#[derive(Clone, Copy)]
+pub enum JournalFault {
+    /// Another process has the file open.
+    InUse,
+    /// The path is that of a folder, a link or a device.
+    NotAFile,
+    /// The file could not be opened, made, locked or synced.
+    Unopened(ErrorKind),
+    /// The journal could not be opened, or answers nothing more.
+    Closed(Fault),
+}
+
+impl JournalFault {
+    /// Says why a journal's file could not be opened.
+    pub(crate) fn of_disk(fault: DiskFault) -> JournalFault {
+        match fault {
+            DiskFault::InUse => JournalFault::InUse,
+            DiskFault::NotAFile => JournalFault::NotAFile,
+            DiskFault::Unopened(kind) => JournalFault::Unopened(kind),
+        }
+    }
+
+    /// Returns the exit status.
+    pub fn status(&self) -> u8
+        ensures { result ≡ journal_status_of self.now }
+    {
+        match self {
+            JournalFault::InUse => 4,
+            JournalFault::NotAFile => 4,
+            JournalFault::Unopened(_) => 4,
+            JournalFault::Closed(Fault::Header) => 3,
+            JournalFault::Closed(Fault::Record(_)) => 3,
+            JournalFault::Closed(Fault::Damage(_)) => 3,
+            JournalFault::Closed(Fault::Memory) => 4,
+            JournalFault::Closed(Fault::Read) => 4,
+            JournalFault::Closed(Fault::Write) => 4,
+        }
+    }
+
+    /// Prints the line with the fault's name to standard error. The header counts as record 0.
+    pub(crate) fn print<R: Eprint>(&self, rt: &R) -> io::Result<()> {
+        match self {
+            JournalFault::InUse => eprintln!(rt; "fault: Journal in use"),
+            JournalFault::NotAFile => eprintln!(rt; "fault: Journal"),
+            JournalFault::Unopened(_) => eprintln!(rt; "fault: Journal"),
+            JournalFault::Closed(Fault::Header) => eprintln!(rt; "fault: Journal at 0"),
+            JournalFault::Closed(Fault::Record(at)) => eprintln!(rt; "fault: Journal at {at}"),
+            JournalFault::Closed(Fault::Damage(records)) => {
+                let at = records.saturating_add(1);
+                eprintln!(rt; "fault: Journal at {at}")
+            }
+            JournalFault::Closed(Fault::Memory) => eprintln!(rt; "fault: Memory"),
+            JournalFault::Closed(Fault::Read) => eprintln!(rt; "fault: Journal"),
+            JournalFault::Closed(Fault::Write) => eprintln!(rt; "fault: Journal"),
+        }
+    }
+
+    /// Prints what happened to the journal at a path, and what to do.
+    pub(crate) fn print_advice<R: Eprint>(&self, rt: &R, path: &str) -> io::Result<()> {
+        match self {
+            JournalFault::Unopened(kind) => eprintln!(rt; "{path}: {kind}"),
+            JournalFault::Closed(Fault::Record(at)) => {
+                eprintln!(rt;
+                    "{path}: record {at} does not get its reply: restore a copy of the file"
+                )
+            }
+            JournalFault::Closed(Fault::Damage(records)) => eprintln!(rt;
+                "{path}: damaged behind record {records}, and whole records follow: restore a copy of the file"
+            ),
+            other => eprintln!(rt; "{path}: {}", advice_of(other)),
+        }
+    }
+}
+
+/// Says what happened, and what to do.
+fn advice_of(fault: &JournalFault) -> &'static str {
+    match fault {
+        JournalFault::InUse => "another droid_desk has this journal open: stop it first",
+        JournalFault::NotAFile => "a folder, a link or a device: name a file, or a new name",
+        JournalFault::Unopened(_) => "could not be opened",
+        JournalFault::Closed(Fault::Header) => {
+            "no journal of this registry and this version of droid_desk: name the registry of its first start, or a new file"
+        }
+        JournalFault::Closed(Fault::Memory) => {
+            "out of memory: close other programs, or allow this one more, and start again"
+        }
+        JournalFault::Closed(Fault::Read) => "could not be read: is the disk well?",
+        JournalFault::Closed(_) => {
+            "could not be written, so nothing more is answered: is the disk full? Make room, and start again"
+        }
+    }
+}

@@ -1,0 +1,13 @@
+use Rattle.droid_journal_service.proofs.service_journal.ServiceJournal.begun.Goals as goal
+
+pub returns : goal.returns
+returns g c = λ setting header records s. record {
+  machine = s.machine;
+  file = s.file;
+  on_disk = s.on_disk;
+  turn = s.turn;
+  start = s.start;
+  check = s.check;
+  fit = s.fit;
+  clean = s.clean;
+}

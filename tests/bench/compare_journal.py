@@ -1,0 +1,176 @@
+"""What a journal costs: `submit`, folders by clients that wait for their replies, and a start; beside the same without a
+journal, and beside a loop that writes 300 bytes and calls fdatasync."""
+
+import os
+import subprocess
+import sys
+import tempfile
+import threading
+import time
+
+sys.path.insert(0, os.path.join(os.path.dirname(os.path.abspath(__file__)), ".."))
+from lib.connections import connect, free_port, read_exactly  # noqa: E402
+from lib.frames import create, file, finish, folder, piece  # noqa: E402
+from lib.program import PROGRAM  # noqa: E402
+
+ROUNDS = int(os.environ.get("ROUNDS", "3"))
+SUBMITTED = 256 << 20
+PIECE = 256 << 10
+CLIENTS = 16
+FOLDERS = int(os.environ.get("FOLDERS", "20000"))
+ALONE = 2_000
+STARTED = int(os.environ.get("STARTED", "1000000"))
+PIECES = int(os.environ.get("PIECES", str(4 << 30)))
+# a profile has at most this many nodes
+MOST_NODES = 100_000
+REPLY = 22
+
+
+class Service:
+    """`serve --at-once`, in a `with`."""
+
+    def __init__(self, *options):
+        self.port = free_port()
+        words = [PROGRAM, "serve", "--port", str(self.port), "--at-once", "64", "--forever", *options]
+        self.process = subprocess.Popen(words, stdout=subprocess.PIPE, stderr=subprocess.DEVNULL)
+        assert self.process.stdout.readline() == b"listening %d\n" % self.port
+
+    def __enter__(self):
+        return self
+
+    def __exit__(self, *_):
+        self.process.kill()
+        self.process.wait()
+
+
+def timed(call):
+    begun = time.monotonic()
+    call()
+    return time.monotonic() - begun
+
+
+def middle(values):
+    return sorted(values)[len(values) // 2]
+
+
+def submit(folder, top, *options):
+    with Service(*options) as service:
+        words = [PROGRAM, "submit", top, "--port", str(service.port), "--output", os.path.join(folder, "out.csv"), "--piece-size", str(PIECE)]
+        return timed(lambda: subprocess.run(words, check=True, stdout=subprocess.DEVNULL, stderr=subprocess.DEVNULL))
+
+
+def ask_folders(port, client, count):
+    with connect(port) as stream:
+        for number in range(1, count + 1):
+            stream.sendall(folder(number, b"%d-%d" % (client, number), client=client))
+            assert len(read_exactly(stream, REPLY)) == REPLY
+
+
+def folders(clients, each, *options):
+    """Seconds that so many clients take for so many folders each, one at a time."""
+    with Service(*options) as service:
+        with connect(service.port) as stream:
+            stream.sendall(create(1, client=1_000))
+            read_exactly(stream, REPLY)
+        threads = [threading.Thread(target=ask_folders, args=(service.port, client, each)) for client in range(1, clients + 1)]
+
+        def work():
+            for thread in threads:
+                thread.start()
+            for thread in threads:
+                thread.join()
+
+        return timed(work)
+
+
+def synced(path, count):
+    """Seconds of a loop that writes 300 bytes and calls fdatasync."""
+    made = os.open(path, os.O_WRONLY | os.O_CREAT | os.O_APPEND, 0o600)
+
+    def work():
+        for _ in range(count):
+            os.write(made, bytes(300))
+            os.fdatasync(made)
+
+    seconds = timed(work)
+    os.close(made)
+    os.remove(path)
+    return seconds
+
+
+def many_folders(count):
+    """The frames of so many folders, in as many profiles as they take."""
+    number = 0
+    for profile in range(1, -(-count // MOST_NODES) + 1):
+        number += 1
+        yield create(number)
+        for name in range(min(MOST_NODES, count - (profile - 1) * MOST_NODES)):
+            number += 1
+            yield folder(number, b"%d" % name, profile=profile)
+
+
+def many_pieces(size):
+    """The frames of files of 64 MiB in pieces of 1 MiB."""
+    content = os.urandom(1 << 20)
+    yield create(1)
+    number = 1
+    for node in range(1, size // (64 << 20) + 1):
+        number += 1
+        yield file(number, b"%d" % node, 64 << 20, 1 << 20)
+        for index in range(64):
+            number += 1
+            yield piece(number, node, index, content)
+        number += 1
+        yield finish(number, node)
+
+
+def start(folder, frames):
+    """Seconds of a start over the journal of these requests, and those of the requests through `run`."""
+    asked, path = os.path.join(folder, "asked"), os.path.join(folder, "desk.journal")
+    with open(asked, "wb") as made:
+        made.writelines(frames)
+
+    def through(given, *more):
+        with open(given, "rb") as read:
+            subprocess.run([PROGRAM, "run", *more], stdin=read, stdout=subprocess.DEVNULL, stderr=subprocess.DEVNULL, check=True)
+
+    plain = timed(lambda: through(asked))
+    written = timed(lambda: through(asked, "--journal", path))
+    os.remove(asked)
+    begun = timed(lambda: through(os.devnull, "--journal", path))
+    size = os.path.getsize(path)
+    os.remove(path)
+    return begun, plain, written, size
+
+
+def main():
+    place = os.environ.get("JOURNAL_FOLDER")
+    with tempfile.TemporaryDirectory(dir=place) as folder_of_all:
+        top = os.path.join(folder_of_all, "top")
+        os.mkdir(top)
+        for place in range(16):
+            with open(os.path.join(top, str(place)), "wb") as made:
+                made.write(os.urandom(SUBMITTED // 16))
+        plain, kept = [], []
+        for turn in range(ROUNDS):
+            plain.append(submit(folder_of_all, top))
+            kept.append(submit(folder_of_all, top, "--journal", os.path.join(folder_of_all, f"submit{turn}")))
+            os.remove(os.path.join(folder_of_all, f"submit{turn}"))
+        print(f"submit of 256 MiB: {middle(kept):.2f} s, without a journal {middle(plain):.2f} s: {middle(kept) / middle(plain):.2f} (1.6)")
+        rates, loops = [], []
+        for turn in range(ROUNDS):
+            loops.append(ALONE / synced(os.path.join(folder_of_all, "loop"), ALONE))
+            rates.append(FOLDERS / folders(CLIENTS, FOLDERS // CLIENTS, "--journal", os.path.join(folder_of_all, f"many{turn}")))
+        print(f"folders by {CLIENTS} clients: {middle(rates):.0f} a second, the loop {middle(loops):.0f}: {middle(rates) / middle(loops):.2f} (8)")
+        rates, loops = [], []
+        for turn in range(ROUNDS):
+            loops.append(ALONE / synced(os.path.join(folder_of_all, "loop"), ALONE))
+            rates.append(ALONE / folders(1, ALONE, "--journal", os.path.join(folder_of_all, f"one{turn}")))
+        print(f"folders by one client: {middle(rates):.0f} a second, the loop {middle(loops):.0f}: {middle(rates) / middle(loops):.2f} (0.8)")
+        for what, frames in (f"{STARTED} folders", many_folders(STARTED)), (f"{PIECES >> 20} MiB of pieces", many_pieces(PIECES)):
+            begun, through, written, size = start(folder_of_all, frames)
+            print(f"a start over {what}: {begun:.2f} s ({size} bytes), `run` {through:.2f} s: {begun / through:.2f} (1.2); with a journal {written:.2f} s")
+
+
+if __name__ == "__main__":
+    main()

@@ -1,0 +1,104 @@
+"""Runs `run` with a journal again and again, over a new file and over one with records and a torn end, and refuses another of
+its allocations each time. The file then has what it had, and each accepted command whose reply was written."""
+
+import os
+import subprocess
+import sys
+import tempfile
+import unittest
+from concurrent.futures import ThreadPoolExecutor
+
+from lib.frames import REFUSED, create, cut, file, finish, folder, piece
+from lib.program import PROGRAM, SAMPLE, TOP, faults
+
+sys.path += [os.path.join(TOP, "tests", "program", folder) for folder in ("journal", "model", "wire")]
+from journal_file import read  # noqa: E402
+from model_frames import answer, service_of_the_sample  # noqa: E402
+
+# the status without memory: 3 and 6 before the journal is read, 4 while it is read and later, 0 where only a request was refused
+STATUSES = {0, 3, 4, 6}
+# with fewer allocations, the library did not count them
+FEWEST = 20
+EARLIER = [create(1), file(2, b"a.msg", 7, 7), piece(3, 1, 0, b"message")]
+LATER = [finish(4, 1), folder(5, b"in"), folder(6, b"out")]
+TORN = bytes(30)
+NOTED = b"journal: 30 bytes behind the last whole record are now in "
+# the body of a refusal for memory
+MEMORY = bytes([18])
+
+
+def due_to(requests):
+    """The replies that the model gives to these requests, one after another."""
+    return list(cut(answer(service_of_the_sample(), b"".join(requests))[0]))
+
+
+class JournalsRefused(unittest.TestCase):
+    def setUp(self):
+        folder_of_all = tempfile.TemporaryDirectory()
+        self.addCleanup(folder_of_all.cleanup)
+        self.path = os.path.join(folder_of_all.name, "desk.journal")
+
+    def run_over(self, data, requests, variables):
+        """Runs over a journal of these bytes, in a file of its own: the status, what was written, what was said, and the
+        records and the torn end that are left."""
+        name = f"{self.path}{variables.get('REFUSE', '')}"
+        if data is not None:
+            with open(name, "wb") as made:
+                made.write(data)
+        environment = {**os.environ, "LD_PRELOAD": os.environ["REFUSING"], **variables}
+        words = [PROGRAM, "run", "--registry", SAMPLE, "--journal", name]
+        done = subprocess.run(words, input=b"".join(requests), capture_output=True, timeout=60, env=environment)
+        left = b""
+        if os.path.exists(name):
+            with open(name, "rb") as found:
+                left = found.read()
+            os.remove(name)
+        if os.path.exists(name + ".torn"):
+            os.remove(name + ".torn")
+        return done.returncode, done.stdout, done.stderr, left
+
+    def is_right(self, before, requests):
+        """Whether an end is right, where these records were there: nothing of them is gone, each accepted command that was
+        answered is there, and nothing else. What memory was refused to has changed nothing for those behind it."""
+
+        def check(status, written, said, left):
+            named = faults(b"".join(line for line in said.splitlines(True) if not line.startswith(NOTED)))
+            found = list(cut(written))
+            answered = [(request, reply) for request, reply in zip(requests, found) if (reply.kind, reply.body) != (REFUSED, MEMORY)]
+            accepted = [(request, reply) for request, reply in answered if reply.kind != REFUSED]
+            records = read(left).records if left else []
+            kept = [(record.request, next(cut(record.reply))) for record in records]
+            return (
+                (named == b"" if status == 0 else status in STATUSES and named in (b"fault: Memory\n", b"fault: Journal\n"))
+                and [request for request, _ in kept[: len(before)]] == before[: len(kept)]
+                and (not before or len(kept) >= len(before))
+                and kept[len(before) :][: len(accepted)] == accepted
+                and [reply for _, reply in kept] == due_to(request for request, _ in kept)
+                and [reply for _, reply in answered] == due_to([*before, *(request for request, _ in answered)])[len(before) :]
+                and (status != 0 or (len(found) == len(requests) and len(kept) == len(before) + len(accepted)))
+            )
+
+        return check
+
+    def each_in_turn(self, data, before, requests):
+        with tempfile.NamedTemporaryFile("r") as file:
+            self.run_over(data, requests, {"ALLOCATIONS": file.name})
+            numbers = range(1, int(file.read()) + 1)
+        self.assertGreaterEqual(len(numbers), FEWEST)
+        with ThreadPoolExecutor(len(os.sched_getaffinity(0))) as pool:
+            ended = list(pool.map(lambda number: self.run_over(data, requests, {"REFUSE": str(number)}), numbers))
+        is_right = self.is_right(before, requests)
+        wrong = [f"allocation {number} of {len(numbers)}: {end[:3]}" for number, end in zip(numbers, ended) if not is_right(*end)]
+        self.assertEqual(wrong, [], "\n".join(wrong))
+        self.assertEqual({end[0] for end in ended}, STATUSES)
+
+    def test_a_new_journal(self):
+        self.each_in_turn(None, [], EARLIER)
+
+    def test_records_and_a_torn_end(self):
+        _, _, said, data = self.run_over(None, EARLIER, {})
+        self.assertEqual((said, len(read(data).records)), (b"", 3))
+        self.each_in_turn(data + TORN, EARLIER, LATER)
+
+if __name__ == "__main__":
+    unittest.main()

@@ -1,0 +1,6 @@
+registry=$(dirname "$0")/../../../../registries/common.csv
+echo "registry: the built-in registry of everyday formats, MD5 $(md5sum <"$registry" | cut -c1-32)"
+cat <<'END'
+fault: Folder
+nowhere: no such folder: check the path
+END

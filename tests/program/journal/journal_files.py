@@ -1,0 +1,176 @@
+"""`run` and `serve` with a journal: what a start finds, and what is refused."""
+
+import os
+import socket
+import unittest
+
+from journal_file import header_size, header_text, md5, next_check, read, record_bytes
+from journal_session import REGISTRY, InJournal, contents, run_journal, sample_bytes, serving, store
+from lib.connections import connect, free_port, read_exactly
+from lib.frames import ADD_FOLDER, EXPORT, NODE, create, export_body, file, finish, folder, frame, piece, reply, status
+from lib.program import EVERYDAY, Serve, faults, run_plainly
+from model_frames import answer, service_of_the_sample
+
+ASKED = [create(1), folder(2, b"in"), file(3, b"a.msg", 7, 7), piece(4, 2, 0, b"message"), finish(5, 2), folder(6, b"out", version=2)]
+EXPORT_ALL = frame(EXPORT, 1, 7, export_body())
+REFUSED_ONES = [folder(8, b"in"), folder(2, b"other"), status(9, 1), status(10, 2), frame(ADD_FOLDER, 1, 11, b"\0")]
+
+
+def by_model(requests):
+    """The replies of the model to these requests."""
+    replies, fault = answer(service_of_the_sample(), b"".join(requests))
+    assert fault is None
+    return replies
+
+
+class Starts(InJournal):
+    def test_a_new_file(self):
+        """It is made, with a header of this registry and no record."""
+        self.assertEqual(run_journal(self.path), (0, b"", b""))
+        data = contents(self.path)
+        self.assertTrue(data.startswith(header_text(sample_bytes())))
+        self.assertEqual(len(data), header_size())
+        self.assertEqual(os.listdir(self.folder), ["desk.journal"])
+
+    def test_headers_end_differently(self):
+        ends = set()
+        for place in range(20):
+            path = f"{self.path}{place}"
+            self.assertEqual(run_journal(path)[0], 0)
+            ends.add(contents(path)[-16:])
+        self.assertEqual(len(ends), 20)
+
+    def test_an_empty_file_and_a_begun_header(self):
+        self.assertEqual(run_journal(self.path), (0, b"", b""))
+        whole = contents(self.path)
+        for size in range(len(whole)):
+            store(self.path, whole[:size])
+            self.assertEqual(run_journal(self.path, ASKED[0]), (0, by_model(ASKED[:1]), b""))
+            data = contents(self.path)
+            self.assertEqual((data[:size], len(read(data).records)), (whole[:size], 1), size)
+
+    def test_records(self):
+        """Each accepted command has one record with its reply. Refusals, questions and repeats have none."""
+        asked = ASKED + [EXPORT_ALL] + REFUSED_ONES + ASKED
+        self.assertEqual(run_journal(self.path, b"".join(asked)), (0, by_model(asked), b""))
+        found = read(contents(self.path))
+        self.assertEqual([record.request for record in found.records], ASKED)
+        self.assertEqual(b"".join(record.reply for record in found.records), by_model(ASKED))
+        self.assertEqual((found.end, found.damaged), (len(contents(self.path)), False))
+
+    def test_one_after_the_other(self):
+        """Each request by a process of its own: their replies are those of one service."""
+        asked = ASKED + REFUSED_ONES + [EXPORT_ALL] + ASKED + [EXPORT_ALL]
+        got = [run_journal(self.path, request) for request in asked]
+        self.assertEqual([(code, said) for code, _, said in got], [(0, b"")] * len(asked))
+        self.assertEqual(b"".join(written for _, written, _ in got), by_model(asked))
+
+    def test_run_and_serve_alike(self):
+        """What one of them wrote the other one reads; `serve` one by one and many at once."""
+        self.assertEqual(run_journal(self.path, b"".join(ASKED[:2]))[1], by_model(ASKED[:2]))
+        for place, more in enumerate((["--at-once", "3"], [])):
+            request = ASKED[2 + place]
+            due = by_model(ASKED[: 3 + place])[len(by_model(ASKED[: 2 + place])) :]
+            with Serve(1, [*more, *REGISTRY, "--journal", self.path]) as service, connect(service.port) as stream:
+                stream.sendall(request)
+                stream.shutdown(socket.SHUT_WR)
+                self.assertEqual(read_exactly(stream, len(due) + 1), due)
+        self.assertEqual(run_journal(self.path, b"".join(ASKED) + EXPORT_ALL)[1], by_model(ASKED + [EXPORT_ALL]))
+
+    def test_a_stream_that_breaks(self):
+        """Whole frames are answered and kept."""
+        due = by_model(ASKED[:2])
+        for size in range(1, len(ASKED[2])):
+            path = f"{self.path}{size}"
+            code, written, said = run_journal(path, b"".join(ASKED[:2]) + ASKED[2][:size])
+            self.assertEqual((code, written, faults(said)), (4, due, b"fault: Truncated\n"))
+            self.assertEqual(len(read(contents(path)).records), 2)
+        code, written, said = run_journal(self.path, ASKED[0] + b"\3" + bytes(17))
+        self.assertEqual((code, written, faults(said)), (4, by_model(ASKED[:1]), b"fault: BadVersion\n"))
+
+    def test_a_repeat_that_is_no_longer_cached(self):
+        """The service caches 256 replies, and which ones depends on repeats, that are not in the journal. A command that came
+        again when its reply was not cached has two records; a start reads both, also where it has the reply cached."""
+        asked = [create(1)] + [folder(number, b"%d" % number) for number in range(2, 4)]
+        asked += asked[:2] + [folder(number, b"%d" % number) for number in range(4, 258)] + asked[2:3]
+        self.assertEqual(run_journal(self.path, b"".join(asked)), (0, by_model(asked), b""))
+        self.assertEqual(len(read(contents(self.path)).records), 258)
+        self.assertEqual(run_journal(self.path, b"".join(asked)), (0, by_model(asked), b""))
+
+    def test_many_turns(self):
+        """More frames than one turn has, in one stream."""
+        asked = [create(1)] + [folder(number, b"%d" % number) for number in range(2, 1_000)]
+        self.assertEqual(run_journal(self.path, b"".join(asked)), (0, by_model(asked), b""))
+        records = read(contents(self.path)).records
+        self.assertEqual([record.request for record in records], asked)
+        self.assertTrue(records[0].first)
+        self.assertEqual(run_journal(self.path, b"".join(asked)), (0, by_model(asked), b""))
+        self.assertEqual(read(contents(self.path)).records[: len(asked)], records)
+
+
+class Refused(InJournal):
+    def refuses(self, status, fault, *more, given=ASKED[1]):
+        """The start ends so, and the file is as it was."""
+        before = contents(self.path)
+        self.ends(run_journal(self.path, given, *more), status, f"fault: {fault}")
+        self.assertEqual(contents(self.path), before)
+
+    def test_another_registry(self):
+        self.assertEqual(run_journal(self.path, ASKED[0])[0], 0)
+        before = contents(self.path)
+        code, written, said = run_plainly(["run", "--registry", EVERYDAY, "--journal", self.path], ASKED[1])
+        self.assertEqual((code, written, faults(said.encode()).decode()), (3, b"", "fault: Journal at 0\n"))
+        self.assertIn("registry", said)
+        self.assertEqual(contents(self.path), before)
+
+    def test_no_journal(self):
+        for data in (b"x", b"droid_desk journal 2\n", sample_bytes(), bytes(100), header_text(sample_bytes())[:-1] + b"x"):
+            store(self.path, data)
+            self.refuses(3, "Journal at 0")
+
+    def test_two_processes(self):
+        with serving(self.path, "--forever", killed=True):
+            self.ends(run_journal(self.path, ASKED[0]), 4, "fault: Journal in use")
+            code, written, said = run_plainly(["serve", "--port", free_port(), *REGISTRY, "--journal", self.path])
+            self.assertEqual((code, written, faults(said.encode()).decode()), (4, b"", "fault: Journal in use\n"))
+        self.assertEqual(run_journal(self.path, ASKED[0])[0], 0)
+
+    def test_no_regular_file(self):
+        link = os.path.join(self.folder, "link")
+        os.symlink(self.path, link)
+        pipe = os.path.join(self.folder, "pipe")
+        os.mkfifo(pipe)
+        for path in (self.folder, link, "/dev/null", "/dev/full", pipe):
+            self.ends(run_journal(path, ASKED[0]), 4, "fault: Journal")
+        self.assertFalse(os.path.exists(self.path))
+
+    def test_a_folder_that_is_missing(self):
+        for path in (os.path.join(self.folder, "none", "file"), os.path.join(self.path, "file"), "", "x" * 300):
+            self.ends(run_journal(path, ASKED[0]), 4, "fault: Journal")
+
+    @unittest.skipIf(os.geteuid() == 0, "root may read each file")
+    def test_unreadable(self):
+        self.assertEqual(run_journal(self.path, ASKED[0])[0], 0)
+        for mode in (0o000, 0o200, 0o400):
+            os.chmod(self.path, mode)
+            self.ends(run_journal(self.path, ASKED[1]), 4, "fault: Journal")
+        os.chmod(self.path, 0o600)
+        self.assertEqual(len(read(contents(self.path)).records), 1)
+
+    def test_a_reply_that_was_changed(self):
+        """The check value is right, and the record names a reply that no service gives."""
+        self.assertEqual(run_journal(self.path, b"".join(ASKED[:3]))[0], 0)
+        data = contents(self.path)
+        records = read(data).records
+        records[1] = records[1]._replace(reply=reply(NODE, 2, 9))
+        start = check = md5(data[: header_size()])
+        made = data[: header_size()]
+        for record in records:
+            made += record_bytes(start, check, record)
+            check = next_check(start, check, record)
+        store(self.path, made)
+        self.refuses(3, "Journal at 2")
+
+
+if __name__ == "__main__":
+    unittest.main()
