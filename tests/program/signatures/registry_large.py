@@ -5,12 +5,12 @@ import unittest
 
 from conversions import PARTLY, left_out, rows_of, run
 from lib.costs import cost_of
-from lib.large_signatures import BYTES, FULL, HOSTILE, write
+from lib.large_signatures import BYTES, HOSTILE, write
 from lib.program import PROGRAM
 from signature_file import read_signature_file
 
-# seconds of a processor and bytes; a hostile file of a sixteenth of the full size may cost a sixteenth of 2 seconds and the start
-MOST_SECONDS, MOST_HOSTILE_SECONDS, MOST_MEMORY = 1.5, 2 * BYTES / FULL + 0.05, 64_000_000
+# seconds of a processor and bytes; the hostile files are small ones, which a cost that grows faster than they do would exceed
+MOST_SECONDS, MOST_HOSTILE_SECONDS, MOST_MEMORY = 1.5, 1, 64_000_000
 
 
 class Large(unittest.TestCase):
