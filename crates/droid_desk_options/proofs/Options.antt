@@ -4,7 +4,7 @@ use Rattle.std.specs.Str.Parse.{ParsesBool, ParsesUnsigned}
 use Rattle.clap.specs.Words.{ReadsOne, Row, Text, first_of, one_of, one_text, rows_of}
 use Rattle.clap.specs.declared.parser.matches.Found.{Found}
 use Rattle.clap.proofs.WalkLemmas.{one_text-rows}
-use Rattle.droid_desk_options.specs.Values.{IsChosen, IsFlag, IsGiven, IsNumber, IsNumberOr, IsSource, Reads, number_of}
+use Rattle.droid_desk_options.specs.Values.{IsChosen, IsFlag, IsGiven, IsNumberOr, IsSource, Reads}
 use Rattle.droid_desk_options.specs.declared.source.RegistrySource.{RegistrySource}
 
 module _ {E : Type 0} (gives : List ℕ → Result ℕ E → Type 0) (bits : ℕ) (parses : (text : Text) (r : Result ℕ E) → gives text r → ParsesUnsigned bits 10 text r) where
