@@ -1,17 +1,21 @@
 -- What the command line asks for (this project's own).
-use Rattle.std.specs.Prelude.{◌≡◌, ◌&&◌, ℕ, Bool, true, false, List, Option, Some, None, codes, option_map}
-use Rattle.clap.specs.Words.{Row, Text, first_of, one_of, subcommand_of}
+use Rattle.std.specs.Prelude.{◌≡◌, ◌&&◌, ℕ, Bool, true, false, List, [], Option, Some, None, MatchOption, codes, option_map}
+use Rattle.clap.specs.Words.{App, Row, Text, fault_of, first_of, kind_of, one_of, subcommand_of}
+use Rattle.clap.specs.declared.error.Error.{Error}
+use Rattle.clap.specs.declared.error.kind.ErrorKind.TheVariants as parsing
 use Rattle.droid_desk_arguments.specs.Commands.{program}
 use Rattle.droid_desk_arguments.specs.declared.arguments.Asked.{Asked}
 use Rattle.droid_desk_arguments.specs.declared.arguments.Asked.TheVariants.{Profile, Submit, Verify, Report, Registry, Script, Run, Serve, ServeMany, Send}
 use Rattle.droid_desk_arguments.specs.declared.conversion.RegistryOptions.{RegistryOptions}
 use Rattle.droid_desk_arguments.specs.declared.many.ManyOptions.{ManyOptions}
 use Rattle.droid_desk_arguments.specs.declared.profile.ProfileOptions.{ProfileOptions}
+use Rattle.droid_desk_arguments.specs.declared.no_command.NoCommand.{NoCommand}
+use Rattle.droid_desk_arguments.specs.declared.no_command.NoCommand.TheVariants.{Memory}
 use Rattle.droid_desk_arguments.specs.declared.report.ReportOptions.{ReportOptions}
 use Rattle.droid_desk_arguments.specs.declared.submit.Destination.{Destination}
 use Rattle.droid_desk_arguments.specs.declared.submit.SubmitOptions.{SubmitOptions}
 use Rattle.droid_desk_arguments.specs.declared.verify.VerifyOptions.{VerifyOptions}
-use Rattle.droid_desk_options.specs.Values.{IsFlag, IsHash, IsNumberOr, IsSource, number_of}
+use Rattle.droid_desk_options.specs.Values.{IsFlag, IsGiven, IsHash, IsNumberOr, IsSource}
 use Rattle.droid_desk_options.specs.frame_types.hash_kind.HashKind.{HashKind}
 use Rattle.droid_desk_options.specs.frame_types.hash_kind.HashKind.TheVariants as hashes
 
@@ -38,8 +42,8 @@ pub record IsProfile (rows : List Row) (options : ProfileOptions) : Type 0 where
 
 -- where a submission goes, and how long it waits for the service
 pub record IsSentTo (rows : List Row) (to : Destination) : Type 0 where
-  pub port : option_map number_of (one_of (codes "port") rows) ≡ Some to.port
-  pub client : option_map number_of (one_of (codes "client") rows) ≡ Some to.client
+  pub port : IsGiven 16 (one_of (codes "port") rows) to.port
+  pub client : IsGiven 32 (one_of (codes "client") rows) to.client
   pub wait : IsNumberOr 32 60 (one_of (codes "wait") rows) to.wait
   pub timeout : IsNumberOr 32 60 (one_of (codes "timeout") rows) to.timeout
 
@@ -100,7 +104,7 @@ IsCount rows (Some count) = IsFlag (one_of (codes "forever") rows) false × IsNu
 
 -- the options of `serve` for many connections at once
 pub record IsMany (rows : List Row) (options : ManyOptions) : Type 0 where
-  pub seats : option_map number_of (one_of (codes "at-once") rows) ≡ Some options.seats
+  pub seats : IsGiven 32 (one_of (codes "at-once") rows) options.seats
   pub connections : IsCount rows options.connections
   pub idle : IsNumberOr 32 60 (one_of (codes "idle") rows) options.idle
   pub verbose : IsFlag (one_of (codes "verbose") rows) options.verbose
@@ -126,16 +130,21 @@ IsAskedBy name rows (Run registry journal) =
 IsAskedBy name rows (Serve registry journal port connections) =
     (name ≡ codes "serve") × IsSource rows registry
     × (option_map (λ path. path.now) journal ≡ first_of (codes "journal") rows)
-    × (option_map number_of (one_of (codes "port") rows) ≡ Some port)
+    × IsGiven 16 (one_of (codes "port") rows) port
     × IsNumberOr 32 1 (one_of (codes "connections") rows) connections × IsOneByOne rows
 IsAskedBy name rows (ServeMany registry journal port options) =
     (name ≡ codes "serve") × IsSource rows registry
     × (option_map (λ path. path.now) journal ≡ first_of (codes "journal") rows)
-    × (option_map number_of (one_of (codes "port") rows) ≡ Some port) × IsMany rows options
+    × IsGiven 16 (one_of (codes "port") rows) port × IsMany rows options
 IsAskedBy name rows (Send port client first) =
-    (name ≡ codes "send") × (option_map number_of (one_of (codes "port") rows) ≡ Some port)
-    × (option_map number_of (one_of (codes "client") rows) ≡ Some client)
+    (name ≡ codes "send") × IsGiven 16 (one_of (codes "port") rows) port
+    × IsGiven 32 (one_of (codes "client") rows) client
     × IsNumberOr 64 1 (one_of (codes "first") rows) first
+
+-- what `serve` asks for, other than one connection after another
+abbrev pub ReadsMany : List Row → Option Asked → Type 0
+ReadsMany rows result =
+    MatchOption result ((asked : Asked) → IsAskedBy (codes "serve") rows asked → IsOneByOne rows) (IsAskedBy (codes "serve") rows)
 
 -- a parse came to this command, and its options ask for that
 pub record IsAsked (entered : Option (Text × List Row)) (asked : Asked) : Type 0 where
@@ -147,3 +156,11 @@ pub record IsAsked (entered : Option (Text × List Row)) (asked : Asked) : Type 
 -- the words of a command line, the program's own name first, ask for that
 abbrev pub WordsAsk : List Text → Asked → Type 0
 WordsAsk words asked = IsAsked (subcommand_of program words) asked
+
+-- Words without a fault that ask for something get it, unless memory runs out: so says an error of the parse, and the reason
+-- why there is no command to run.
+abbrev pub FailsBy : App → List Text → Error → Type 0
+FailsBy app words error = fault_of app words ≡ [] → (asked : Asked) → IsAsked (subcommand_of app words) asked → kind_of error ≡ parsing.OutOfMemory
+
+abbrev pub RefusesWords : List Text → NoCommand → Type 0
+RefusesWords words why = fault_of program words ≡ [] → (asked : Asked) → WordsAsk words asked → why ≡ Memory

@@ -1,10 +1,11 @@
 //! The command line: what its words ask for.
 
-ghost use Rattle.std.specs.Prelude.{◌≡◌, [], IfOk, IfSome, codes, map, string_bytes, true};
+ghost use Rattle.std.specs.Prelude.{◌≡◌, [], IfErr, IfOk, codes, map, string_bytes, true};
 ghost use Rattle.clap.specs.Words.{app_of, fault_of, found_of, is_simple, is_simple_and_free, new_app, rows_of, subcommand_of, subcommand_rows_of};
-ghost use Rattle.droid_desk_arguments.specs.Asking.{IsAsked, IsAskedBy, WordsAsk};
+ghost use Rattle.droid_desk_arguments.specs.Asking.{FailsBy, IsAsked, IsAskedBy, ReadsMany, RefusesWords, WordsAsk};
 ghost use Rattle.droid_desk_arguments.specs.Commands.{program, run_command, script_command, send_command, serve_command, top_command};
 ghost use Rattle.droid_desk_options.specs.Made.{Makes};
+ghost use Rattle.droid_desk_options.specs.Values.{Reads};
 
 use crate::conversion::{RegistryOptions, conversion, registry_asked};
 use crate::help::{ABOUT, EVERYDAY_HELP, HELP, REGISTRY_HELP, SCRIPT_ABOUT, SCRIPT_HELP};
@@ -118,6 +119,8 @@ pub fn what_is_asked<'a>(alloc: Global, words: &'a [String]) -> Result<Asked<'a>
     ensures asks { IfOk result (λ asked. WordsAsk (map string_bytes words.entry.now) asked) }
     // The words have no fault: each option is known, and each number is in its range.
     ensures taken { IfOk result (λ _. fault_of program (map string_bytes words.entry.now) ≡ []) }
+    // Such words that ask for something are not refused.
+    ensures refused { IfErr result (RefusesWords (map string_bytes words.entry.now)) }
 {
     match asked_of_program(alloc, words) {
         Ok(asked) => Ok(asked),
@@ -128,6 +131,7 @@ pub fn what_is_asked<'a>(alloc: Global, words: &'a [String]) -> Result<Asked<'a>
 fn asked_of_program<'a>(alloc: Global, words: &'a [String]) -> Result<Asked<'a>, Error>
     ensures asks { IfOk result (λ asked. WordsAsk (map string_bytes words.entry.now) asked) }
     ensures taken { IfOk result (λ _. fault_of program (map string_bytes words.entry.now) ≡ []) }
+    ensures refused { IfErr result (FailsBy program (map string_bytes words.entry.now)) }
 {
     let mut command = command(alloc)?;
     asked_of(&mut command, words)
@@ -137,6 +141,8 @@ fn asked_of_program<'a>(alloc: Global, words: &'a [String]) -> Result<Asked<'a>,
 fn asked_of<'a>(command: &mut Command<'a>, words: &'a [String]) -> Result<Asked<'a>, Error>
     ensures asks { is_simple (app_of command.old) ≡ true → IfOk result (λ asked. IsAsked (subcommand_of (app_of command.old) (map string_bytes words.entry.now)) asked) }
     ensures taken { is_simple_and_free (app_of command.old) ≡ true → IfOk result (λ _. fault_of (app_of command.old) (map string_bytes words.entry.now) ≡ []) }
+    ensures refused { is_simple (app_of command.old) ≡ true → is_simple_and_free (app_of command.old) ≡ true
+        → IfErr result (FailsBy (app_of command.old) (map string_bytes words.entry.now)) }
 {
     let matches = command.try_get_matches_from_mut(words)?;
     match asked_by(&matches) {
@@ -178,7 +184,7 @@ fn mistake_in_serve(serve: &ArgMatches<'_>) -> &'static str {
 /// Reads the matched words. They ask for nothing if they name an unknown hash, two registries, or a list of checksums
 /// without a hash.
 fn asked_by<'a>(matches: &ArgMatches<'a>) -> Option<Asked<'a>>
-    ensures { IfSome result (λ asked. IsAsked (subcommand_rows_of matches.now) asked) }
+    ensures { Reads result (IsAsked (subcommand_rows_of matches.now)) }
 {
     if let Some(profile) = matches.subcommand_matches(PROFILE) {
         return profile_asked(profile);
@@ -208,14 +214,14 @@ fn asked_by<'a>(matches: &ArgMatches<'a>) -> Option<Asked<'a>>
 }
 
 fn script_asked<'a>(script: &ArgMatches<'a>) -> Option<Asked<'a>>
-    ensures { IfSome result (λ asked. IsAskedBy (codes "script") (rows_of (found_of script.now)) asked) }
+    ensures { Reads result (IsAskedBy (codes "script") (rows_of (found_of script.now))) }
 {
     let registry = source_of(script)?;
     Some(Asked::Script { registry })
 }
 
 fn run_asked<'a>(run: &ArgMatches<'a>) -> Option<Asked<'a>>
-    ensures { IfSome result (λ asked. IsAskedBy (codes "run") (rows_of (found_of run.now)) asked) }
+    ensures { Reads result (IsAskedBy (codes "run") (rows_of (found_of run.now))) }
 {
     let registry = source_of(run)?;
     let journal = run.get_str(JOURNAL);
@@ -223,7 +229,7 @@ fn run_asked<'a>(run: &ArgMatches<'a>) -> Option<Asked<'a>>
 }
 
 fn serve_asked<'a>(serve: &ArgMatches<'a>) -> Option<Asked<'a>>
-    ensures { IfSome result (λ asked. IsAskedBy (codes "serve") (rows_of (found_of serve.now)) asked) }
+    ensures { Reads result (IsAskedBy (codes "serve") (rows_of (found_of serve.now))) }
 {
     if !is_one_by_one(serve) {
         return serve_many_asked(serve);
@@ -241,7 +247,7 @@ fn serve_asked<'a>(serve: &ArgMatches<'a>) -> Option<Asked<'a>>
 }
 
 fn serve_many_asked<'a>(serve: &ArgMatches<'a>) -> Option<Asked<'a>>
-    ensures { IfSome result (λ asked. IsAskedBy (codes "serve") (rows_of (found_of serve.now)) asked) }
+    ensures { ReadsMany (rows_of (found_of serve.now)) result }
 {
     let registry = source_of(serve)?;
     let journal = serve.get_str(JOURNAL);
@@ -256,7 +262,7 @@ fn serve_many_asked<'a>(serve: &ArgMatches<'a>) -> Option<Asked<'a>>
 }
 
 fn send_asked<'a>(send: &ArgMatches<'a>) -> Option<Asked<'a>>
-    ensures { IfSome result (λ asked. IsAskedBy (codes "send") (rows_of (found_of send.now)) asked) }
+    ensures { Reads result (IsAskedBy (codes "send") (rows_of (found_of send.now))) }
 {
     let port = send.get_one(PORT)?;
     let client = send.get_one(CLIENT)?;

@@ -1,10 +1,11 @@
 //! The command `registry`: its options, and what they ask for.
 
-ghost use Rattle.std.specs.Prelude.{IfSome, codes};
+ghost use Rattle.std.specs.Prelude.{codes};
 ghost use Rattle.clap.specs.Words.{found_of, rows_of};
 ghost use Rattle.droid_desk_arguments.specs.Asking.{IsAskedBy, IsConversion};
 ghost use Rattle.droid_desk_arguments.specs.Commands.{registry_command};
 ghost use Rattle.droid_desk_options.specs.Made.{Makes};
+ghost use Rattle.droid_desk_options.specs.Values.{Reads};
 
 use crate::arguments::Asked;
 use crate::conversion_help::{
@@ -31,14 +32,14 @@ pub struct RegistryOptions<'a> {
 }
 
 pub(crate) fn registry_asked<'a>(registry: &ArgMatches<'a>) -> Option<Asked<'a>>
-    ensures { IfSome result (λ asked. IsAskedBy (codes "registry") (rows_of (found_of registry.now)) asked) }
+    ensures { Reads result (IsAskedBy (codes "registry") (rows_of (found_of registry.now))) }
 {
     let options = registry_options(registry)?;
     Some(Asked::Registry(options))
 }
 
 fn registry_options<'a>(registry: &ArgMatches<'a>) -> Option<RegistryOptions<'a>>
-    ensures { IfSome result (IsConversion (rows_of (found_of registry.now))) }
+    ensures { Reads result (IsConversion (rows_of (found_of registry.now))) }
 {
     let file = registry.get_str(FILE)?;
     let output = registry.get_str(OUTPUT);

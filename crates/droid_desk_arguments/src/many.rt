@@ -1,8 +1,9 @@
 //! The options of `serve` for many connections at once.
 
-ghost use Rattle.std.specs.Prelude.{◌≡◌, IfSome, None, false, option_map, true};
+ghost use Rattle.std.specs.Prelude.{◌≡◌, ◌↔◌, None, false, option_map, true};
 ghost use Rattle.clap.specs.Words.{found_of, rows_of};
 ghost use Rattle.droid_desk_arguments.specs.Asking.{IsCount, IsMany, IsOneByOne};
+ghost use Rattle.droid_desk_options.specs.Values.{Reads};
 
 use crate::arguments::{CONNECTIONS, DEFAULT_CONNECTIONS};
 use clap::ArgMatches;
@@ -35,7 +36,7 @@ pub struct ManyOptions {
 
 /// Whether none of these options is given.
 pub(crate) fn is_one_by_one(serve: &ArgMatches<'_>) -> bool
-    ensures { result ≡ true → IsOneByOne (rows_of (found_of serve.now)) }
+    ensures { (result ≡ true) ↔ IsOneByOne (rows_of (found_of serve.now)) }
 {
     let seats = serve.get_str(AT_ONCE);
     let forever = flag_of(serve, FOREVER);
@@ -49,6 +50,7 @@ fn none_given(seats: Option<&str>, forever: bool, idle: Option<&str>, verbose: b
     ensures forever { result ≡ true → forever ≡ false }
     ensures idle { result ≡ true → option_map (λ text. text.now) idle.entry ≡ None }
     ensures verbose { result ≡ true → verbose ≡ false }
+    ensures none { option_map (λ text. text.now) seats.entry ≡ None → forever ≡ false → option_map (λ text. text.now) idle.entry ≡ None → verbose ≡ false → result ≡ true }
 {
     if forever || verbose {
         return false;
@@ -62,7 +64,7 @@ fn none_given(seats: Option<&str>, forever: bool, idle: Option<&str>, verbose: b
 
 /// Reads the options. They are none without `--at-once`, or if both `--forever` and `--connections` are given.
 pub(crate) fn many_options(serve: &ArgMatches<'_>) -> Option<ManyOptions>
-    ensures { IfSome result (IsMany (rows_of (found_of serve.now))) }
+    ensures { Reads result (IsMany (rows_of (found_of serve.now))) }
 {
     let seats = serve.get_one(AT_ONCE)?;
     let connections = count_of(serve)?;
@@ -78,7 +80,7 @@ pub(crate) fn many_options(serve: &ArgMatches<'_>) -> Option<ManyOptions>
 
 /// Reads how many connections are served. `--forever` and `--connections` together say nothing.
 fn count_of(serve: &ArgMatches<'_>) -> Option<Option<u32>>
-    ensures { IfSome result (IsCount (rows_of (found_of serve.now))) }
+    ensures { Reads result (IsCount (rows_of (found_of serve.now))) }
 {
     let forever = flag_of(serve, FOREVER);
     if forever {

@@ -1,10 +1,11 @@
 //! The command `profile`: its options, and what they ask for.
 
-ghost use Rattle.std.specs.Prelude.{◌≡◌, IfSome, None, codes, option_map};
+ghost use Rattle.std.specs.Prelude.{◌≡◌, None, codes, option_map};
 ghost use Rattle.clap.specs.Words.{found_of, rows_of};
 ghost use Rattle.droid_desk_arguments.specs.Asking.{IsAskedBy, IsProfile, has_no_checksums};
 ghost use Rattle.droid_desk_arguments.specs.Commands.{profile_command};
 ghost use Rattle.droid_desk_options.specs.Made.{Makes};
+ghost use Rattle.droid_desk_options.specs.Values.{Reads};
 
 use crate::arguments::Asked;
 use crate::profile_help::{
@@ -63,14 +64,14 @@ pub struct ProfileOptions<'a> {
 }
 
 pub(crate) fn profile_asked<'a>(profile: &ArgMatches<'a>) -> Option<Asked<'a>>
-    ensures { IfSome result (λ asked. IsAskedBy (codes "profile") (rows_of (found_of profile.now)) asked) }
+    ensures { Reads result (IsAskedBy (codes "profile") (rows_of (found_of profile.now))) }
 {
     let options = profile_options(profile)?;
     Some(Asked::Profile(options))
 }
 
 fn profile_options<'a>(profile: &ArgMatches<'a>) -> Option<ProfileOptions<'a>>
-    ensures { IfSome result (IsProfile (rows_of (found_of profile.now))) }
+    ensures { Reads result (IsProfile (rows_of (found_of profile.now))) }
 {
     let folder = profile.get_str(FOLDER)?;
     let registry = profile.get_str(REGISTRY);

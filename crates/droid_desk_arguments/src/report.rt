@@ -1,10 +1,11 @@
 //! The command `report`: its options, and what they ask for.
 
-ghost use Rattle.std.specs.Prelude.{IfSome, codes};
+ghost use Rattle.std.specs.Prelude.{codes};
 ghost use Rattle.clap.specs.Words.{found_of, rows_of};
 ghost use Rattle.droid_desk_arguments.specs.Asking.{IsAskedBy, IsReport};
 ghost use Rattle.droid_desk_arguments.specs.Commands.{report_command};
 ghost use Rattle.droid_desk_options.specs.Made.{Makes};
+ghost use Rattle.droid_desk_options.specs.Values.{Reads};
 
 use crate::arguments::Asked;
 use crate::profile::{OUTPUT, PROFILE};
@@ -32,14 +33,14 @@ pub struct ReportOptions<'a> {
 }
 
 pub(crate) fn report_asked<'a>(report: &ArgMatches<'a>) -> Option<Asked<'a>>
-    ensures { IfSome result (λ asked. IsAskedBy (codes "report") (rows_of (found_of report.now)) asked) }
+    ensures { Reads result (IsAskedBy (codes "report") (rows_of (found_of report.now))) }
 {
     let options = report_options(report)?;
     Some(Asked::Report(options))
 }
 
 fn report_options<'a>(report: &ArgMatches<'a>) -> Option<ReportOptions<'a>>
-    ensures { IfSome result (IsReport (rows_of (found_of report.now))) }
+    ensures { Reads result (IsReport (rows_of (found_of report.now))) }
 {
     let profile = report.get_str(PROFILE)?;
     let title = report.get_str(TITLE);

@@ -1,10 +1,11 @@
 //! The command `submit`: its options, and what they ask for.
 
-ghost use Rattle.std.specs.Prelude.{◌≡◌, IfSome, codes, false};
+ghost use Rattle.std.specs.Prelude.{◌≡◌, codes, false};
 ghost use Rattle.clap.specs.Words.{found_of, rows_of, rule_of};
 ghost use Rattle.droid_desk_arguments.specs.Asking.{IsAskedBy, IsSentTo, IsSubmit};
 ghost use Rattle.droid_desk_arguments.specs.Commands.{name_option, submit_command};
 ghost use Rattle.droid_desk_options.specs.Made.{Makes};
+ghost use Rattle.droid_desk_options.specs.Values.{Reads};
 
 use crate::arguments::Asked;
 use crate::profile::{DEFAULT_LIMIT, HASH, MATCH_ALL, QUIET, SKIPPED};
@@ -85,14 +86,14 @@ pub struct SubmitOptions<'a> {
 }
 
 pub(crate) fn submit_asked<'a>(submit: &ArgMatches<'a>) -> Option<Asked<'a>>
-    ensures { IfSome result (λ asked. IsAskedBy (codes "submit") (rows_of (found_of submit.now)) asked) }
+    ensures { Reads result (IsAskedBy (codes "submit") (rows_of (found_of submit.now))) }
 {
     let options = submit_options(submit)?;
     Some(Asked::Submit(options))
 }
 
 fn submit_options<'a>(submit: &ArgMatches<'a>) -> Option<SubmitOptions<'a>>
-    ensures { IfSome result (IsSubmit (rows_of (found_of submit.now))) }
+    ensures { Reads result (IsSubmit (rows_of (found_of submit.now))) }
 {
     let to = destination_of(submit)?;
     let folder = submit.get_str(FOLDER)?;
@@ -122,7 +123,7 @@ fn submit_options<'a>(submit: &ArgMatches<'a>) -> Option<SubmitOptions<'a>>
 }
 
 fn destination_of(submit: &ArgMatches<'_>) -> Option<Destination>
-    ensures { IfSome result (IsSentTo (rows_of (found_of submit.now))) }
+    ensures { Reads result (IsSentTo (rows_of (found_of submit.now))) }
 {
     let port = submit.get_one(PORT)?;
     let client = submit.get_one(CLIENT)?;

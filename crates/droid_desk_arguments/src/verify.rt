@@ -1,10 +1,11 @@
 //! The command `verify`: its options, and what they ask for.
 
-ghost use Rattle.std.specs.Prelude.{◌≡◌, IfSome, codes, false, option_map};
+ghost use Rattle.std.specs.Prelude.{◌≡◌, codes, false, option_map};
 ghost use Rattle.clap.specs.Words.{found_of, rows_of, rule_of};
 ghost use Rattle.droid_desk_arguments.specs.Asking.{IsAskedBy, IsVerify, names_two, reads_nothing};
 ghost use Rattle.droid_desk_arguments.specs.Commands.{against_option, verify_command};
 ghost use Rattle.droid_desk_options.specs.Made.{Makes};
+ghost use Rattle.droid_desk_options.specs.Values.{Reads};
 
 use crate::arguments::{Asked, TWO_REGISTRIES};
 use crate::profile::{DEFAULT_LIMIT, MATCH_ALL, QUIET};
@@ -54,14 +55,14 @@ pub struct VerifyOptions<'a> {
 }
 
 pub(crate) fn verify_asked<'a>(verify: &ArgMatches<'a>) -> Option<Asked<'a>>
-    ensures { IfSome result (λ asked. IsAskedBy (codes "verify") (rows_of (found_of verify.now)) asked) }
+    ensures { Reads result (IsAskedBy (codes "verify") (rows_of (found_of verify.now))) }
 {
     let options = verify_options(verify)?;
     Some(Asked::Verify(options))
 }
 
 fn verify_options<'a>(verify: &ArgMatches<'a>) -> Option<VerifyOptions<'a>>
-    ensures { IfSome result (IsVerify (rows_of (found_of verify.now))) }
+    ensures { Reads result (IsVerify (rows_of (found_of verify.now))) }
 {
     let folder = verify.get_str(FOLDER)?;
     let against = verify.get_str(AGAINST)?;

@@ -1,11 +1,15 @@
 -- What the values of options are (this project's own).
-use Rattle.std.specs.Prelude.{◌≡◌, ◌<◌, ◌^◌, ◌⊎◌, ℕ, Bool, true, false, List, Option, Some, None, codes}
+use Rattle.std.specs.Prelude.{◌≡◌, ◌<◌, ◌^◌, ◌⊎◌, ◌↔◌, ℕ, Bool, true, false, List, Option, Some, None, MatchOption, codes}
 use Rattle.std.specs.Str.Parse.{IsNumeral, digits_value, without_leading_plus}
 use Rattle.clap.specs.Words.{Row, Text, first_of, one_of}
 use Rattle.droid_frame.specs.types.hash_kind.HashKind.{HashKind}
 use Rattle.droid_frame.specs.types.hash_kind.HashKind.TheVariants as hashes
 use Rattle.droid_desk_options.specs.declared.source.RegistrySource.{RegistrySource}
 use Rattle.droid_desk_options.specs.declared.source.RegistrySource.TheVariants as sources
+
+-- a value of which this holds was read; or none was, and it holds of no value
+abbrev pub Reads : {T : Type 0} → Option T → (T → Type 0) → Type 0
+Reads {T} result Is = MatchOption result ((x : T) → Is x → ⊥) Is
 
 -- the number that a text's digits write; a plus may stand first
 abbrev pub number_of : Text → ℕ
@@ -15,15 +19,19 @@ number_of text = digits_value 10 (without_leading_plus text)
 abbrev pub IsNumber : ℕ → Text → Type 0
 IsNumber bits text = IsNumeral 10 (without_leading_plus text) × (number_of text < 2 ^ bits)
 
+-- an option has this number, which is below 2^bits
+abbrev pub IsGiven : ℕ → Option Text → ℕ → Type 0
+IsGiven bits None n = ⊥
+IsGiven bits (Some text) n = IsNumber bits text × (n ≡ number_of text)
+
 -- an option's number, or this one where the option has none
 abbrev pub IsNumberOr : ℕ → ℕ → Option Text → ℕ → Type 0
 IsNumberOr bits otherwise None n = n ≡ otherwise
-IsNumberOr bits otherwise (Some text) n = (n ≡ number_of text) ⊎ ((n ≡ otherwise) × (IsNumber bits text → ⊥))
+IsNumberOr bits otherwise (Some text) n = IsGiven bits (Some text) n ⊎ ((n ≡ otherwise) × (IsNumber bits text → ⊥))
 
--- a flag is set where the parse gives it the text `true`, and isn't where it gives it none or `false`
+-- a flag is set exactly where the parse gives it the text `true`
 abbrev pub IsFlag : Option Text → Bool → Type 0
-IsFlag None flag = flag ≡ false
-IsFlag (Some text) flag = (text ≡ codes "true" → flag ≡ true) × (text ≡ codes "false" → flag ≡ false)
+IsFlag text flag = (flag ≡ true) ↔ (text ≡ Some (codes "true"))
 
 -- the hash that a word names: MD5 without one
 abbrev pub IsHash : Option Text → HashKind → Type 0

@@ -1,8 +1,8 @@
 //! Which registry of formats a command uses.
 
-ghost use Rattle.std.specs.Prelude.{IfSome, option_map};
+ghost use Rattle.std.specs.Prelude.{option_map};
 ghost use Rattle.clap.specs.Words.{found_of, rows_of};
-ghost use Rattle.droid_desk_options.specs.Values.{IsChosen, IsSource};
+ghost use Rattle.droid_desk_options.specs.Values.{IsChosen, IsSource, Reads};
 
 use crate::option::REGISTRY;
 use crate::value::flag_of;
@@ -24,7 +24,7 @@ pub enum RegistrySource<'a> {
 
 /// Reads the options `--everyday` and `--registry`. Both together name no registry.
 pub fn source_of<'a>(matches: &ArgMatches<'a>) -> Option<RegistrySource<'a>>
-    ensures { IfSome result (IsSource (rows_of (found_of matches.now))) }
+    ensures { Reads result (IsSource (rows_of (found_of matches.now))) }
 {
     let everyday = flag_of(matches, EVERYDAY);
     let path = matches.get_str(REGISTRY);
@@ -32,7 +32,7 @@ pub fn source_of<'a>(matches: &ArgMatches<'a>) -> Option<RegistrySource<'a>>
 }
 
 fn chosen<'a>(everyday: bool, path: Option<&'a str>) -> Option<RegistrySource<'a>>
-    ensures { IfSome result (IsChosen everyday (option_map (λ text. text.now) path.entry)) }
+    ensures { Reads result (IsChosen everyday (option_map (λ text. text.now) path.entry)) }
 {
     match (everyday, path) {
         (false, None) => Some(RegistrySource::Sample),

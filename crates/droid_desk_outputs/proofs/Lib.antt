@@ -1,3 +1,4 @@
+pub mod LastSlashes
 pub mod Prefixes
 pub mod SkippedPaths
 pub mod SkippedTexts

@@ -14,7 +14,7 @@ pub use csv_records::{finish_csv, new_csv, write_record};
 pub use droid_desk_progress::{Reporter, Shown, Verbosity, cause, walk_fault_name};
 pub use droid_export::{HashText, moment_text};
 pub use folder_advice::{NO_MEMORY, print_no_folder, print_no_output};
-pub use places::{absolute_path, folder_of, is_same_place, lies_in};
+pub use places::{absolute_path, folder_of, is_same_place, lies_in, name_of};
 pub use recorder::Recorder;
 pub use skipped_entry::SkippedEntry;
 pub use skipped_paths::{SkippedPaths, holds_above, paths_of};

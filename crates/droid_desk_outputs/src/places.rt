@@ -1,7 +1,7 @@
 //! Where files and folders lie.
 
-ghost use Rattle.std.specs.Prelude.{◌≡◌, ◌↔◌, IsTrue};
-ghost use Rattle.droid_desk_outputs.specs.Places.{IsAtOrBelow, LiesIn};
+ghost use Rattle.std.specs.Prelude.{◌≡◌, ◌↔◌, IsTrue, Ok, Some, [], false, true};
+ghost use Rattle.droid_desk_outputs.specs.Places.{IsAtOrBelow, LiesIn, folder_by, folder_of, name_of};
 
 use droid_frame::Text;
 use std::alloc::AllocError;
@@ -41,11 +41,29 @@ pub fn absolute_path<R: Files + AllocGlobal>(rt: &R, path: &str) -> Result<Text,
 }
 
 /// Returns the path of the folder that a file lies in.
-pub fn folder_of(path: &str) -> &str {
-    match path.rsplit_once("/") {
-        Some(("", _)) => "/",
-        Some((folder, _)) => folder,
+pub fn folder_of(path: &str) -> &str
+    ensures { result.now ≡ folder_of path.now }
+{
+    match path.rsplit_once('/') {
+        Some((folder, _)) => folder_named(folder),
         None => ".",
+    }
+}
+
+/// Returns the folder that stands before a `/`: the root, if nothing does.
+fn folder_named(folder: &str) -> &str
+    ensures { result.now ≡ folder_by (Some (folder.now, [])) }
+{
+    if folder.is_empty() { "/" } else { folder }
+}
+
+/// Returns the last name of a path.
+pub fn name_of(path: &str) -> &str
+    ensures { result.now ≡ name_of path.now }
+{
+    match path.rsplit_once('/') {
+        Some((_, name)) => name,
+        None => path,
     }
 }
 
@@ -54,19 +72,19 @@ pub fn is_same_place<R: Files + AllocGlobal>(
     rt: &R,
     first: &str,
     second: &str,
-) -> Result<bool, AllocError> {
-    if name_in(first) != name_in(second) {
+) -> Result<bool, AllocError>
+    // One path is one place.
+    ensures same { first.now ≡ second.now → result ≡ Ok true }
+    // Two names are two places.
+    ensures other { (name_of first.now ≡ name_of second.now → ⊥) → result ≡ Ok false }
+{
+    if first == second {
+        return Ok(true);
+    }
+    if name_of(first) != name_of(second) {
         return Ok(false);
     }
     let one = absolute_path(rt, folder_of(first))?;
     let other = absolute_path(rt, folder_of(second))?;
     Ok(one.as_str() == other.as_str())
-}
-
-/// Returns the last name of a path.
-fn name_in(path: &str) -> &str {
-    match path.rsplit_once("/") {
-        Some((_, name)) => name,
-        None => path,
-    }
 }

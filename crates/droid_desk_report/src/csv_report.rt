@@ -77,11 +77,3 @@ fn seconds_now<R: Clock>(rt: &R) -> Option<u64> {
 fn moment_of<R: AllocGlobal>(rt: &R, seconds: u64) -> Result<Text, AllocError> {
     moment_text(rt.alloc(), seconds.min(LAST_SECOND) as i64)
 }
-
-/// Returns the last name of a path.
-pub fn name_of(path: &str) -> &str {
-    match path.rsplit_once("/") {
-        Some((_, name)) => name,
-        None => path,
-    }
-}

@@ -13,12 +13,12 @@ mod report_ending;
 mod report_sentences;
 
 pub use csv_page::{PageTexts, page_of_csv};
-pub use csv_report::{name_of, page_now, put_page};
+pub use csv_report::{page_now, put_page};
 pub use droid_desk_outputs::{
     HashText, NO_MEMORY, Recorder, Reporter, Shown, SkippedEntry, SkippedPaths, Verbosity,
     absolute_path, cause, entry_line, finish_csv, folder_of, header_line, holds_above,
-    is_same_place, lies_in, new_csv, paths_of, print_no_folder, print_no_output, skipped_csv,
-    walk_fault_name, write_record,
+    is_same_place, lies_in, name_of, new_csv, paths_of, print_no_folder, print_no_output,
+    skipped_csv, walk_fault_name, write_record,
 };
 pub use droid_report::ProfileFault;
 pub use keeping::Keeping;

@@ -1,10 +1,10 @@
 //! The report on a profile in a file of this machine.
 
-use crate::csv_report::{name_of, page_now, put_page};
+use crate::csv_report::{page_now, put_page};
 use crate::page_fault::PageFault;
 use crate::page_writer::write_page;
 use crate::report_ending::ReportEnding;
-use droid_desk_outputs::is_same_place;
+use droid_desk_outputs::{is_same_place, name_of};
 use droid_frame::Noted;
 use droid_report::ProfileFault;
 use droid_tree_disk::Output;

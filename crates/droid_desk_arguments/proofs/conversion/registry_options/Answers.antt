@@ -1,6 +1,7 @@
 use Rattle.std.proofs.Common.{◌∙◌, codes}
 use Rattle.clap.specs.Words.{found_of}
 use Rattle.clap.proofs.WalkLemmas.{first_value-rows}
+use Rattle.droid_desk_arguments.proofs.Refusals.{not_found}
 use Rattle.droid_desk_arguments.proofs.conversion.registry_options.Goals as goal
 
 pub returns : goal.returns
@@ -11,3 +12,6 @@ returns c =
       output = c.get_str-output.ensures ∙ first_value-rows found (codes "output");
       quiet = c.flag_of-quiet.ensures;
     }
+
+pub returns-in_err-file : goal.returns-in_err-file
+returns-in_err-file c = rw c.from_residual.ensures (λ options is. not_found _ _ options.file.now c.in_err-file.ensures is.file (first_value-rows (found_of c.args.registry.now) (codes "file")))

@@ -4,6 +4,7 @@ use Rattle.clap.specs.Words.{found_of, one_of, rows_of}
 use Rattle.clap.proofs.WalkLemmas.{first_value-rows}
 use Rattle.droid_desk_options.specs.Values.{IsFlag}
 use Rattle.droid_desk_options.proofs.Options.{number_or}
+use Rattle.droid_desk_arguments.proofs.Refusals.{no_count}
 use Rattle.droid_desk_arguments.proofs.many.count_of.Goals as goal
 
 pub returns-in-None : goal.returns-in-None
@@ -14,6 +15,12 @@ returns-in-None c =
 pub returns : goal.returns
 returns c =
     let found = found_of c.args.serve.now in
-    let connections = number_or (λ bs r. ParsesUnsigned 32 10 bs r × ExplainsUnsignedError 10 bs r × HasUnsignedDigitsIfOk bs r) 32 1 (λ text x gives. gives.0.1) (λ text e gives. gives.0)
+    let connections = number_or (λ bs r. ParsesUnsigned 32 10 bs r × ExplainsUnsignedError 10 bs r × HasUnsignedDigitsIfOk bs r) 32 (λ text r gives. gives.0) 1
     found (codes "connections") c.get_one.result c.unwrap_or-connections.result c.get_one.ensures.none c.get_one.ensures.value c.unwrap_or-connections.ensures in
     (subst (λ (flag : Bool). IsFlag (one_of (codes "forever") (rows_of found)) flag) c.if-forever.false c.flag_of-forever.ensures, connections)
+
+pub returns-in-Some : goal.returns-in-Some
+returns-in-Some c =
+    let found = found_of c.args.serve.now in
+    no_count (rows_of found) _ (subst (λ (flag : Bool). IsFlag (one_of (codes "forever") (rows_of found)) flag) c.if-forever.true c.flag_of-forever.ensures)
+    (c.in-Some.ensures ∙ first_value-rows found (codes "connections"))

@@ -1,9 +1,10 @@
-use Rattle.std.proofs.Common.{◌∙◌, Option, codes, subst}
+use Rattle.std.proofs.Common.{◌∙◌, Option, codes, subst, sym}
 use Rattle.std.specs.Str.Parse.{ExplainsUnsignedError, HasUnsignedDigitsIfOk, ParsesUnsigned}
 use Rattle.clap.specs.Words.{Text, found_of}
 use Rattle.clap.proofs.WalkLemmas.{first_value-rows}
 use Rattle.droid_desk_options.specs.Values.{IsHash}
 use Rattle.droid_desk_options.proofs.Options.{number_or}
+use Rattle.droid_desk_arguments.proofs.Refusals.{not_found}
 use Rattle.droid_desk_arguments.proofs.submit.submit_options.Goals as goal
 
 pub returns : goal.returns
@@ -11,9 +12,9 @@ returns c =
     let found = found_of c.args.submit.now in
     let folder = c.in_ok-folder.ensures ∙ first_value-rows found (codes "folder") in
     let name = c.get_str-name.ensures ∙ first_value-rows found (codes "name") in
-    let piece_size = number_or (λ bs r. ParsesUnsigned 32 10 bs r × ExplainsUnsignedError 10 bs r × HasUnsignedDigitsIfOk bs r) 32 262144 (λ text x gives. gives.0.1) (λ text e gives. gives.0)
+    let piece_size = number_or (λ bs r. ParsesUnsigned 32 10 bs r × ExplainsUnsignedError 10 bs r × HasUnsignedDigitsIfOk bs r) 32 (λ text r gives. gives.0) 262144
     found (codes "piece-size") c.get_one.result c.unwrap_or-piece_size.result c.get_one.ensures.none c.get_one.ensures.value c.unwrap_or-piece_size.ensures in
-    let limit = number_or (λ bs r. ParsesUnsigned 32 10 bs r × ExplainsUnsignedError 10 bs r × HasUnsignedDigitsIfOk bs r) 32 65536 (λ text x gives. gives.0.1) (λ text e gives. gives.0)
+    let limit = number_or (λ bs r. ParsesUnsigned 32 10 bs r × ExplainsUnsignedError 10 bs r × HasUnsignedDigitsIfOk bs r) 32 (λ text r gives. gives.0) 65536
     found (codes "limit") c.get_one-2.result c.unwrap_or-limit.result c.get_one-2.ensures.none c.get_one-2.ensures.value c.unwrap_or-limit.ensures in
     let hash = subst (λ (o : Option Text). IsHash o c.in_ok-hash.hash) (c.get_str-hash_word.ensures ∙ first_value-rows found (codes "hash")) c.in_ok-hash.ensures in
     let export = c.get_str-export.ensures ∙ first_value-rows found (codes "export") in
@@ -32,3 +33,14 @@ returns c =
       report = report;
       quiet = c.flag_of-quiet.ensures;
     }
+
+pub returns-in_err-to : goal.returns-in_err-to
+returns-in_err-to c = rw c.from_residual.ensures (λ options is. c.in_err-to.ensures options.to is.destination)
+
+pub returns-in_err-folder : goal.returns-in_err-folder
+returns-in_err-folder c = rw c.from_residual-in_err-folder.ensures (λ options is. not_found _ _ options.folder.now c.in_err-folder.ensures is.folder (first_value-rows (found_of c.args.submit.now) (codes "folder")))
+
+pub returns-in_err-hash : goal.returns-in_err-hash
+returns-in_err-hash c = rw c.from_residual-in_err-hash.ensures (λ options is.
+    let word = c.get_str-hash_word.ensures ∙ first_value-rows (found_of c.args.submit.now) (codes "hash") in
+    c.in_err-hash.ensures options.hash (subst (λ (o : Option Text). IsHash o options.hash) (sym word) is.hash))
