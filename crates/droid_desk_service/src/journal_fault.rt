@@ -67,7 +67,9 @@ impl JournalFault {
     /// Prints what happened to the journal at a path, and what to do.
     pub(crate) fn print_advice<R: Eprint>(&self, rt: &R, path: &str) -> io::Result<()> {
         match self {
-            JournalFault::Unopened(kind) => eprintln!(rt; "{path}: {kind}: is its folder there, and yours to write?"),
+            JournalFault::Unopened(kind) => eprintln!(rt;
+                "{path}: {kind}: is its folder there, and yours to write?"
+            ),
             JournalFault::Closed(Fault::Record(at)) => {
                 eprintln!(rt;
                     "{path}: record {at} does not get its reply: restore a copy of the file"
