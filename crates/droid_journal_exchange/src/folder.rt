@@ -1,0 +1,59 @@
+//! A name in a folder of this machine.
+
+use crate::exchange::Exchange;
+use droid_journal::{FileError, LogFile};
+use std::fs::{self, File, Files, OpenOptions};
+use std::io;
+
+/// A file's name in a folder of this machine, and that of the new file beside it.
+#[derive(Drop)]
+pub struct Folder<'a, R> {
+    runtime: &'a R,
+    path: &'a str,
+    beside: &'a str,
+}
+
+impl<'a, R: Files<File = File>> Folder<'a, R> {
+    /// Names the file, and the new file. Both must be in one folder.
+    pub fn new(runtime: &'a R, path: &'a str, beside: &'a str) -> Folder<'a, R> {
+        Folder {
+            runtime,
+            path,
+            beside,
+        }
+    }
+}
+
+/// Syncs the folder of a path.
+fn sync_folder_of<R: Files<File = File>>(runtime: &R, path: &str) -> io::Result<()> {
+    let folder = match path.rfind('/') {
+        Some(0) => "/",
+        Some(end) => &path[..end],
+        None => ".",
+    };
+    let folder = OpenOptions::new().read(true).open(runtime, folder)?;
+    folder.sync_all()
+}
+
+fn told(answer: io::Result<()>) -> Result<(), FileError> {
+    match answer {
+        Ok(()) => Ok(()),
+        Err(_) => Err(FileError),
+    }
+}
+
+// Nothing is known of where a name leads, so each clause is met: that the machine renames in one step, and that a synced folder
+// keeps its names, is trusted.
+impl<'a, F: LogFile, R: Files<File = File>> Exchange<F> for Folder<'a, R> {
+    ghost leads = { λ folder bytes. ⊥ };
+
+    ghost may_lead = { λ folder bytes. ⊥ };
+
+    fn rename(&mut self, _new: &F) -> Result<(), FileError> {
+        told(fs::rename(self.runtime, self.beside, self.path))
+    }
+
+    fn sync_folder(&mut self) -> Result<(), FileError> {
+        told(sync_folder_of(self.runtime, self.path))
+    }
+}
