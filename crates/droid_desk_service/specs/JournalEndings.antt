@@ -5,6 +5,7 @@ use Rattle.droid_desk_service.specs.declared.ending.Ending.{Ending}
 use Rattle.droid_desk_service.specs.declared.ending.Ending.TheVariants.{Done, Registry, NoService, Script, Stream, Send, Socket, Journal, BadLine}
 use Rattle.droid_desk_service.specs.declared.journal_fault.JournalFault.TheVariants.{Closed}
 use Rattle.droid_frame.specs.declared.stream.fault.FrameFault.TheVariants as frame_faults
+use Rattle.droid_frame.specs.stream_types.seen.Seen.{Seen}
 use Rattle.droid_wire.specs.with_journal.Serving.{AnswersJournal, ServesJournal}
 use Rattle.droid_wire.specs.with_journal.declared.journal_handler.JournalHandler.{JournalHandler}
 use Rattle.droid_wire.specs.with_journal.pipe_types.pipe.Pipe.{Pipe}
@@ -63,11 +64,11 @@ stream_journal_ending_of ways.Unsettled departure fault = unsettled_ending fault
 
 -- The frames of a stream were answered, by a service that goes on from whatever history it stood for. At each moment all
 -- that was handled before a byte of any reply was written is on the disk. The program ends by how answering ended.
-pub record EndsAnsweringJournal {R W F : Type 0} (remaining : R → Option (List ℕ)) (contents : W → Option (List ℕ)) (has : F → List ℕ → Type 0) (kept : F → List ℕ) (pipe : Pipe R W) (before : JournalHandler F) (later : Pipe R W) (after : JournalHandler F) (ending : Ending) : Type 0 where
+pub record EndsAnsweringJournal {R W F : Type 0} (remaining : R → Option (List ℕ)) (contents : W → Option (List ℕ)) (was_read : R → Seen) (was_written : W → Seen) (room : W → Option ℕ) (has : F → List ℕ → Type 0) (kept : F → List ℕ) (pipe : Pipe R W) (before : JournalHandler F) (later : Pipe R W) (after : JournalHandler F) (ending : Ending) : Type 0 where
   pub served : Served
   pub ends : ending ≡ stream_journal_ending_of served later.departure after.fault
   pub answers : (setting : Setting) (header : List ℕ) (history : History) → StandsForHistory has kept setting header before.journal.journal history history
-      → AnswersJournal remaining contents has kept setting header history pipe before later after served
+      → AnswersJournal remaining contents was_read was_written room has kept setting header history pipe before later after served
 
 -- no registry could be read, no service be made, or no journal be opened
 abbrev pub IsUnopened : Ending → Type 0

@@ -33,7 +33,7 @@ pub fn answer_with_journal<R: SteadyRead, W: SteadyWrite, F: LogFile + Drop>(
     pipe: &mut Pipe<R, W>,
 ) -> Ending
     // No byte of a reply is written before all that was handled until then is on the disk.
-    ensures { EndsAnsweringJournal R.remaining W.contents F.has F.kept pipe.old handler.old pipe.new handler.new result }
+    ensures { EndsAnsweringJournal R.remaining W.contents R.seen W.seen W.room F.has F.kept pipe.old handler.old pipe.new handler.new result }
 {
     let served = answer_journal(alloc, handler, pipe);
     stream_end_of(served, pipe.departure, handler.fault)

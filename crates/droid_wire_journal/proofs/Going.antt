@@ -19,6 +19,7 @@ use Rattle.droid_wire_pipe.specs.turns.declared.rules.Rules.{Rules}
 use Rattle.droid_wire_pipe.specs.turns.declared.served.Served.{Served}
 use Rattle.droid_wire_journal.specs.Handling.{HandlesIn, HandlesSo, SettlesIn, SettlesSo}
 use Rattle.droid_wire_journal.specs.Serving.{Answered, AnswersJournal, AtMoments, CameOf, IsNextOf, IsWrite, Moment, ServesJournal, Shows}
+use Rattle.droid_frame.specs.stream_types.seen.Seen.{Seen}
 use Rattle.droid_wire_pipe.specs.Pipes.{AnswersOne, PipeDoes, rules_of_one}
 use Rattle.droid_wire_pipe.specs.declared.pipe.Pipe.{Pipe}
 use Rattle.droid_wire_journal.specs.declared.journal_handler.JournalHandler.{JournalHandler}
@@ -226,11 +227,11 @@ module _ {F : Type 0} (has : F → List ℕ → Type 0) (kept : F → List ℕ) 
       moments = at_moments rules c later h after result goes.steps stood goes.done goes.holds;
     }
 
-  pub answers_journal : {R W : Type 0} (remaining : R → Option (List ℕ)) (contents : W → Option (List ℕ)) (pipe later : Pipe R W) (h after : JournalHandler F) (result : Served) → StandsForHistory has kept setting header h.journal.journal history history
-      → Goes (PipeDoes remaining contents) (HandlesSo has kept) (SettlesSo has kept) pipe h later after (AnswersOne (remaining pipe.reader) (remaining later.reader) (contents pipe.writer) (contents later.writer) pipe.departure later.departure result)
-      → AnswersJournal remaining contents has kept setting header history pipe h later after result
-  answers_journal remaining contents pipe later h after result stood goes = record {
+  pub answers_journal : {R W : Type 0} (remaining : R → Option (List ℕ)) (contents : W → Option (List ℕ)) (was_read : R → Seen) (was_written : W → Seen) (room : W → Option ℕ) (pipe later : Pipe R W) (h after : JournalHandler F) (result : Served) → StandsForHistory has kept setting header h.journal.journal history history
+      → Goes (PipeDoes remaining contents was_read was_written room) (HandlesSo has kept) (SettlesSo has kept) pipe h later after (AnswersOne (remaining pipe.reader) (remaining later.reader) (contents pipe.writer) (contents later.writer) pipe.departure later.departure result)
+      → AnswersJournal remaining contents was_read was_written room has kept setting header history pipe h later after result
+  answers_journal remaining contents was_read was_written room pipe later h after result stood goes = record {
     steps = goes.steps;
     one = goes.holds;
-    moments = at_moments (PipeDoes remaining contents) rules_of_one pipe later h after result goes.steps stood goes.done goes.holds.serves;
+    moments = at_moments (PipeDoes remaining contents was_read was_written room) rules_of_one pipe later h after result goes.steps stood goes.done goes.holds.serves;
   }

@@ -8,6 +8,7 @@ use Rattle.droid_journal_service.specs.chain.Records.{Record}
 use Rattle.droid_journal_service.specs.Standing.{AnswersIn, KeepsHistory}
 use Rattle.droid_wire_journal.specs.Handling.{HandlesSo, SettlesSo}
 use Rattle.droid_wire_journal.specs.declared.journal_handler.JournalHandler.{JournalHandler}
+use Rattle.droid_frame.specs.stream_types.seen.Seen.{Seen}
 use Rattle.droid_wire_pipe.specs.Pipes.{AnswersOne, PipeDoes}
 use Rattle.droid_wire_pipe.specs.declared.pipe.Pipe.{Pipe}
 use Rattle.droid_wire_pipe.specs.turns.Chains.{GoesOver}
@@ -81,7 +82,7 @@ pub record ServesJournal {C F : Type 0} (does : C → Event → C → Type 0) (h
   pub moments : AtMoments does has kept setting header history (connections, before) (later, after) steps
 
 -- The same of one connection over a reader and a writer.
-pub record AnswersJournal {R W F : Type 0} (remaining : R → Option (List ℕ)) (contents : W → Option (List ℕ)) (has : F → List ℕ → Type 0) (kept : F → List ℕ) (setting : Setting) (header : List ℕ) (history : History) (pipe : Pipe R W) (before : JournalHandler F) (later : Pipe R W) (after : JournalHandler F) (result : Served) : Type 0 where
+pub record AnswersJournal {R W F : Type 0} (remaining : R → Option (List ℕ)) (contents : W → Option (List ℕ)) (was_read : R → Seen) (was_written : W → Seen) (room : W → Option ℕ) (has : F → List ℕ → Type 0) (kept : F → List ℕ) (setting : Setting) (header : List ℕ) (history : History) (pipe : Pipe R W) (before : JournalHandler F) (later : Pipe R W) (after : JournalHandler F) (result : Served) : Type 0 where
   pub steps : List Step
   pub one : AnswersOne (remaining pipe.reader) (remaining later.reader) (contents pipe.writer) (contents later.writer) pipe.departure later.departure result steps
-  pub moments : AtMoments (PipeDoes remaining contents) has kept setting header history (pipe, before) (later, after) steps
+  pub moments : AtMoments (PipeDoes remaining contents was_read was_written room) has kept setting header history (pipe, before) (later, after) steps

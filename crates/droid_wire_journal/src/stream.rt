@@ -22,7 +22,7 @@ pub fn answer_journal<R: SteadyRead, W: SteadyWrite, F: LogFile + Drop>(
     // The stream is served as one connection is. At each moment, also where the journal failed, all that was handled before
     // a byte of any reply was written is on the disk.
     ensures { (setting : Setting) (header : List ℕ) (history : History) → StandsForHistory F.has F.kept setting header handler.old.journal.journal history history
-        → AnswersJournal R.remaining W.contents F.has F.kept setting header history pipe.old handler.old pipe.new handler.new result }
+        → AnswersJournal R.remaining W.contents R.seen W.seen W.room F.has F.kept setting header history pipe.old handler.old pipe.new handler.new result }
 {
     answer_pipe(alloc, handler, pipe)
 }

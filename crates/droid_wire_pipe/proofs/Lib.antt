@@ -1,1 +1,3 @@
+pub mod PipeEvents
 pub mod PipeSteps
+pub mod Tries

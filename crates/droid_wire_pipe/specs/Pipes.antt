@@ -1,7 +1,10 @@
 -- One connection over a reader and a writer (this project's own).
 use Rattle.std.specs.Prelude.{◌≡◌, ◌⊎◌, ℕ, ◌==◌, if◌then◌else◌, List, [], Option, Some, fold, take}
 use Rattle.std.specs.Io.KnownBytes.{Appends, Consumes, IsAtEnd}
-use Rattle.droid_wire_turns.specs.Events.{Event, Closed, Ended, Opened, Read, Wrote}
+use Rattle.droid_frame.specs.Seen.{Counts, GivesUp}
+use Rattle.droid_frame.specs.Writes.{WriterStops}
+use Rattle.droid_frame.specs.stream_types.seen.Seen.{Seen}
+use Rattle.droid_wire_turns.specs.Events.{Event, Closed, Ended, Opened, Read, Unread, Unwritten, Wrote}
 use Rattle.droid_wire_turns.specs.Steps.{Happens, Step, came, went}
 use Rattle.droid_wire_turns.specs.Turns.{ServesAll}
 use Rattle.droid_wire_turns.specs.declared.connections.Came.{Came}
@@ -25,6 +28,25 @@ abbrev pub TookSo : Option (List ℕ) → Option (List ℕ) → List ℕ → Too
 TookSo old new bytes (took_as.Bytes count) = Appends old new (take count bytes)
 TookSo old new bytes took_as.Nothing = Appends old new []
 TookSo old new bytes took_as.Broken = Appends old new []
+
+-- A read calls the reader broken exactly where it failed, or was interrupted for the 65th time, within this read; a write
+-- calls the writer broken exactly where that holds of it, or it is full.
+abbrev pub ReadsAs : ℕ → Seen → Came → Type 0
+ReadsAs start seen came_as.Broken = GivesUp start seen
+ReadsAs start seen _ = (count : ℕ) × Counts start seen count
+
+abbrev pub WritesAs : ℕ → Seen → Option ℕ → Took → Type 0
+WritesAs start seen room took_as.Broken = WriterStops start seen room
+WritesAs start seen room _ = (count : ℕ) × Counts start seen count
+
+-- the same of an event
+abbrev pub ReaderIs : ℕ → Seen → Event → Type 0
+ReaderIs start seen (Unread id) = GivesUp start seen
+ReaderIs start seen _ = (count : ℕ) × Counts start seen count
+
+abbrev pub WriterIs : ℕ → Seen → Option ℕ → Event → Type 0
+WriterIs start seen room (Unwritten id) = WriterStops start seen room
+WriterIs start seen room _ = (count : ℕ) × Counts start seen count
 
 -- the bytes that an event takes of the reader, and those that it gives to the writer
 abbrev pub taken : Event → List ℕ
@@ -53,12 +75,14 @@ left_by (Closed id why) before = if id == 0 then Some why else before
 left_by _ before = before
 
 -- what an event does
-pub record PipeDoes {R W : Type 0} (remaining : R → Option (List ℕ)) (contents : W → Option (List ℕ)) (old : Pipe R W) (event : Event) (new : Pipe R W) : Type 0 where
+pub record PipeDoes {R W : Type 0} (remaining : R → Option (List ℕ)) (contents : W → Option (List ℕ)) (was_read : R → Seen) (was_written : W → Seen) (room : W → Option ℕ) (old : Pipe R W) (event : Event) (new : Pipe R W) : Type 0 where
   pub read : Consumes (remaining old.reader) (remaining new.reader) (taken event)
   pub written : Appends (contents old.writer) (contents new.writer) (given event)
   pub one : IsOfOne event
   pub ends : EndsThere (remaining new.reader) event
   pub left : new.departure ≡ left_by event old.departure
+  pub reader : (start : ℕ) → Counts start (was_read old.reader) 0 → ReaderIs start (was_read new.reader) event
+  pub writer : (start : ℕ) → Counts start (was_written old.writer) 0 → WriterIs start (was_written new.writer) (room new.writer) event
 
 -- one connection, which may be idle for ever
 abbrev pub rules_of_one : Rules

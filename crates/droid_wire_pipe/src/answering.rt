@@ -18,8 +18,8 @@ pub fn answer_pipe<R: SteadyRead, W: SteadyWrite, H: Handler>(
 ) -> Served
     // The stream is served as one connection is, the only one of the loop: so each reply was settled before a byte of it
     // was written. What came of the connection was read, and what it took was written, and nothing else. Why it was closed is
-    // kept.
-    ensures { Goes (PipeDoes R.remaining W.contents) H.handles H.settles pipe.old handler.old pipe.new handler.new
+    // kept. A stream is called broken exactly where it failed.
+    ensures { Goes (PipeDoes R.remaining W.contents R.seen W.seen W.room) H.handles H.settles pipe.old handler.old pipe.new handler.new
         (AnswersOne (R.remaining pipe.old.reader) (R.remaining pipe.new.reader) (W.contents pipe.old.writer) (W.contents pipe.new.writer) pipe.old.departure pipe.new.departure result) }
 {
     let rules = Rules {

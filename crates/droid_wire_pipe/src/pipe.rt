@@ -1,8 +1,9 @@
 //! One connection over a reader and a writer.
 
-ghost use Rattle.std.specs.Prelude.{◌≡◌, None, length};
+ghost use Rattle.std.specs.Prelude.{◌≡◌, ℕ, None, length};
+ghost use Rattle.droid_frame.specs.Seen.{Counts};
 ghost use Rattle.droid_wire_turns.specs.Events.{CameWithin, Closed, TookWithin};
-ghost use Rattle.droid_wire_pipe.specs.Pipes.{CameSo, TookSo, left_by};
+ghost use Rattle.droid_wire_pipe.specs.Pipes.{CameSo, ReadsAs, TookSo, WritesAs, left_by};
 
 use droid_frame::{Retries, SteadyRead, SteadyWrite, read_some};
 use droid_wire_turns::{Came, Connections, Departure, Took, WaitFault};
@@ -49,7 +50,7 @@ impl<R: SteadyRead, W: SteadyWrite> Pipe<R, W> {
 impl<R: SteadyRead, W: SteadyWrite> Connections for Pipe<R, W> {
     ghost use Rattle.droid_wire_pipe.specs.Pipes.{PipeDoes};
 
-    ghost does = { PipeDoes R.remaining W.contents };
+    ghost does = { PipeDoes R.remaining W.contents R.seen W.seen W.room };
 
     fn wait(&mut self, limit: u64, _frames: u64) -> Result<(), WaitFault> {
         self.readable = limit > 0;
@@ -108,6 +109,7 @@ fn leaving(before: Option<Departure>, id: u64, why: Departure) -> Option<Departu
 fn read_from<R: SteadyRead>(reader: &mut R, buffer: &mut [u8]) -> Came
     ensures bound { CameWithin result (length buffer.new) }
     ensures came { CameSo (R.remaining reader.old) (R.remaining reader.new) buffer.new result }
+    ensures told { (start : ℕ) → Counts start (R.seen reader.old) 0 → ReadsAs start (R.seen reader.new) result }
 {
     if buffer.is_empty() {
         return Came::Nothing;
@@ -124,8 +126,12 @@ fn read_from<R: SteadyRead>(reader: &mut R, buffer: &mut [u8]) -> Came
 fn write_to<W: SteadyWrite>(writer: &mut W, bytes: &[u8]) -> Took
     ensures bound { TookWithin result (length bytes.now) }
     ensures took { TookSo (W.contents writer.old) (W.contents writer.new) bytes.now result }
+    ensures told { (start : ℕ) → Counts start (W.seen writer.old) 0 → WritesAs start (W.seen writer.new) (W.room writer.new) result }
 {
-    for _ in 0..TRIES {
+    if bytes.is_empty() {
+        return Took::Nothing;
+    }
+    for tried in 0..TRIES {
         match writer.write_on(bytes) {
             Ok(0) => return Took::Broken,
             Ok(count) => return Took::Bytes(count),

@@ -3,4 +3,4 @@ use Rattle.droid_wire_journal.proofs.stream.answer_journal.Goals as goal
 
 pub returns : goal.returns
 returns g c = λ setting header history stood.
-    answers_journal g.F.LogFile.has g.F.LogFile.kept setting header history g.R.Read.remaining g.W.Write.contents c.args.pipe.now c.answer_pipe.new.pipe c.args.handler.now c.answer_pipe.new.handler c.answer_pipe.result stood c.answer_pipe.ensures
+    answers_journal g.F.LogFile.has g.F.LogFile.kept setting header history g.R.Read.remaining g.W.Write.contents g.R.SteadyRead.seen g.W.SteadyWrite.seen g.W.SteadyWrite.room c.args.pipe.now c.answer_pipe.new.pipe c.args.handler.now c.answer_pipe.new.handler c.answer_pipe.result stood c.answer_pipe.ensures

@@ -1,7 +1,12 @@
-use Rattle.std.specs.Prelude.{[]}
+use Rattle.std.specs.Prelude.{ℕ, []}
 use Rattle.std.specs.Io.KnownBytes.{Appends}
+use Rattle.droid_frame.specs.Seen.{Counts}
+use Rattle.droid_wire_pipe.proofs.Tries.{Tried}
 use Rattle.droid_wire_pipe.proofs.pipe.write_to.Given as goal
 
--- interruptions have written nothing
-abbrev pub invariant-loop : goal.invariant-loop
-invariant-loop g l = Appends (g.W.Write.contents l.fn.writer) (g.W.Write.contents l.writer) []
+-- interruptions have written nothing, and each was counted
+abbrev pub invariant-loop-tried : goal.invariant-loop-tried
+invariant-loop-tried g l = record {
+  none : Appends (g.W.Write.contents l.fn.writer) (g.W.Write.contents l.writer) [];
+  counts : (start : ℕ) → Counts start (g.W.SteadyWrite.seen l.fn.writer) 0 → Tried start (g.W.SteadyWrite.seen l.writer) l.tried;
+}
