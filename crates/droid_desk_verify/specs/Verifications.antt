@@ -1,7 +1,8 @@
 -- The comparison of any tree with a list, and its report (this project's own).
-use Rattle.std.specs.Prelude.{◌≡◌, ℕ, Bool, true, false, List, Option, Some, None, Vec}
+use Rattle.std.specs.Prelude.{◌≡◌, ℕ, Bool, true, false, List, [], Option, Some, None, Vec, MatchBool}
 use Rattle.std.specs.Option.{is_some}
 use Rattle.std.specs.declared.alloc.Global.{Global}
+use Rattle.droid_desk_arguments.specs.declared.verify.VerifyOptions.{VerifyOptions}
 use Rattle.droid_desk_comparison.specs.CheckedTrees.{ChecksTree, EndsCheck, options_for}
 use Rattle.droid_desk_comparison.specs.Heard.{Heard}
 use Rattle.droid_desk_comparison.specs.ListForms.{names_files_alone}
@@ -21,6 +22,7 @@ use Rattle.droid_desk_comparison.specs.walk_types.options.Options.{Options}
 use Rattle.droid_frame.specs.types.hash_kind.HashKind.TheVariants.{Nothing}
 use Rattle.droid_desk_verify.specs.Outcomes.{IsOutcome, WritesOutcome}
 use Rattle.droid_desk_verify.specs.VerifyEndings.{unchecked}
+use Rattle.droid_desk_verify.specs.WalkOptions.{walk_options}
 use Rattle.droid_desk_verify.specs.declared.lists.Lists.{Lists}
 use Rattle.droid_desk_verify.specs.declared.outcome.Outcome.{Outcome}
 use Rattle.droid_desk_verify.specs.declared.verification.Verified.{Verified}
@@ -57,3 +59,33 @@ module _ {T W O : Type 0} (observes : T → Observation → T → Type 0) (hears
     Unlisted : (fault : CheckFault)
         → EndsListing observes hears registry (options_for options Nothing) (names_files_alone lists.listed.form) fault old new
         → verified ≡ without_report (unchecked fault) → after ≡ before → VerifiesListing old new before after verified
+
+  -- ---- as the command does, with a tree that nobody looked at yet and nothing skipped
+
+  -- a tree and its watcher, before anything was heard
+  pub record Begins (tree : T) (watcher : W) (old_tree : T) (recorder : Recorder W) : Type 0 where
+    pub tree_is : old_tree ≡ tree
+    pub watcher_is : recorder.watcher ≡ watcher
+    pub none_skipped : recorder.skipped.items ≡ []
+    pub has_all : recorder.has_all ≡ true
+
+  -- the tree was read
+  pub record ReadsTree (tree : T) (watcher : W) (before after : O) (verified : Verified) : Type 0 where
+    pub old : Profiler T (Recorder W) ItemKeeper
+    pub new : Profiler T (Recorder W) ItemKeeper
+    pub begins : Begins tree watcher old.tree old.watcher
+    pub verifies : VerifiesTree old new before after verified
+
+  -- the tree was listed
+  pub record ListsTree (tree : T) (watcher : W) (before after : O) (verified : Verified) : Type 0 where
+    pub old : Profiler (NotedFiles T) (Recorder W) ItemKeeper
+    pub new : Profiler (NotedFiles T) (Recorder W) ItemKeeper
+    pub begins : Begins tree watcher old.tree.tree old.watcher
+    pub verifies : VerifiesListing old new before after verified
+
+-- The tree was listed with `--quick`, and otherwise read, with the limit and the matching of the options where formats are
+-- compared.
+abbrev pub VerifiesAs : {T W O : Type 0} → (T → Observation → T → Type 0) → (W → Heard → W → Type 0) → (O → Option (List ℕ)) → Contents → VerifyOptions → Lists → T → W → O → O → Verified → Type 0
+VerifiesAs observes hears contents registry options lists tree watcher before after verified =
+    let walk = walk_options (is_some lists.rows) options.limit options.match_all in
+    MatchBool options.quick (ListsTree observes hears contents registry walk lists tree watcher before after verified) (ReadsTree observes hears contents registry walk lists tree watcher before after verified)

@@ -1,18 +1,18 @@
 //! The comparison of a folder of this machine.
 
-ghost use Rattle.std.specs.Prelude.{◌≡◌, ◌≤◌};
+ghost use Rattle.std.specs.Prelude.{◌≡◌, ◌++◌, IfOk, codes, string_bytes};
+ghost use Rattle.droid_desk_verify.specs.Lists.{is_identified, listed_folder};
 
 use crate::lists::{Lists, read_lists};
-use crate::verification::{ClearLine, Verified, verify_listing, verify_tree};
+use crate::verification::{ClearLine, Verified, verify_as};
 use crate::verify_ending::VerifyEnding;
-use crate::walk_options::walk_options;
 use droid_desk_arguments::VerifyOptions;
 use droid_desk_comparison::{
-    Folder, ItemKeeper, ListForm, ManifestForm, NamedRegistry, NotedFiles, Options, Profiler,
-    Recorder, Registry, RegistryLine, Reporter, System, Verbosity, is_folder,
+    Folder, ListForm, ManifestForm, NamedRegistry, Registry, RegistryLine, Reporter, System,
+    Verbosity, is_folder,
 };
 use droid_frame::Noted;
-use std::alloc::AllocError;
+use std::alloc::{AllocError, Global};
 use std::fs::{self, File, Files};
 use std::io::{self, ErrorKind};
 use std::time::Clock;
@@ -71,8 +71,10 @@ where
     }
 }
 
-/// Whether formats are compared.
-fn is_identified(options: VerifyOptions<'_>) -> bool {
+/// Returns whether formats are compared.
+fn is_identified(options: VerifyOptions<'_>) -> bool
+    ensures { result ≡ is_identified options.entry }
+{
     options.identify && !options.quick
 }
 
@@ -93,11 +95,18 @@ where
 
 /// Returns whether a folder is a bag: it has a file `bagit.txt` (RFC 8493, section 2.1.1).
 fn is_bag<R: Files + AllocGlobal>(rt: &R, folder: &str) -> Result<bool, AllocError> {
-    let path = format!(in rt.alloc(); "{folder}/bagit.txt")?;
+    let path = bag_file(rt.alloc(), folder)?;
     match fs::metadata(rt, path.as_str()) {
         Ok(found) => Ok(found.is_file()),
         Err(_) => Ok(false),
     }
+}
+
+/// Returns the path of the file that makes a folder a bag.
+fn bag_file(alloc: Global, folder: &str) -> Result<String, AllocError>
+    ensures { IfOk result (λ path. string_bytes path ≡ folder.now ++ codes "/bagit.txt") }
+{
+    format!(in alloc; "{folder}/bagit.txt")
 }
 
 /// Compares the folder, and reports what differs.
@@ -113,14 +122,17 @@ where
 {
     match folder_of(rt, options.folder, lists.listed.form) {
         Ok(tree) => {
-            let verified = verify(rt, registry, options, verbosity, tree, lists);
+            let alloc = rt.alloc();
+            let reporter = Reporter::new(rt, alloc, verbosity);
+            let mut output = Noted::new(io::writer(rt));
+            let verified = verify_as(alloc, tree, reporter, &mut output, registry, options, lists);
             print_summary(rt, verbosity, verified)
         }
         Err(_) => VerifyEnding::NoMemory,
     }
 }
 
-/// Returns the folder whose files the list names: for the manifest of a bag, the folder `data` of it.
+/// Returns the folder whose files the list names.
 fn folder_of<'a, R>(
     rt: &'a R,
     folder: &str,
@@ -129,86 +141,20 @@ fn folder_of<'a, R>(
 where
     R: Files<File = File> + AllocGlobal,
 {
-    let alloc = rt.alloc();
+    let path = listed_folder(rt.alloc(), folder, form)?;
+    Folder::new(rt.alloc(), System::new(rt), path.as_str())
+}
+
+/// Returns the path of the folder whose files a list names: for the manifest of a bag, the folder `data` of it.
+fn listed_folder(alloc: Global, folder: &str, form: ListForm) -> Result<String, AllocError>
+    ensures { IfOk result (λ path. string_bytes path ≡ listed_folder folder.now form) }
+{
     match form {
-        ListForm::Checksum(ManifestForm::Bag) => {
-            let data = format!(in alloc; "{folder}/data")?;
-            Folder::new(alloc, System::new(rt), data.as_str())
-        }
+        ListForm::Checksum(ManifestForm::Bag) => format!(in alloc; "{folder}/data"),
         ListForm::Checksum(ManifestForm::Checksums) | ListForm::Profile => {
-            Folder::new(alloc, System::new(rt), folder)
+            String::from_str(alloc, folder)
         }
     }
-}
-
-/// Compares the folder: by the hashes of its files, or (`--quick`) by their sizes and moments. The report goes to standard
-/// output.
-fn verify<'a, R>(
-    rt: &'a R,
-    registry: &Registry,
-    options: VerifyOptions<'_>,
-    verbosity: Verbosity,
-    tree: FolderTree<'a, R>,
-    lists: Lists,
-) -> Verified
-where
-    R: Files<File = File> + Clock + Print + Eprint + AllocGlobal,
-{
-    let walk = walk_options(lists.rows.is_some(), options.limit, options.match_all);
-    if options.quick {
-        list_files(rt, registry, walk, verbosity, tree, lists)
-    } else {
-        read_files(rt, registry, walk, verbosity, tree, lists)
-    }
-}
-
-/// Compares the folder by the hashes of its files.
-fn read_files<'a, R>(
-    rt: &'a R,
-    registry: &Registry,
-    options: Options,
-    verbosity: Verbosity,
-    tree: FolderTree<'a, R>,
-    lists: Lists,
-) -> Verified
-where
-    R: Files<File = File> + Clock + Print + Eprint + AllocGlobal,
-    requires { options.scan_limit ≤ 65536 }
-{
-    let alloc = rt.alloc();
-    let mut output = Noted::new(io::writer(rt));
-    let mut profiler = Profiler {
-        alloc,
-        tree,
-        watcher: Recorder::new(alloc, Reporter::new(rt, alloc, verbosity)),
-        recipient: ItemKeeper::new(alloc, false, false),
-    };
-    verify_tree(&mut profiler, &mut output, registry, options, lists)
-}
-
-/// Compares the folder by the sizes and moments of its files.
-fn list_files<'a, R>(
-    rt: &'a R,
-    registry: &Registry,
-    options: Options,
-    verbosity: Verbosity,
-    tree: FolderTree<'a, R>,
-    lists: Lists,
-) -> Verified
-where
-    R: Files<File = File> + Clock + Print + Eprint + AllocGlobal,
-    requires { options.scan_limit ≤ 65536 }
-{
-    let alloc = rt.alloc();
-    let mut output = Noted::new(io::writer(rt));
-    let files = Vec::new(alloc);
-    let mut profiler = Profiler {
-        alloc,
-        tree: NotedFiles { tree, files },
-        watcher: Recorder::new(alloc, Reporter::new(rt, alloc, verbosity)),
-        recipient: ItemKeeper::new(alloc, false, false),
-    };
-    verify_listing(&mut profiler, &mut output, registry, options, lists)
 }
 
 /// Prints the summary, if there is a report, and returns the ending.

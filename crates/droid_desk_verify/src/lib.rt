@@ -13,5 +13,5 @@ pub use droid_desk_comparison::{NamedRegistry, RegistryFault, profile_folder};
 pub use folder_check::verify_folder;
 pub use lists::{Lists, read_lists};
 pub use outcome::{Outcome, outcome_of, write_outcome};
-pub use verification::{ClearLine, Verified, verify_listing, verify_tree};
+pub use verification::{ClearLine, Verified, verify_as, verify_listing, verify_tree};
 pub use verify_ending::VerifyEnding;

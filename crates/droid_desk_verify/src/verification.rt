@@ -3,11 +3,13 @@
 ghost use Rattle.std.specs.Prelude.{◌≡◌, ◌≤◌, ℕ};
 ghost use Rattle.droid_frame.specs.Seen.{Counts};
 ghost use Rattle.droid_desk_verify.specs.Outcomes.{ReportsUnwritten};
-ghost use Rattle.droid_desk_verify.specs.Verifications.{Finishes, VerifiesListing, VerifiesTree, without_report};
+ghost use Rattle.droid_desk_verify.specs.Verifications.{Finishes, ListsTree, ReadsTree, VerifiesAs, VerifiesListing, VerifiesTree, without_report};
 
 use crate::lists::Lists;
 use crate::outcome::{outcome_of, write_outcome};
 use crate::verify_ending::VerifyEnding;
+use crate::walk_options::walk_options;
+use droid_desk_arguments::VerifyOptions;
 use droid_desk_comparison::{
     Checked, FileFormats, FormatRow, ItemKeeper, NotedFiles, Options, Profiler, Recorder, Registry,
     SkippedEntry, Summary, Tree, Watcher, check_listing, check_tree,
@@ -28,6 +30,81 @@ pub struct Verified {
     pub ending: VerifyEnding,
     /// The summary, if there is a report.
     pub summary: Option<Summary>,
+}
+
+/// Compares a tree with a list as the options say, and writes what differs: by the hashes of its files, or (`quick`) by their
+/// sizes and moments.
+pub fn verify_as<T: Tree + Drop, W: Watcher + ClearLine + Drop, O: SteadyWrite>(
+    alloc: Global,
+    tree: T,
+    watcher: W,
+    output: &mut O,
+    registry: &Registry,
+    options: VerifyOptions<'_>,
+    lists: Lists,
+) -> Verified
+    // The tree is listed if that is asked for, and otherwise read; it is searched as the options say.
+    ensures verified { VerifiesAs T.observes W.hears O.contents registry.now options.entry lists tree watcher output.old output.new result }
+    ensures stopped { (start : ℕ) → Counts start (O.seen output.old) 0 → ReportsUnwritten start (O.seen output.new) (O.room output.new) result.ending }
+{
+    let walk = walk_options(lists.rows.is_some(), options.limit, options.match_all);
+    if options.quick {
+        list_files(alloc, tree, watcher, output, registry, walk, lists)
+    } else {
+        read_files(alloc, tree, watcher, output, registry, walk, lists)
+    }
+}
+
+/// Compares a tree by the hashes of its files.
+fn read_files<T: Tree + Drop, W: Watcher + ClearLine + Drop, O: SteadyWrite>(
+    alloc: Global,
+    tree: T,
+    watcher: W,
+    output: &mut O,
+    registry: &Registry,
+    options: Options,
+    lists: Lists,
+) -> Verified
+    requires { options.scan_limit ≤ 65536 }
+    ensures verified { ReadsTree T.observes W.hears O.contents registry.now options lists tree watcher output.old output.new result }
+    ensures stopped { (start : ℕ) → Counts start (O.seen output.old) 0 → ReportsUnwritten start (O.seen output.new) (O.room output.new) result.ending }
+{
+    let watcher = Recorder::new(alloc, watcher);
+    let recipient = ItemKeeper::new(alloc, false, false);
+    let mut profiler = Profiler {
+        alloc,
+        tree,
+        watcher,
+        recipient,
+    };
+    verify_tree(&mut profiler, output, registry, options, lists)
+}
+
+/// Compares a tree by the sizes and moments of its files.
+fn list_files<T: Tree + Drop, W: Watcher + ClearLine + Drop, O: SteadyWrite>(
+    alloc: Global,
+    tree: T,
+    watcher: W,
+    output: &mut O,
+    registry: &Registry,
+    options: Options,
+    lists: Lists,
+) -> Verified
+    requires { options.scan_limit ≤ 65536 }
+    ensures verified { ListsTree T.observes W.hears O.contents registry.now options lists tree watcher output.old output.new result }
+    ensures stopped { (start : ℕ) → Counts start (O.seen output.old) 0 → ReportsUnwritten start (O.seen output.new) (O.room output.new) result.ending }
+{
+    let files = Vec::new(alloc);
+    let tree = NotedFiles { tree, files };
+    let watcher = Recorder::new(alloc, watcher);
+    let recipient = ItemKeeper::new(alloc, false, false);
+    let mut profiler = Profiler {
+        alloc,
+        tree,
+        watcher,
+        recipient,
+    };
+    verify_listing(&mut profiler, output, registry, options, lists)
 }
 
 /// Reads a tree, compares it with a list, and writes what differs. Formats are compared if the list has rows for that.
