@@ -1,0 +1,6 @@
+pub mod ByPlace
+pub mod BareNodes
+pub mod BareVerdicts
+pub mod BareEnds
+pub mod EndedFiles
+mod Items

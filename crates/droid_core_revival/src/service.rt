@@ -1,0 +1,25 @@
+//! The service of recovered holdings.
+
+ghost use Rattle.std.specs.Prelude.{◌≡◌, IfOk};
+ghost use Rattle.droid_core.specs.Histories.{History, world_of};
+ghost use Rattle.droid_core.specs.Setting.{Setting};
+ghost use Rattle.droid_core.specs.Standing.{StandsFor, registry_of};
+ghost use Rattle.droid_core_bare.specs.BareWorlds.{Bare, HaveEnded};
+ghost use Rattle.droid_core_recovery.specs.Recovering.{Recovers};
+
+use droid_core::Service;
+use droid_core_recovery::Holdings;
+use std::alloc::AllocError;
+use std::num::NonZeroUsize;
+
+/// Makes a service of recovered holdings, which caches up to `places` replies. Once each bare file has ended, it stands for
+/// the history, as a service does that got all bytes: so it answers every request as that one does. Fails only if there is no
+/// memory.
+pub fn service_of(holdings: Holdings, places: NonZeroUsize) -> Result<Service, AllocError>
+    ensures stands { IfOk result (λ service. (setting : Setting) (bare : Bare) (history : History) → Recovers setting bare holdings history
+        → HaveEnded bare (world_of setting history) → StandsFor setting service history) }
+    ensures registry { IfOk result (λ service. registry_of service ≡ holdings.registry) }
+{
+    let service = Service::of(holdings, places)?;
+    Ok(service)
+}

@@ -1,0 +1,50 @@
+//! A name in a folder of this machine.
+
+use crate::exchange::Exchange;
+use droid_journal::{FileError, LogFile};
+use std::fs::{self, File, Files, OpenOptions};
+use std::io;
+
+/// A file's name in a folder of this machine, and that of the new file beside it.
+#[derive(Drop)]
+pub struct Folder<'a, R> {
+    runtime: &'a R,
+    path: &'a str,
+    beside: &'a str,
+}
+
+impl<'a, R: Files<File = File>> Folder<'a, R> {
+    /// Names the file, and the new file in the same folder.
+    pub fn new(runtime: &'a R, path: &'a str, beside: &'a str) -> Folder<'a, R> {
+        Folder {
+            runtime,
+            path,
+            beside,
+        }
+    }
+}
+
+/// Gives the new file the name, and brings the folder to the disk.
+fn rename_in<R: Files<File = File>>(runtime: &R, beside: &str, path: &str) -> io::Result<()> {
+    fs::rename(runtime, beside, path)?;
+    let folder = match path.rfind('/') {
+        Some(0) => "/",
+        Some(end) => &path[..end],
+        None => ".",
+    };
+    let folder = OpenOptions::new().read(true).open(runtime, folder)?;
+    folder.sync_all()
+}
+
+// Nothing is known of where a name leads, so each clause is met: that the machine renames in one step, and that a synced folder
+// keeps its names, is trusted.
+impl<'a, F: LogFile, R: Files<File = File>> Exchange<F> for Folder<'a, R> {
+    ghost may_lead = { λ folder bytes. ⊥ };
+
+    fn put(&mut self, _new: &F) -> Result<(), FileError> {
+        match rename_in(self.runtime, self.beside, self.path) {
+            Ok(()) => Ok(()),
+            Err(_) => Err(FileError),
+        }
+    }
+}
