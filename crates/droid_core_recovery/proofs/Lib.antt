@@ -1,6 +1,7 @@
 pub mod BareAssemblies
 pub mod BareRequests
 pub mod BareRows
+pub mod CameAgain
 pub mod NextEntries
 pub mod OneMore
 pub mod Starting

@@ -1,10 +1,10 @@
 //! Commands that need no bytes of a bare file.
 
-ghost use Rattle.std.specs.Prelude.{◌≡◌, ◌<◌, ◌^◌, ◌++◌, ◌∷◌, [], Err, None, MatchBool, true, false};
+ghost use Rattle.std.specs.Prelude.{◌≡◌, ◌<◌, ◌^◌, ◌++◌, ◌∷◌, [], Err, None, Some, MatchBool, true, false};
 ghost use Rattle.droid_core_bare.specs.BareWorlds.{Bare};
 ghost use Rattle.droid_core_recovery.specs.Recovering.{IsWhole, Recovers};
 ghost use Rattle.droid_core_requests.specs.Answering.{Answers};
-ghost use Rattle.droid_core_spec.specs.Histories.{Entry as Accepted, History};
+ghost use Rattle.droid_core_spec.specs.Histories.{Entry as Accepted, History, is_same_request, kept};
 ghost use Rattle.droid_core_spec.specs.Judging.{judge};
 ghost use Rattle.droid_core_spec.specs.MemoryFaults.{is_out_of_memory};
 ghost use Rattle.droid_core_spec.specs.Setting.{Setting};
@@ -15,27 +15,33 @@ ghost use Rattle.droid_frame.specs.Versions.{IsVersion};
 ghost use Rattle.droid_store.specs.Rows.{reply_for};
 
 use crate::fault::RecoveryFault;
-use crate::look_ups::see_new;
+use crate::look_ups::kept_row;
 use droid_core_requests::{
-    Holdings, Stamp, abandon, add_file, add_folder, create_profile, finish, reply_from, take_piece,
+    Holdings, Stamp, abandon, add_file, add_folder, answer_again, create_profile, finish,
+    reply_from, take_piece,
 };
 use droid_frame::{Filter, Refusal, Reply, Request};
 
-/// Handles an accepted command that needs no bytes of a bare file, and returns its reply. It is the one that the command got,
-/// or says that memory ran out.
+/// Handles an accepted command that needs no bytes of a bare file, or one that came again, and returns its reply. It is the
+/// one that the command got, or says that memory ran out.
 pub fn recover_command(holdings: &mut Holdings, stamp: Stamp, request: Request) -> Reply
     requires version { IsVersion stamp.version }
     ensures recovers { (setting : Setting) (bare : Bare) (history : History) (entry : Accepted) → Recovers setting bare holdings.old history
         → (is : IsWhole setting bare history entry stamp) → is.may.request ≡ request
         → MatchBool (is_out_of_memory result) (Recovers setting bare holdings.new history) ((result ≡ entry.reply) × Recovers setting bare holdings.new (history ++ entry ∷ [])) }
+    // One that came again changes nothing.
+    ensures again { (setting : Setting) (bare : Bare) (history : History) (entry : Accepted) → Recovers setting bare holdings.old history → stamp.number < 2 ^ 63
+        → kept history stamp.client stamp.number ≡ Some entry → is_same_request entry.frame.version entry.mark stamp.version stamp.mark ≡ true
+        → (is_out_of_memory result ≡ false → result ≡ entry.reply) × Recovers setting bare holdings.new history }
     // A refusal leaves them as recovered as they were.
     ensures still { (setting : Setting) (bare : Bare) (history : History) → Recovers setting bare holdings.old history → is_refused result ≡ true → Recovers setting bare holdings.new history }
     ensures spelled { HasReplySpelling stamp.version result }
 {
-    match see_new(&mut holdings.store, stamp) {
-        Ok(()) => reply_from(apply(holdings, stamp, request)),
+    match kept_row(&mut holdings.store, stamp) {
+        Ok(None) => reply_from(apply(holdings, stamp, request)),
+        Ok(Some(row)) => answer_again(holdings.alloc, row, stamp),
         Err(RecoveryFault::Memory) => Reply::Refused(Refusal::Memory),
-        Err(RecoveryFault::Unfit) => Reply::Refused(Refusal::NumberReused),
+        Err(RecoveryFault::Unfit) => Reply::Refused(Refusal::Malformed),
     }
 }
 

@@ -10,7 +10,23 @@ ghost use Rattle.droid_store.specs.declared.fault.StoreFault.TheVariants.{Memory
 use crate::fault::RecoveryFault;
 use droid_core_state::Stamp;
 use droid_frame::{HashValue, NUMBER_LIMIT, Text, Texts};
-use droid_store::{NodeState, Store, StoreFault};
+use droid_store::{Entry, NodeState, Store, StoreFault};
+
+/// Returns the row of the reply that is kept under the number of this stamp. `Unfit`: the number is not below 2^63.
+pub(crate) fn kept_row(store: &mut Store, stamp: Stamp) -> Result<Option<Entry>, RecoveryFault>
+    ensures same { store.new ≡ store.old }
+    ensures found { IfOk result (λ row. row ≡ reply_for stamp.client stamp.number store.old) }
+    ensures small { OnOk result (stamp.number < 2 ^ 63) }
+    ensures memory { stamp.number < 2 ^ 63 → IfErr result (λ fault. fault ≡ RecoveryFault.Memory) }
+{
+    if stamp.number >= NUMBER_LIMIT {
+        return Err(RecoveryFault::Unfit);
+    }
+    match store.reply_of(stamp.client, stamp.number) {
+        Ok(row) => Ok(row),
+        Err(_) => Err(RecoveryFault::Memory),
+    }
+}
 
 /// Checks that no reply is kept under the number of this stamp, and that the number is below 2^63.
 pub(crate) fn see_new(store: &mut Store, stamp: Stamp) -> Result<(), RecoveryFault>

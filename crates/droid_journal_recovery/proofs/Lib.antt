@@ -1,0 +1,6 @@
+pub mod Answered
+pub mod BareTakings
+pub mod Bodies
+pub mod Histories
+pub mod KeptFrames
+pub mod Takings

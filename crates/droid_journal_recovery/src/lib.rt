@@ -1,0 +1,11 @@
+//! Reading a journal that was made small: its records have no bytes of the pieces of finished and abandoned files.
+//!
+//! [`RecoveringMachine`] takes the records in order, as any machine of a journal. The service that is made of it stands for
+//! the history of the accepted requests, as one does that got them whole.
+#![tactic(auto)]
+
+mod machine;
+mod reading;
+mod taking;
+
+pub use machine::RecoveringMachine;
