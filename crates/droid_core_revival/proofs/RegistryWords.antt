@@ -16,6 +16,7 @@ IsPuid puid = IsTrue (is_puid puid)
 
 chosen_are : (P : ℕ → Type 0) (k : ℕ) (formats : List Format) (puids : List (List ℕ)) → Chosen P k formats puids → AllByRecursion (λ format. IsPuid format.puid) formats → AllByRecursion IsPuid puids
 chosen_are P k [] [] end are = tt
+chosen_are P k [] (puid ∷ puids) none are = elim none [ ]
 chosen_are P k (format ∷ formats) (puid ∷ puids) (chosen is rest) are = (are.0, chosen_are P _ formats puids rest are.1)
 chosen_are P k (format ∷ formats) puids (passed isnt rest) are = chosen_are P _ formats puids rest are.1
 
