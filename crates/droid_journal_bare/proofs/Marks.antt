@@ -1,5 +1,5 @@
 -- A mark is bytes.
-use Rattle.std.proofs.Common.{ℕ, zero, suc, ◌/◌, ◌%◌, ◌^◌, ◌<◌, List, length, arith}
+use Rattle.std.proofs.Common.{ℕ, zero, suc, ◌/◌, ◌%◌, ◌^◌, ◌<◌, List, ◌∷◌, length, arith}
 use Rattle.std.specs.Int.{byte_at, bytes_low_first, to_le_bytes, w32}
 use Rattle.std.specs.Prelude.{slice_index}
 use Rattle.md5.specs.Md5.{md5, digest_bytes, hash_after, padded_message}
@@ -26,4 +26,4 @@ words_bytes hash (suc count) =
 
 pub mark_is_bytes : (kind : ℕ) (body : List ℕ) → IsBytes (mark_of kind body)
 unfolding md5
-mark_is_bytes kind body = words_bytes (hash_after (padded_message _) (length (padded_message _) / 64)) 4
+mark_is_bytes kind body = words_bytes (hash_after (padded_message (kind ∷ body)) (length (padded_message (kind ∷ body)) / 64)) 4

@@ -40,7 +40,7 @@ of_parts frame kind front rest is small one other short = record {
 
 taken_is_short : (version : ℕ) (reply : Reply) → reply_kind reply ≡ 131 → length (reply_bytes version reply) ≤ 4
 taken_is_short version (Taken held) is = omega arith
-taken_is_short version _ is = absurd cc
+taken_is_short version _ is = absurd (omega (arith, is))
 
 truth_is_short : (b : Bool) → length (truth_bytes b) ≤ 1
 truth_is_short false = omega arith
@@ -55,7 +55,7 @@ hash_is_short values.Nothing is = omega arith
 hash_is_short (values.Md5 digest) is = omega (arith, is.0)
 hash_is_short (values.Sha256 digest) is = omega (arith, is.0)
 
-finished_is_short : (version : ℕ) (reply : Reply) → HasReplySpelling version reply → reply_kind reply ≡ 132 → length (reply_bytes version reply) ≤ 135204
+finished_is_short : (version : ℕ) (reply : Reply) → HasReplySpelling version reply → reply_kind reply ≡ 132 → length (reply_bytes version reply) ≤ 135205
 finished_is_short version (Finished method mismatch hash puids) fits is =
     let list : List ℕ = texts_bytes puids in
     let counted : List ℕ = u16_bytes (length puids) ++ list in
@@ -63,7 +63,7 @@ finished_is_short version (Finished method mismatch hash puids) fits is =
     omega (
       arith, fits.1, field, hash_is_short hash fits.0.1, puids_are_short puids fits.2, truth_is_short mismatch, length-append (hash_field version (hash_value_kind hash)) (hash_bytes hash),
       length-append (truth_bytes mismatch) (digest_bytes version hash ++ counted), length-append (digest_bytes version hash) counted, length-append (u16_bytes (length puids)) list)
-finished_is_short version _ fits is = absurd cc
+finished_is_short version _ fits is = absurd (omega (arith, is))
 
 -- ---- bare frames
 

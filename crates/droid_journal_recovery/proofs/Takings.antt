@@ -31,11 +31,11 @@ refused_memory (Refused refusal) is = refl
 refused_memory _ is = absurd cc
 
 pub taken_unrefused : (reply : Reply) → reply_kind reply ≡ 131 → is_refused reply ≡ true → ⊥
-taken_unrefused (Refused refusal) kind is = absurd cc
+taken_unrefused (Refused refusal) kind is = absurd (omega (arith, kind))
 taken_unrefused _ kind is = absurd cc
 
 pub finished_unrefused : (reply : Reply) → reply_kind reply ≡ 132 → is_refused reply ≡ true → ⊥
-finished_unrefused (Refused refusal) kind is = absurd cc
+finished_unrefused (Refused refusal) kind is = absurd (omega (arith, kind))
 finished_unrefused _ kind is = absurd cc
 
 -- the answer of a case split over memory, where it did not run out
