@@ -61,8 +61,17 @@ finished_is_short version (Finished method mismatch hash puids) fits is =
     let counted : List ℕ = u16_bytes (length puids) ++ list in
     let field : length (hash_field version (hash_value_kind hash)) ≤ 1 = kind_where (eqb version 1) (hash_value_kind hash) in
     omega (
-      arith, fits.1, field, hash_is_short hash fits.0.1, puids_are_short puids fits.2, truth_is_short mismatch, length-append (hash_field version (hash_value_kind hash)) (hash_bytes hash),
-      length-append (truth_bytes mismatch) (digest_bytes version hash ++ counted), length-append (digest_bytes version hash) counted, length-append (u16_bytes (length puids)) list)
+      arith,
+      fits.1,
+      field,
+      hash_is_short hash fits.0.1,
+      puids_are_short puids fits.2,
+      truth_is_short mismatch,
+      length-append (hash_field version (hash_value_kind hash)) (hash_bytes hash),
+      length-append (truth_bytes mismatch) (digest_bytes version hash ++ counted),
+      length-append (digest_bytes version hash) counted,
+      length-append (u16_bytes (length puids)) list,
+    )
 finished_is_short version _ fits is = absurd (omega (arith, is))
 
 -- ---- bare frames

@@ -72,7 +72,7 @@ module _ (frame : Frame) (kind : frame.kind ≡ 69) (readable : IsReadable frame
   -- it was read
   module _ (old new : Holdings) (stamp : Stamp) (number id : ℕ) (told : Reply)
       (its : (its : Frame) (r : Reply) (profile file : ℕ) → frame ≡ bare_finish its r → its.kind ≡ 5 → its.body ≡ u32_bytes profile ++ u32_bytes file → IsU32 profile → IsU32 file → SpellsReply its.version 132 (reply_bytes its.version r) r
-          → (stamp ≡ stamp_of its) × (number ≡ profile) × (id ≡ file) × (told ≡ r)) where
+      → (stamp ≡ stamp_of its) × (number ≡ profile) × (id ≡ file) × (told ≡ r)) where
     -- the entry's numbers are those that were read
     record Read (setting : Setting) (bare : Bare) (history : History) (entry : Entry) : Type 0 where
       here : IsBareFinish setting bare history entry stamp number id

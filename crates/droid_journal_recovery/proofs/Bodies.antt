@@ -4,7 +4,7 @@ use Rattle.std.proofs.lemmas.List.{take_at, drop_at, length-append}
 use Rattle.md5.proofs.StandardFacts.{length-md5}
 use Rattle.droid_frame.specs.Fields.{u32_bytes}
 use Rattle.droid_frame.specs.Frames.{mark_of}
-use Rattle.droid_frame.specs.Replies.{reply_bytes}
+use Rattle.droid_frame.specs.Replies.{SpellsReply, reply_bytes}
 use Rattle.droid_frame.specs.types.frame.Frame.{Frame}
 use Rattle.droid_frame.specs.types.reply.Reply.{Reply}
 use Rattle.droid_core_revival.specs.Changes.{stamp_of}
@@ -45,5 +45,15 @@ module _ (frame its : Frame) (reply : Reply) where
     pub profile_bytes : (front : List ℕ) → front ≡ its.body → take 4 front ≡ u32_bytes profile
     profile_bytes front same = ap (take 4) (same ∙ body)
 
-    pub file_bytes : (front : List ℕ) → front ≡ its.body → drop 4 front ≡ u32_bytes file
-    file_bytes front same = ap (drop 4) (same ∙ body)
+    pub file_bytes : (front : List ℕ) → front ≡ its.body → take 4 (drop 4 front) ≡ u32_bytes file
+    file_bytes front same = ap (λ (b : List ℕ). take 4 (drop 4 b)) (same ∙ body)
+
+-- the rest spells the reply, in the frame's version
+spelled_there : (version other kind : ℕ) (reply : Reply) (bytes : List ℕ) → version ≡ other → bytes ≡ reply_bytes other reply → SpellsReply other kind (reply_bytes other reply) reply → SpellsReply version kind bytes reply
+spelled_there version other kind reply bytes same is spelled = rw (same, is) spelled
+
+pub piece_reply : (frame its : Frame) (reply : Reply) (bytes : List ℕ) → frame ≡ bare_piece its reply → bytes ≡ reply_bytes its.version reply → SpellsReply its.version 131 (reply_bytes its.version reply) reply → SpellsReply frame.version 131 bytes reply
+piece_reply frame its reply bytes is same spelled = spelled_there frame.version its.version 131 reply bytes (ap (λ (f : Frame). f.version) is) same spelled
+
+pub finish_reply : (frame its : Frame) (reply : Reply) (bytes : List ℕ) → frame ≡ bare_finish its reply → bytes ≡ reply_bytes its.version reply → SpellsReply its.version 132 (reply_bytes its.version reply) reply → SpellsReply frame.version 132 bytes reply
+finish_reply frame its reply bytes is same spelled = spelled_there frame.version its.version 132 reply bytes (ap (λ (f : Frame). f.version) is) same spelled

@@ -1,5 +1,5 @@
 -- The frames that a journal has of its entries, told apart by their kinds.
-use Rattle.std.proofs.Common.{◌≡◌, inl, inr, ℕ, ◌<◌, ◌+◌, Bool, true, false, List, [], ◌++◌, length, Some, refl, sym, ap, subst, ◌∙◌, arith}
+use Rattle.std.proofs.Common.{◌≡◌, inl, inr, ℕ, ◌<◌, ◌+◌, if◌then◌else◌, Bool, true, false, List, [], ◌++◌, length, Some, refl, sym, ap, subst, ◌∙◌, arith}
 use Rattle.std.proofs.lemmas.List.{length-append}
 use Rattle.droid_frame.specs.Bodies.{SpellsRequest, request_body, request_kind}
 use Rattle.droid_frame.specs.Fields.{IsU32, u32_bytes}

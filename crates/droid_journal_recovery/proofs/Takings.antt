@@ -39,9 +39,9 @@ finished_unrefused (Refused refusal) kind is = absurd (omega (arith, kind))
 finished_unrefused _ kind is = absurd cc
 
 -- the answer of a case split over memory, where it did not run out
-not_memory : (b : Bool) {P Q : Type 0} → MatchBool b P Q → b ≡ false → Q
-not_memory true came isnt = absurd cc
-not_memory false came isnt = came
+not_memory : (b : Bool) (P Q : Type 0) → MatchBool b P Q → b ≡ false → Q
+not_memory true P Q came isnt = absurd cc
+not_memory false P Q came isnt = came
 
 some_is : {A : Type 0} {one other : A} → Some one ≡ Some other → one ≡ other
 some_is e = cc
@@ -83,9 +83,9 @@ module _ (frame : Frame) (no_piece : frame.kind ≡ 68 → ⊥) (no_finish : fra
   module _ (request : Request) (stamp : Stamp) (small : frame.number < 2 ^ 63) (spells : SpellsRequest frame.version frame.kind frame.body request) (stamped : stamp ≡ stamp_of frame) (old new : Holdings) (reply : Reply) where
     pub whole_takes :
         ((setting : Setting) (bare : Bare) (history : History) (entry : Entry) → Recovers setting bare old history → (is : IsWhole setting bare history entry stamp) → is.may.request ≡ request
-            → MatchBool (is_out_of_memory reply) (Recovers setting bare new history) ((reply ≡ entry.reply) × Recovers setting bare new (history ++ entry ∷ [])))
+        → MatchBool (is_out_of_memory reply) (Recovers setting bare new history) ((reply ≡ entry.reply) × Recovers setting bare new (history ++ entry ∷ [])))
         → ((setting : Setting) (bare : Bare) (history : History) (entry : Entry) → Recovers setting bare old history → stamp.number < 2 ^ 63 → kept history stamp.client stamp.number ≡ Some entry
-            → is_same_request entry.frame.version entry.mark stamp.version stamp.mark ≡ true → (is_out_of_memory reply ≡ false → reply ≡ entry.reply) × Recovers setting bare new history)
+        → is_same_request entry.frame.version entry.mark stamp.version stamp.mark ≡ true → (is_out_of_memory reply ≡ false → reply ≡ entry.reply) × Recovers setting bare new history)
         → ((setting : Setting) (bare : Bare) (history : History) → Recovers setting bare old history → is_refused reply ≡ true → Recovers setting bare new history)
         → HasReplySpelling stamp.version reply → Takes frame old new reply
     whole_takes first repeat still spelled = record {
@@ -93,7 +93,7 @@ module _ (frame : Frame) (no_piece : frame.kind ≡ 68 → ⊥) (no_finish : fra
           let here = whole_here setting bare history entry may frame same no_piece no_finish in
           let is : IsWhole setting bare history entry stamp = record { may = may.may; needs_none = here.0; stamped = stamped ∙ ap stamp_of here.1 } in
           let its : may.may.request ≡ request = some_is (sym may.may.asked ∙ ap command (sym here.1) ∙ asked frame request small spells) in
-          not_memory (is_out_of_memory reply) (first setting bare history entry was is its) isnt;
+          not_memory (is_out_of_memory reply) (Recovers setting bare new history) ((reply ≡ entry.reply) × Recovers setting bare new (history ++ entry ∷ [])) (first setting bare history entry was is its) isnt;
       again = λ setting bare history entry was came.
           repeat setting bare history entry was (rw stamped small) (rw stamped came.there) (rw stamped came.same);
       still = still;

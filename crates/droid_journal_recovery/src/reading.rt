@@ -93,7 +93,7 @@ pub(crate) fn read_finish(alloc: Global, frame: &Frame) -> Result<BareFinish, Re
         mark: mark(FINISH, front),
     };
     let profile = number_in(&front[..4]);
-    let file = number_in(&front[4..]);
+    let file = number_in(&front[4..FINISH_BODY]);
     match read_reply(alloc, frame, FINISHED, rest) {
         Ok(reply) => Ok(BareFinish {
             stamp,

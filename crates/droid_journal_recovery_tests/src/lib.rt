@@ -93,7 +93,10 @@ mod tests {
         ("1 4 piece 1 1 1 61676520", "taken 2\n"),
         ("1 7 piece 1 1 0 6d657373", "taken 3\n"),
         ("1 8 piece 1 1 2 64696765", "taken 4\n"),
-        ("1 9 finish 1 1", "finished Signature false f96b697d7cb7938d525a2f31aaf161d0 dev/1,dev/3\n"),
+        (
+            "1 9 finish 1 1",
+            "finished Signature false f96b697d7cb7938d525a2f31aaf161d0 dev/1,dev/3\n",
+        ),
         ("1 11 piece 1 3 0 61616161", "taken 1\n"),
         ("1 12 abandon 1 3", "abandoned\n"),
         ("1 3 piece 1 1 3 7375", "refused 2\n"),
@@ -101,7 +104,10 @@ mod tests {
         ("1 13 piece 1 3 0 61616161", "refused 4\n"),
         ("1 13 status 1 1", "progress 4 4\n"),
         ("1 13 piece 1 2 0 74747474", "taken 2\n"),
-        ("1 14 finish 1 2", "finished Extension false 07f5c7b86aa8717df7c8d9a93c4b3193 dev/4\n"),
+        (
+            "1 14 finish 1 2",
+            "finished Extension false 07f5c7b86aa8717df7c8d9a93c4b3193 dev/4\n",
+        ),
         ("1 15 export 1 0 1048576", RECORD_TEXT),
     ];
 

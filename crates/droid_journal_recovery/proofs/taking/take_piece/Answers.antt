@@ -7,8 +7,8 @@ returns-in-Err c =
 
 pub returns-in-Err-recover_piece : goal.returns-in-Err-recover_piece
 returns-in-Err-recover_piece c =
-    piece_unkept c.args.frame.now c.requires.kind c.requires.readable c.args.holdings.now c.recover_piece.new.holdings c.in-Ok.piece.stamp c.in-Ok.piece.reply c.in-Ok.ensures.its c.refused.result c.in-Err-recover_piece.fault
-    c.in-Err-recover_piece.ensures.memory c.in-Err-recover_piece.ensures.unchanged c.refused.ensures.memory (c.refused.ensures.spelled c.args.frame.now.version)
+    piece_unkept c.args.frame.now c.requires.kind c.requires.readable c.args.holdings.now c.recover_piece.new.holdings c.in-Ok.piece.stamp c.in-Ok.piece.reply c.in-Ok.ensures.its c.refused-in-Err-recover_piece.result c.in-Err-recover_piece.fault
+    c.in-Err-recover_piece.ensures.memory c.in-Err-recover_piece.ensures.unchanged c.refused-in-Err-recover_piece.ensures.memory (c.refused-in-Err-recover_piece.ensures.spelled c.args.frame.now.version)
 
 pub returns-in-Ok-recover_piece : goal.returns-in-Ok-recover_piece
 returns-in-Ok-recover_piece c =
