@@ -1,5 +1,5 @@
 -- A request that came again gets the reply that is kept.
-use Rattle.std.proofs.Common.{◌≡◌, ◌<◌, Bool, true, false, Option, Some, None, option_map, refl, sym, ap, subst, ◌∙◌}
+use Rattle.std.proofs.Common.{◌≡◌, Bool, true, false, Option, Some, None, option_map, refl, sym, ap, ◌∙◌}
 use Rattle.std.specs.Prelude.{MatchBool, ⊤}
 use Rattle.droid_frame.specs.Replies.{SpellsReply}
 use Rattle.droid_frame.specs.types.reply.Reply.{Reply}

@@ -1,5 +1,5 @@
 -- The replies to an accepted piece and to an accepted Finish.
-use Rattle.std.proofs.Common.{◌≡◌, ℕ, ◌+◌, ℤ, List, length, true, Option, Some, None, refl, sym, ap, subst, ◌∙◌}
+use Rattle.std.proofs.Common.{◌≡◌, ℕ, ◌+◌, ℤ, List, length, true, Option, Some, None, sym, ap, subst, ◌∙◌}
 use Rattle.std.specs.List.{AllByRecursion}
 use Rattle.droid_frame.specs.Replies.{reply_kind}
 use Rattle.droid_frame.specs.types.refusal.Refusal.{Refusal}

@@ -1,5 +1,5 @@
 -- What a registry finds are identifiers of its formats, and these are words.
-use Rattle.std.proofs.Common.{◌≡◌, inl, inr, ℕ, Bool, List, [], ◌∷◌, IsTrue, sym, subst}
+use Rattle.std.proofs.Common.{inl, inr, ℕ, Bool, List, [], ◌∷◌, IsTrue, sym, subst}
 use Rattle.std.specs.List.{AllByRecursion}
 use Rattle.droid_core.specs.Identified.{IsOf, found_in}
 use Rattle.droid_core.specs.Setting.{Setting}

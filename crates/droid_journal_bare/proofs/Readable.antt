@@ -1,12 +1,11 @@
 -- Bare frames are frames that a stream can carry.
 use Rattle.std.proofs.Common.{◌≡◌, ℕ, ◌+◌, ◌<◌, ◌≤◌, ◌^◌, Bool, true, false, cond, eqb, List, [], ◌∷◌, ◌++◌, length, arith}
 use Rattle.std.proofs.lemmas.List.{length-append}
-use Rattle.std.specs.List.{AllByRecursion}
 use Rattle.md5.proofs.StandardFacts.{length-md5}
 use Rattle.droid_frame.specs.Fields.{IsBytes, u16_bytes, truth_bytes}
 use Rattle.droid_frame.specs.Frames.{mark_of}
 use Rattle.droid_frame.specs.Hashes.{IsHashValue, hash_bytes, hash_field, hash_kind_bytes, hash_value_kind}
-use Rattle.droid_frame.specs.Replies.{HasReplySpelling, IsPuidText, digest_bytes, reply_bytes, reply_kind}
+use Rattle.droid_frame.specs.Replies.{HasReplySpelling, digest_bytes, reply_bytes, reply_kind}
 use Rattle.droid_frame.specs.Streams.{IsReadable}
 use Rattle.droid_frame.specs.TextLists.{texts_bytes}
 use Rattle.droid_frame.specs.types.frame.Frame.{Frame}

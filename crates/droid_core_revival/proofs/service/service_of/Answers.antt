@@ -1,4 +1,3 @@
-use Rattle.droid_core.specs.Histories.{world_of}
 use Rattle.droid_core_recovery.proofs.WholeWorlds.{in_whole_world}
 use Rattle.droid_core_revival.proofs.service.service_of.Goals as goal
 
