@@ -1,5 +1,5 @@
 -- What handling a bare frame comes to.
-use Rattle.std.proofs.Common.{◌≡◌, ℕ, true, [], ◌∷◌, ◌++◌, refl, sym, ap, subst, ◌∙◌}
+use Rattle.std.proofs.Common.{◌≡◌, ℕ, true, [], ◌∷◌, ◌++◌, sym, subst}
 use Rattle.droid_frame.specs.Fields.{IsU32, u32_bytes}
 use Rattle.droid_frame.specs.Replies.{HasReplySpelling, SpellsReply, reply_bytes, reply_kind}
 use Rattle.droid_frame.specs.Streams.{IsReadable}

@@ -1,6 +1,6 @@
 -- Records and one record more.
-use Rattle.std.proofs.Common.{◌≡◌, inl, inr, List, [], ◌∷◌, ◌++◌, refl, sym, ap, subst, ◌∙◌}
-use Rattle.droid_core.specs.Histories.{Entry, History}
+use Rattle.std.proofs.Common.{List, [], ◌∷◌, ◌++◌, refl, sym, subst}
+use Rattle.droid_core.specs.Histories.{History}
 use Rattle.droid_core.specs.Setting.{Setting}
 use Rattle.droid_core_revival.specs.BareWorlds.{Bare}
 use Rattle.droid_journal_chain.specs.Records.{Record}

@@ -1,17 +1,15 @@
 -- The frames that a journal has of its entries, told apart by their kinds.
-use Rattle.std.proofs.Common.{◌≡◌, inl, inr, ℕ, ◌<◌, ◌+◌, if◌then◌else◌, Bool, true, false, List, [], ◌++◌, length, Some, refl, sym, ap, subst, ◌∙◌, arith}
-use Rattle.std.proofs.lemmas.List.{length-append}
-use Rattle.droid_frame.specs.Bodies.{SpellsRequest, request_body, request_kind}
+use Rattle.std.proofs.Common.{◌≡◌, ℕ, ◌<◌, ◌+◌, if◌then◌else◌, Bool, true, false, List, [], ◌++◌, length, refl, sym, ap, subst, ◌∙◌, arith}
+use Rattle.droid_frame.specs.Bodies.{SpellsRequest, request_kind}
 use Rattle.droid_frame.specs.Fields.{IsU32, u32_bytes}
 use Rattle.droid_frame.specs.Frames.{frame_bytes}
 use Rattle.droid_frame.specs.Replies.{SpellsReply, reply_bytes, reply_kind}
 use Rattle.droid_frame.specs.Streams.{IsReadable}
 use Rattle.droid_frame.specs.types.frame.Frame.{Frame}
-use Rattle.droid_frame.specs.types.reply.Reply.{Reply}
 use Rattle.droid_frame.specs.types.request.Request.{Request}
 use Rattle.droid_frame.specs.types.request.Request.TheVariants as requests
 use Rattle.droid_frame.proofs.FrameLaws.{reported_frame}
-use Rattle.droid_core.specs.Histories.{Entry, History, IsNext, world_of}
+use Rattle.droid_core.specs.Histories.{Entry, History, world_of}
 use Rattle.droid_core.specs.Judging.{Accepted, judge}
 use Rattle.droid_core.specs.Setting.{Setting}
 use Rattle.droid_core_revival.proofs.Asked.{asks}
@@ -19,7 +17,7 @@ use Rattle.droid_core_revival.proofs.EndReplies.{finish_finds_words, finish_is_f
 use Rattle.droid_core_revival.specs.BareWorlds.{Bare, needs_bytes}
 use Rattle.droid_core_revival.specs.Changes.{stamp_of}
 use Rattle.droid_core_revival.specs.FoundWords.{FindsWords}
-use Rattle.droid_core_revival.specs.Recovering.{IsBareFinish, IsBarePiece, IsWhole}
+use Rattle.droid_core_revival.specs.Recovering.{IsBareFinish, IsBarePiece}
 use Rattle.droid_core_revival.specs.stamps.Stamp.{Stamp}
 use Rattle.droid_journal_bare.proofs.Readable.{finish_is_readable, piece_is_readable}
 use Rattle.droid_journal_bare.specs.BareFrames.{bare_finish, bare_piece}

@@ -1,5 +1,4 @@
-use Rattle.std.proofs.Common.{ap, length, refl, sym, subst, take, drop, ◌∙◌, arith}
-use Rattle.droid_frame.specs.Frames.{mark_of}
+use Rattle.std.proofs.Common.{ap, take, drop, ◌∙◌}
 use Rattle.droid_journal_recovery.proofs.Bodies.{file_bytes, finish_parts, finish_reply, finish_stamp, profile_bytes, stamp_with}
 use Rattle.droid_journal_recovery.proofs.reading.read_finish.Goals as goal
 

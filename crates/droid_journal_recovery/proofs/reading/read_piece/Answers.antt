@@ -1,5 +1,4 @@
-use Rattle.std.proofs.Common.{ap, length, refl, sym, subst, take, drop, ◌∙◌, arith}
-use Rattle.droid_frame.specs.Replies.{SpellsReply}
+use Rattle.std.proofs.Common.{ap, length, take, drop, ◌∙◌, arith}
 use Rattle.droid_journal_recovery.proofs.Bodies.{piece_parts, piece_reply, piece_stamp}
 use Rattle.droid_journal_recovery.proofs.reading.read_piece.Goals as goal
 

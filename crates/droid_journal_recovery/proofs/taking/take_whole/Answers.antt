@@ -1,4 +1,4 @@
-use Rattle.std.proofs.Common.{◌≡◌, ℕ, List, refl, ap, ◌∙◌}
+use Rattle.std.proofs.Common.{ℕ, List, refl, ap, ◌∙◌}
 use Rattle.droid_frame.specs.Frames.{mark_of}
 use Rattle.droid_core_revival.proofs.Asked.{nothing_asked}
 use Rattle.droid_core_revival.specs.stamps.Stamp.{Stamp}

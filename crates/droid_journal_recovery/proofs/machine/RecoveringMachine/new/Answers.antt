@@ -1,4 +1,4 @@
-use Rattle.std.proofs.Common.{[], ap, sym, subst, ◌∙◌}
+use Rattle.std.proofs.Common.{ap, sym, subst, ◌∙◌}
 use Rattle.droid_core.specs.Limits.{Limits}
 use Rattle.droid_core.specs.Histories.{History}
 use Rattle.droid_core_revival.proofs.Starting.{starts}
