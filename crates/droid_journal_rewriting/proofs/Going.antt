@@ -1,5 +1,5 @@
 -- Records at the front of bytes that are taken one after another.
-use Rattle.std.proofs.Common.{◌≡◌, ℕ, ◌+◌, ◌*◌, ◌<◌, ◌≤◌, Bool, List, [], ◌∷◌, ◌++◌, length, refl, sym, ap, subst, ◌∙◌, append_assoc, arith}
+use Rattle.std.proofs.Common.{◌≡◌, ℕ, ◌+◌, ◌*◌, ◌<◌, ◌≤◌, List, [], ◌∷◌, ◌++◌, length, refl, sym, ap, subst, ◌∙◌, append_assoc, arith}
 use Rattle.std.proofs.lemmas.List.{append-nil, length-append}
 use Rattle.droid_journal_chain.specs.Chains.{BeginsNoRecord, BeginsWith, chain_bytes, check_after}
 use Rattle.droid_journal_chain.specs.Records.{AllFit, Record, next_check, record_bytes}

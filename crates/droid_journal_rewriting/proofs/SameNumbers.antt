@@ -1,6 +1,5 @@
 -- A set of numbers.
-use Rattle.std.proofs.Common.{◌≡◌, ℕ, ◌<◌, Bool, true, false, cond, eqb, ltb, refl, arith}
-use Rattle.std.proofs.lemmas.Bool.{eqb-true, ltb-true}
+use Rattle.std.proofs.Common.{◌≡◌, ℕ, eqb, arith}
 use Rattle.std.specs.BTreeMap.{is_at}
 use Rattle.std.specs.Ordering.{nat_cmp}
 use Rattle.std.proofs.lemmas.Grind.{common_steps}

@@ -4,10 +4,10 @@ use Rattle.std.proofs.lemmas.Bool.{eqb-true}
 use Rattle.std.proofs.lemmas.List.{append-nil, map-append}
 use Rattle.std.proofs.lemmas.List.Folds.{list_any-append}
 use Rattle.droid_journal_bare.specs.BareFrames.{bare_finish_bytes, bare_piece_bytes}
-use Rattle.droid_journal_chain.specs.Records.{Record, made}
+use Rattle.droid_journal_chain.specs.Records.{Record}
 use Rattle.droid_journal_rewriting.specs.Fields.{file_in, is_about, stamp_in}
 use Rattle.droid_journal_rewriting.specs.Shortening.{has_stamp, once, smaller, smaller_by, smaller_request}
-use Rattle.droid_journal_rewriting.proofs.Ending.{or_none, or_swapped}
+use Rattle.droid_journal_rewriting.proofs.Ending.{or_swapped}
 
 -- ---- stamps
 

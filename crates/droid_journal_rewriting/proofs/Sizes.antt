@@ -1,5 +1,5 @@
 -- How many bytes a smaller journal has.
-use Rattle.std.proofs.Common.{◌≡◌, ℕ, ◌+◌, ◌*◌, ◌≤◌, Bool, true, false, cond, List, [], ◌∷◌, ◌++◌, length, drop, ltb, map, refl, sym, ap, subst, ◌∙◌, arith}
+use Rattle.std.proofs.Common.{◌≡◌, ℕ, ◌+◌, ◌*◌, ◌≤◌, Bool, true, false, cond, List, [], ◌∷◌, ◌++◌, length, map, refl, sym, ap, subst, ◌∙◌, arith}
 use Rattle.std.proofs.lemmas.Bool.{ltb-false}
 use Rattle.std.proofs.lemmas.List.{length-append, length-drop}
 use Rattle.std.proofs.lemmas.List.Sums.{sum_by-cons}
@@ -37,8 +37,13 @@ once_size f before (it ∷ its) =
 pub total_size : (header : List ℕ) (its : List Record) → length (journal_bytes header (shortened its)) ≤ length header + sum_by (λ it. size_of (smaller (has_ended its) it)) its
 total_size header its =
     let change : Record → Record = smaller (has_ended its) in
-    omega (arith, length-append header (chain_bytes (first_check header) (first_check header) (shortened its)), chain_size (first_check header) (first_check header) (shortened its), smaller_size change (once [] its),
-    once_size (λ it. size_of (change it)) [] its)
+    omega (
+      arith,
+      length-append header (chain_bytes (first_check header) (first_check header) (shortened its)),
+      chain_size (first_check header) (first_check header) (shortened its),
+      smaller_size change (once [] its),
+      once_size (λ it. size_of (change it)) [] its,
+    )
 
 -- ---- one record
 

@@ -1,5 +1,5 @@
 -- Writing records anew, one after another.
-use Rattle.std.proofs.Common.{◌≡◌, ℕ, Bool, true, false, ◌||◌, eqb, List, [], ◌∷◌, ◌++◌, refl, sym, ap, subst, ◌∙◌, append_assoc}
+use Rattle.std.proofs.Common.{◌≡◌, ℕ, Bool, true, false, ◌||◌, eqb, List, [], ◌∷◌, ◌++◌, sym, ap, subst, ◌∙◌}
 use Rattle.std.proofs.lemmas.List.{append-nil}
 use Rattle.droid_journal_chain.specs.Chains.{first_check, journal_bytes, last_check}
 use Rattle.droid_journal_chain.specs.Records.{AllFit, Fits, Record, made, next_check, record_bytes}

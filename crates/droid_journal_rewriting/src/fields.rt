@@ -1,19 +1,25 @@
 //! What the bytes of a record's frames tell.
 
-ghost use Rattle.std.specs.Prelude.{◌≡◌, ◌≤◌, ◌^◌, ◌<◌, length, true};
+ghost use Rattle.std.specs.Prelude.{◌≡◌, ◌≤◌, length, true};
 ghost use Rattle.droid_journal_rewriting.specs.Fields as specs;
 ghost use Rattle.droid_journal_rewriting.specs.Fields.{file_in, stamp_in};
 
-/// The kinds of the requests about a file.
+/// The kind of a piece.
 pub(crate) const PIECE: u8 = 4;
+
+/// The kind of a Finish.
 pub(crate) const FINISH: u8 = 5;
+
+/// The kind of an Abandon.
 pub(crate) const ABANDON: u8 = 6;
 
 /// The least bytes of a request about a file: the header of its frame, the profile and the file.
 const LEAST: usize = 26;
 
-/// The most bytes of a request's frame, and of a reply's.
+/// The most bytes of a request's frame.
 const LONGEST_REQUEST: usize = 4_194_386;
+
+/// The most bytes of a reply's frame.
 const LONGEST_REPLY: usize = 1_048_658;
 
 /// Returns the client and the number of a request, as one number.

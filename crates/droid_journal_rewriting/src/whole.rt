@@ -1,6 +1,6 @@
 //! Taking all records of a journal that has nothing behind them.
 
-ghost use Rattle.std.specs.Prelude.{◌≡◌, ◌≢◌, ◌<◌, ◌≤◌, ◌↔◌, ℕ, List, [], IfErr, IfOk, IsErrOf, IsTrue, OnOk, drop, length};
+ghost use Rattle.std.specs.Prelude.{◌≡◌, ◌≢◌, ◌<◌, ◌↔◌, ℕ, List, [], IfErr, IfOk, IsErrOf, IsTrue, OnOk, drop, length};
 ghost use Rattle.droid_journal.specs.Opening.{HasHeader};
 ghost use Rattle.droid_journal_chain.specs.Records.{Record};
 ghost use Rattle.droid_journal_rewriting.specs.Faults.{IsOfReading};

@@ -5,7 +5,6 @@ mod counter;
 mod memory_log;
 mod memory_name;
 mod sample;
-
 #[cfg(test)]
 mod smaller;
 

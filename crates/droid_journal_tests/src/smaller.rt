@@ -28,9 +28,7 @@ fn gives_the_smaller(alloc: Global, bytes: &[u8]) -> Result<bool, Fail> {
     let Ok(file) = made(alloc, bytes, HEADER, 2, &mut name)? else {
         return Ok(false);
     };
-    Ok(file.bytes.as_slice() == SMALLER.as_slice()
-        && file.synced == SMALLER.len()
-        && name.is_kept)
+    Ok(file.bytes.as_slice() == SMALLER.as_slice() && file.synced == SMALLER.len() && name.is_kept)
 }
 
 #[test]
@@ -110,7 +108,12 @@ fn damage_is_told(rt: HostRuntime) -> Result<(), Fail> {
     }
     let fault = fault_of(alloc, &bytes, HEADER, 99, 99)?;
     assert!(rt; is_behind(fault, 3));
-    assert!(rt; matches!(fault_of(alloc, WHOLE, b"0123456780", 99, 99)?, Some(RewriteFault::Header)));
+    assert!(rt;
+        matches!(
+            fault_of(alloc, WHOLE, b"0123456780", 99, 99)?,
+            Some(RewriteFault::Header)
+        )
+    );
     Ok(())
 }
 
@@ -118,10 +121,30 @@ fn damage_is_told(rt: HostRuntime) -> Result<(), Fail> {
 #[test]
 fn each_call_fails_in_turn(rt: HostRuntime) -> Result<(), Fail> {
     let alloc = rt.alloc();
-    assert!(rt; matches!(fault_of(alloc, WHOLE, HEADER, 0, 2)?, Some(RewriteFault::Write)));
-    assert!(rt; matches!(fault_of(alloc, WHOLE, HEADER, 1, 2)?, Some(RewriteFault::Exchange)));
-    assert!(rt; matches!(fault_of(alloc, WHOLE, HEADER, 2, 0)?, Some(RewriteFault::Exchange)));
-    assert!(rt; matches!(fault_of(alloc, WHOLE, HEADER, 2, 1)?, Some(RewriteFault::Exchange)));
+    assert!(rt;
+        matches!(
+            fault_of(alloc, WHOLE, HEADER, 0, 2)?,
+            Some(RewriteFault::Write)
+        )
+    );
+    assert!(rt;
+        matches!(
+            fault_of(alloc, WHOLE, HEADER, 1, 2)?,
+            Some(RewriteFault::Exchange)
+        )
+    );
+    assert!(rt;
+        matches!(
+            fault_of(alloc, WHOLE, HEADER, 2, 0)?,
+            Some(RewriteFault::Exchange)
+        )
+    );
+    assert!(rt;
+        matches!(
+            fault_of(alloc, WHOLE, HEADER, 2, 1)?,
+            Some(RewriteFault::Exchange)
+        )
+    );
     assert!(rt; matches!(fault_of(alloc, WHOLE, HEADER, 2, 2)?, None));
     Ok(())
 }

@@ -1,4 +1,4 @@
-use Rattle.std.proofs.Common.{◌≡◌, ℕ, List, [], refl, sym, ap, subst}
+use Rattle.std.proofs.Common.{◌≡◌, List, refl, subst}
 use Rattle.droid_journal_chain.specs.Chains.{journal_bytes}
 use Rattle.droid_journal_chain.specs.Records.{AllFit, Record}
 use Rattle.droid_journal_rewriting.specs.Shortening.{has_ended, shortened, smaller_by}

@@ -1,5 +1,4 @@
-use Rattle.std.proofs.Common.{◌≡◌, ◌∙◌, ℕ, Bool, List, [], ◌++◌, refl, sym, ap, subst}
-use Rattle.droid_journal_chain.specs.Chains.{journal_bytes}
+use Rattle.std.proofs.Common.{subst}
 use Rattle.droid_journal_rewriting.specs.Aims.{Aim}
 use Rattle.droid_journal_rewriting.proofs.Writing.{begun}
 use Rattle.droid_journal_rewriting.proofs.rewriting.write_anew.Goals as goal

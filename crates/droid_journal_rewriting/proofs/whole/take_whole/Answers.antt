@@ -1,4 +1,4 @@
-use Rattle.std.proofs.Common.{rules, ◌≡◌, ◌<◌, ℕ, [], length, refl, subst, arith}
+use Rattle.std.proofs.Common.{rules, ◌≡◌, ◌<◌, [], length, refl, subst, arith}
 use Rattle.std.specs.Prelude.{IsTrue}
 use Rattle.droid_journal.specs.Opening.{HasHeader}
 use Rattle.droid_journal_rewriting.specs.Shortening.{HasBehind}

@@ -1,7 +1,6 @@
-use Rattle.std.proofs.Common.{rules, ◌≡◌, ◌||◌, ◌∙◌, ℕ, Bool, true, false, eqb, List, [], ◌++◌, sym, ap, refl, append_assoc}
+use Rattle.std.proofs.Common.{rules, ◌≡◌, ◌||◌, ◌∙◌, ℕ, true, false, eqb, List, ◌++◌, sym, ap, refl, append_assoc}
 use Rattle.std.proofs.lemmas.List.{append-nil}
 use Rattle.droid_journal_chain.specs.Records.{made, record_bytes}
-use Rattle.droid_journal_rewriting.specs.Fields.{stamp_in}
 use Rattle.droid_journal_rewriting.specs.Numbers.{has_number}
 use Rattle.droid_journal_rewriting.specs.Shortening.{smaller_request}
 use Rattle.droid_journal_rewriting.proofs.Writing.{again, wrote}
