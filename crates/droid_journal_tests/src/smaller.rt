@@ -80,8 +80,8 @@ fn front_is_right(alloc: Global, len: usize) -> Result<bool, Fail> {
 #[test]
 fn each_front_is_told(rt: HostRuntime) -> Result<(), Fail> {
     let alloc = rt.alloc();
-    for step in 0..24usize {
-        assert!(rt; front_is_right(alloc, 40 * step)?);
+    for len in [0usize, 9, 11, 300, 900] {
+        assert!(rt; front_is_right(alloc, len)?);
     }
     for end in ENDS {
         assert!(rt; front_is_right(alloc, end)?);
