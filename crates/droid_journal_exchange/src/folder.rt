@@ -14,7 +14,7 @@ pub struct Folder<'a, R> {
 }
 
 impl<'a, R: Files<File = File>> Folder<'a, R> {
-    /// Names the file, and the new file in the same folder.
+    /// Names the file, and the new file. Both must be in one folder.
     pub fn new(runtime: &'a R, path: &'a str, beside: &'a str) -> Folder<'a, R> {
         Folder {
             runtime,
@@ -24,9 +24,8 @@ impl<'a, R: Files<File = File>> Folder<'a, R> {
     }
 }
 
-/// Gives the new file the name, and brings the folder to the disk.
-fn rename_in<R: Files<File = File>>(runtime: &R, beside: &str, path: &str) -> io::Result<()> {
-    fs::rename(runtime, beside, path)?;
+/// Syncs the folder of a path.
+fn sync_folder_of<R: Files<File = File>>(runtime: &R, path: &str) -> io::Result<()> {
     let folder = match path.rfind('/') {
         Some(0) => "/",
         Some(end) => &path[..end],
@@ -36,15 +35,25 @@ fn rename_in<R: Files<File = File>>(runtime: &R, beside: &str, path: &str) -> io
     folder.sync_all()
 }
 
+fn told(answer: io::Result<()>) -> Result<(), FileError> {
+    match answer {
+        Ok(()) => Ok(()),
+        Err(_) => Err(FileError),
+    }
+}
+
 // Nothing is known of where a name leads, so each clause is met: that the machine renames in one step, and that a synced folder
 // keeps its names, is trusted.
 impl<'a, F: LogFile, R: Files<File = File>> Exchange<F> for Folder<'a, R> {
+    ghost leads = { λ folder bytes. ⊥ };
+
     ghost may_lead = { λ folder bytes. ⊥ };
 
-    fn put(&mut self, _new: &F) -> Result<(), FileError> {
-        match rename_in(self.runtime, self.beside, self.path) {
-            Ok(()) => Ok(()),
-            Err(_) => Err(FileError),
-        }
+    fn rename(&mut self, _new: &F) -> Result<(), FileError> {
+        told(fs::rename(self.runtime, self.beside, self.path))
+    }
+
+    fn sync_folder(&mut self) -> Result<(), FileError> {
+        told(sync_folder_of(self.runtime, self.path))
     }
 }

@@ -3,6 +3,10 @@
 
 mod counter;
 mod memory_log;
+mod memory_name;
+mod sample;
+#[cfg(test)]
+mod smaller;
 
 #[cfg(test)]
 mod tests {

@@ -1,0 +1,9 @@
+pub mod SameNumbers
+pub mod Going
+pub mod Passing
+pub mod Wholes
+pub mod Ending
+pub mod Shortening
+pub mod BareSizes
+pub mod Sizes
+pub mod Writing

@@ -1,0 +1,87 @@
+-- Writing records anew, one after another.
+use Rattle.std.proofs.Common.{◌≡◌, ℕ, Bool, true, false, ◌||◌, eqb, List, [], ◌∷◌, ◌++◌, sym, ap, subst, ◌∙◌}
+use Rattle.std.proofs.lemmas.List.{append-nil}
+use Rattle.droid_journal_chain.specs.Chains.{first_check, journal_bytes, last_check}
+use Rattle.droid_journal_chain.specs.Records.{AllFit, Fits, Record, made, next_check, record_bytes}
+use Rattle.droid_journal_chain.proofs.Chains.{fit_append, journal_one, last_one}
+use Rattle.droid_journal_rewriting.specs.Aims.{Aim}
+use Rattle.droid_journal_rewriting.specs.Fields.{file_in, stamp_in}
+use Rattle.droid_journal_rewriting.specs.Numbers.{has_number}
+use Rattle.droid_journal_rewriting.specs.Shortening.{has_stamp, smaller, smaller_by, smaller_request}
+use Rattle.droid_journal_rewriting.specs.Writing.{IsWriting}
+use Rattle.droid_journal_rewriting.specs.declared.rewriter.Rewriter.{Rewriter}
+use Rattle.droid_journal_rewriting.proofs.Shortening.{smaller_as_before, smaller_one_more, smaller_same, stamps_as_before, stamps_one_more}
+
+module _ {N : Type 0} (has : N → List ℕ → Type 0) (aim : Aim) where
+  abbrev so_far : List Record → List Record
+  so_far its = smaller_by aim.ended its
+
+  -- only the header is collected
+  pub begun : (rewriter : Rewriter N) → has rewriter.file [] → rewriter.out.items ≡ aim.header → rewriter.start ≡ first_check aim.header → rewriter.check ≡ first_check aim.header
+      → ((file : ℕ) → has_number rewriter.ended file ≡ aim.ended file) → ((stamp : ℕ) → has_number rewriter.stamps stamp ≡ false) → IsWriting has aim rewriter []
+  begun rewriter there out start check ended none = record {
+    written = [];
+    there = there;
+    joined = out ∙ sym (append-nil aim.header);
+    start_is = start;
+    check_is = check;
+    fit = tt;
+    ended_are = ended;
+    stamps_are = none;
+  }
+
+  -- a request that comes again
+  pub again : (rewriter : Rewriter N) (before : List Record) (it : Record) → IsWriting has aim rewriter before → has_number rewriter.stamps (stamp_in it.request) ≡ true → IsWriting has aim rewriter (before ++ it ∷ [])
+  again rewriter before it writing noted =
+      let known : has_stamp before (stamp_in it.request) ≡ true = sym (writing.stamps_are (stamp_in it.request)) ∙ noted in
+      let same : so_far before ≡ so_far (before ++ it ∷ []) = sym (smaller_as_before aim.ended before it known) in
+      record {
+        written = writing.written;
+        there = writing.there;
+        joined = writing.joined ∙ ap (journal_bytes aim.header) same;
+        start_is = writing.start_is;
+        check_is = writing.check_is ∙ ap (last_check aim.header) same;
+        fit = subst AllFit same writing.fit;
+        ended_are = writing.ended_are;
+        stamps_are = λ stamp. writing.stamps_are stamp ∙ sym (stamps_as_before before it stamp known);
+      }
+
+  -- a new one
+  module _ (old new : Rewriter N) (before : List Record) (first : Bool) (request reply : List ℕ) (writing : IsWriting has aim old before) (unknown : has_number old.stamps (stamp_in request) ≡ false) (stamps : (stamp : ℕ) → has_number new.stamps stamp ≡ (eqb (stamp_in request) stamp || has_number old.stamps stamp)) (ended : new.ended ≡ old.ended) (start : new.start ≡ old.start) (check : new.check ≡ next_check old.start old.check (made true (smaller_request (has_number old.ended) request reply) reply)) (fits : Fits (made true (smaller_request (has_number old.ended) request reply) reply)) where
+    abbrev it : Record
+    it = made first request reply
+
+    abbrev one : Record
+    one = smaller aim.ended it
+
+    one_is : made true (smaller_request (has_number old.ended) request reply) reply ≡ one
+    one_is = ap (λ (r : List ℕ). made true r reply) (smaller_same (has_number old.ended) aim.ended request reply (writing.ended_are (file_in request)))
+
+    more : so_far before ++ one ∷ [] ≡ so_far (before ++ it ∷ [])
+    more = sym (smaller_one_more aim.ended before it (sym (writing.stamps_are (stamp_in request)) ∙ unknown))
+
+    spelled : record_bytes old.start old.check (made true (smaller_request (has_number old.ended) request reply) reply) ≡ record_bytes (first_check aim.header) (last_check aim.header (so_far before)) one
+    spelled =
+        ap (record_bytes old.start old.check) one_is ∙ ap (λ (s : List ℕ). record_bytes s old.check one) writing.start_is ∙ ap (λ (k : List ℕ). record_bytes (first_check aim.header) k one) writing.check_is
+
+    -- what is written and what is collected are all records
+    pub joins : (written collected : List ℕ) → written ++ collected ≡ (writing.written ++ old.out.items) ++ record_bytes old.start old.check (made true (smaller_request (has_number old.ended) request reply) reply)
+        → written ++ collected ≡ journal_bytes aim.header (so_far (before ++ it ∷ []))
+    joins written collected is =
+        is ∙ ap (λ (t : List ℕ). t ++ record_bytes old.start old.check (made true (smaller_request (has_number old.ended) request reply) reply)) writing.joined ∙ ap (λ (t : List ℕ). journal_bytes aim.header (so_far before) ++ t) spelled
+        ∙ sym (journal_one aim.header (so_far before) one) ∙ ap (journal_bytes aim.header) more
+
+    pub wrote : (written : List ℕ) → has new.file written → written ++ new.out.items ≡ (writing.written ++ old.out.items) ++ record_bytes old.start old.check (made true (smaller_request (has_number old.ended) request reply) reply)
+        → IsWriting has aim new (before ++ it ∷ [])
+    wrote written there is = record {
+      written = written;
+      there = there;
+      joined = joins written new.out.items is;
+      start_is = start ∙ writing.start_is;
+      check_is =
+          check ∙ ap (next_check old.start old.check) one_is ∙ ap (λ (s : List ℕ). next_check s old.check one) writing.start_is ∙ ap (λ (k : List ℕ). next_check (first_check aim.header) k one) writing.check_is
+          ∙ sym (last_one aim.header (so_far before) one) ∙ ap (last_check aim.header) more;
+      fit = subst AllFit more (fit_append (so_far before) (one ∷ []) writing.fit (subst Fits one_is fits, tt));
+      ended_are = λ file. ap (λ (e : _). has_number e file) ended ∙ writing.ended_are file;
+      stamps_are = λ stamp. stamps stamp ∙ ap (λ (b : Bool). eqb (stamp_in request) stamp || b) (writing.stamps_are stamp) ∙ sym (stamps_one_more before it stamp);
+    }

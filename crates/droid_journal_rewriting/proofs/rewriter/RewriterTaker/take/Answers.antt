@@ -1,0 +1,36 @@
+use Rattle.std.proofs.Common.{rules, ◌≡◌, ◌||◌, ◌∙◌, ℕ, true, false, eqb, List, ◌++◌, sym, ap, refl, append_assoc}
+use Rattle.std.proofs.lemmas.List.{append-nil}
+use Rattle.droid_journal_chain.specs.Records.{made, record_bytes}
+use Rattle.droid_journal_rewriting.specs.Numbers.{has_number}
+use Rattle.droid_journal_rewriting.specs.Shortening.{smaller_request}
+use Rattle.droid_journal_rewriting.proofs.Writing.{again, wrote}
+use Rattle.droid_journal_rewriting.proofs.rewriter.RewriterTaker.take.Goals as goal
+
+pub returns-then-has-clause-took : goal.returns-then-has-clause-took
+returns-then-has-clause-took g c = λ aim before first st.
+    let told : c.has.result ≡ true = search rules in
+    again g.N.LogFile.has aim c.args.self.now before (made first c.args.request.now c.args.reply.now) st
+    (ap (has_number c.args.self.now.stamps) (sym c.stamp_of-stamp.ensures) ∙ sym c.has.ensures ∙ told)
+
+pub returns-then-len-lt-COLLECTED-clause-took : goal.returns-then-len-lt-COLLECTED-clause-took
+returns-then-len-lt-COLLECTED-clause-took g c = λ aim before first st.
+    let self = c.args.self.now in
+    let told : c.has.result ≡ false = search rules in
+    let one : List ℕ = record_bytes self.start self.check (made true (smaller_request (has_number self.ended) c.args.request.now c.args.reply.now) c.args.reply.now) in
+    wrote g.N.LogFile.has aim self _ before first c.args.request.now c.args.reply.now st
+    (ap (has_number self.stamps) (sym c.stamp_of-stamp.ensures) ∙ sym c.has.ensures ∙ told)
+    (λ n. c.in-Ok.ensures n ∙ ap (λ (k : ℕ). eqb k n || has_number self.stamps n) c.stamp_of-stamp.ensures)
+    refl refl c.in-Ok-spell.ensures.check c.in-Ok-spell.ensures.fits st.written st.there
+    (ap (λ (t : List ℕ). st.written ++ t) c.in-Ok-spell.ensures.bytes ∙ sym (append_assoc st.written self.out.items one))
+
+pub returns-in-Ok-flush-clause-took : goal.returns-in-Ok-flush-clause-took
+returns-in-Ok-flush-clause-took g c = λ aim before first st.
+    let self = c.args.self.now in
+    let told : c.has.result ≡ false = search rules in
+    let one : List ℕ = record_bytes self.start self.check (made true (smaller_request (has_number self.ended) c.args.request.now c.args.reply.now) c.args.reply.now) in
+    let all : List ℕ = st.written ++ c.spell.new.out.items in
+    wrote g.N.LogFile.has aim self _ before first c.args.request.now c.args.reply.now st
+    (ap (has_number self.stamps) (sym c.stamp_of-stamp.ensures) ∙ sym c.has.ensures ∙ told)
+    (λ n. c.in-Ok.ensures n ∙ ap (λ (k : ℕ). eqb k n || has_number self.stamps n) c.stamp_of-stamp.ensures)
+    refl refl c.in-Ok-spell.ensures.check c.in-Ok-spell.ensures.fits all (c.in-Ok-flush.ensures.written st.written st.there)
+    (ap (λ (t : List ℕ). all ++ t) c.in-Ok-flush.ensures.empty ∙ append-nil all ∙ ap (λ (t : List ℕ). st.written ++ t) c.in-Ok-spell.ensures.bytes ∙ sym (append_assoc st.written self.out.items one))

@@ -1,0 +1,7 @@
+-- For proofs: what a journal is written anew by.
+use Rattle.std.specs.Prelude.{ℕ, Bool, List}
+
+-- the header of the file, and which files have ended
+pub record Aim : Type 0 where
+  pub header : List ℕ
+  pub ended : ℕ → Bool

@@ -1,0 +1,9 @@
+-- A journal that is made smaller.
+pub mod Fields
+pub mod Shortening
+pub mod Sizes
+pub mod Numbers
+pub mod Faults
+pub mod Taking
+pub mod Aims
+pub mod Writing

@@ -1,0 +1,19 @@
+-- For proofs: records that were written anew.
+use Rattle.std.specs.Prelude.{◌≡◌, ℕ, List, ◌++◌}
+use Rattle.droid_journal_chain.specs.Chains.{first_check, journal_bytes, last_check}
+use Rattle.droid_journal_chain.specs.Records.{AllFit, Record}
+use Rattle.droid_journal_rewriting.specs.Aims.{Aim}
+use Rattle.droid_journal_rewriting.specs.Numbers.{has_number}
+use Rattle.droid_journal_rewriting.specs.Shortening.{has_stamp, smaller_by}
+use Rattle.droid_journal_rewriting.specs.declared.rewriter.Rewriter.{Rewriter}
+
+-- These records were written anew, but for what is collected. The files that have ended and the stamps so far are noted.
+pub record IsWriting {N : Type 0} (has : N → List ℕ → Type 0) (aim : Aim) (rewriter : Rewriter N) (its : List Record) : Type 0 where
+  pub written : List ℕ
+  pub there : has rewriter.file written
+  pub joined : written ++ rewriter.out.items ≡ journal_bytes aim.header (smaller_by aim.ended its)
+  pub start_is : rewriter.start ≡ first_check aim.header
+  pub check_is : rewriter.check ≡ last_check aim.header (smaller_by aim.ended its)
+  pub fit : AllFit (smaller_by aim.ended its)
+  pub ended_are : (file : ℕ) → has_number rewriter.ended file ≡ aim.ended file
+  pub stamps_are : (stamp : ℕ) → has_number rewriter.stamps stamp ≡ has_stamp its stamp

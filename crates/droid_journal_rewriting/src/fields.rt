@@ -1,0 +1,91 @@
+//! What the bytes of a record's frames tell.
+
+ghost use Rattle.std.specs.Prelude.{◌≡◌, ◌≤◌, length, true};
+ghost use Rattle.droid_journal_rewriting.specs.Fields as specs;
+ghost use Rattle.droid_journal_rewriting.specs.Fields.{file_in, stamp_in};
+
+/// The kind of a piece.
+pub(crate) const PIECE: u8 = 4;
+
+/// The kind of a Finish.
+pub(crate) const FINISH: u8 = 5;
+
+/// The kind of an Abandon.
+pub(crate) const ABANDON: u8 = 6;
+
+/// The least bytes of a request about a file: the header of its frame, the profile and the file.
+const LEAST: usize = 26;
+
+/// The most bytes of a request's frame.
+const LONGEST_REQUEST: usize = 4_194_386;
+
+/// The most bytes of a reply's frame.
+const LONGEST_REPLY: usize = 1_048_658;
+
+/// Returns the client and the number of a request, as one number.
+pub(crate) fn stamp_of(request: &[u8]) -> u128
+    requires { 18 ≤ length request.now }
+    ensures { result ≡ stamp_in request.now }
+{
+    let client = client_of(&request[2..]);
+    let number = number_of(&request[6..]);
+    u128::from(client) * 18_446_744_073_709_551_616 + u128::from(number)
+}
+
+/// Returns the profile and the file of a request about a file, as one number.
+pub(crate) fn file_of(request: &[u8]) -> u128
+    requires { 26 ≤ length request.now }
+    ensures { result ≡ file_in request.now }
+{
+    u128::from(number_of(&request[18..]))
+}
+
+/// Reads the first four bytes.
+fn client_of(bytes: &[u8]) -> u32
+    requires { 4 ≤ length bytes.now }
+    ensures { result ≡ specs.client_at bytes.now }
+{
+    let (front, _) = bytes.split_at(4);
+    u32::from_be_bytes([front[0], front[1], front[2], front[3]])
+}
+
+/// Reads the first eight bytes.
+fn number_of(bytes: &[u8]) -> u64
+    requires { 8 ≤ length bytes.now }
+    ensures { result ≡ specs.number_at bytes.now }
+{
+    let (front, _) = bytes.split_at(8);
+    u64::from_be_bytes([
+        front[0], front[1], front[2], front[3], front[4], front[5], front[6], front[7],
+    ])
+}
+
+/// Returns whether a request is of this kind and about a file. Neither it nor its reply is longer than a frame can be.
+pub(crate) fn is_about(kind: u8, request: &[u8], reply: &[u8]) -> bool
+    ensures test { result ≡ specs.is_about kind request.now reply.now }
+    ensures least { result ≡ true → 26 ≤ length request.now }
+    ensures request { result ≡ true → length request.now ≤ 4194386 }
+    ensures reply { result ≡ true → length reply.now ≤ 1048658 }
+{
+    if request.len() < LEAST {
+        return false;
+    }
+    if request.len() > LONGEST_REQUEST {
+        return false;
+    }
+    if reply.len() > LONGEST_REPLY {
+        return false;
+    }
+    request[1] == kind
+}
+
+/// Returns whether a request is the Finish or the Abandon of a file.
+pub(crate) fn is_end(request: &[u8], reply: &[u8]) -> bool
+    ensures test { result ≡ specs.is_end request.now reply.now }
+    ensures least { result ≡ true → 26 ≤ length request.now }
+{
+    if is_about(FINISH, request, reply) {
+        return true;
+    }
+    is_about(ABANDON, request, reply)
+}

@@ -1,0 +1,142 @@
+//! Writing records anew.
+
+ghost use Rattle.std.specs.Prelude.{◌≡◌, ◌+◌, ◌≤◌, ◌++◌, ℕ, [], List, IfErr, IfOk, IfSome, MatchOption, OnOk, length, true};
+ghost use Rattle.droid_journal_chain.specs.Records.{Fits, made, next_check, record_bytes};
+ghost use Rattle.droid_journal_rewriting.specs.Numbers.{has_number};
+ghost use Rattle.droid_journal_rewriting.specs.Shortening.{smaller_request};
+
+use crate::fault::RewriteFault;
+use crate::fields::{FINISH, PIECE, file_of, is_about, stamp_of};
+use crate::numbers::Numbers;
+use crate::taker::Taker;
+use droid_journal::LogFile;
+use droid_journal_bare::{bare_finish, bare_piece};
+use droid_journal_chain::record;
+use std::alloc::{AllocError, Global};
+
+/// How many bytes are collected before they are written.
+const COLLECTED: usize = 1_048_576;
+
+/// Writes records anew into a file.
+#[derive(Drop)]
+pub(crate) struct Rewriter<N: LogFile> {
+    pub(crate) alloc: Global,
+    /// The files that have ended.
+    pub(crate) ended: Numbers,
+    /// The clients and numbers of the requests so far.
+    pub(crate) stamps: Numbers,
+    pub(crate) file: N,
+    /// What is not written yet.
+    pub(crate) out: Vec<u8>,
+    pub(crate) start: [u8; 16],
+    /// The check value of the last record.
+    pub(crate) check: [u8; 16],
+}
+
+/// Returns the bare request in the place of one that only an unfinished file needs, and `None` if the request stays.
+fn bare_of(
+    alloc: Global,
+    ended: &Numbers,
+    request: &[u8],
+    reply: &[u8],
+) -> Result<Option<Vec<u8>>, AllocError>
+    requires header { 18 ≤ length request.now }
+    ensures bare { IfOk result (λ bare. MatchOption bare (smaller_request (has_number ended.now) request.now reply.now ≡ request.now)
+        (λ bytes. bytes.items ≡ smaller_request (has_number ended.now) request.now reply.now)) }
+    ensures least { IfOk result (λ bare. IfSome bare (λ bytes. 18 ≤ length bytes.items)) }
+    ensures most { IfOk result (λ bare. IfSome bare (λ bytes. length bytes.items + length reply.now + 25 ≤ 8388608)) }
+{
+    if is_about(PIECE, request, reply) {
+        let its = file_of(request);
+        if !ended.has(its) {
+            return Ok(None);
+        }
+        let bare = bare_piece(alloc, request, reply)?;
+        return Ok(Some(bare));
+    }
+    if !is_about(FINISH, request, reply) {
+        return Ok(None);
+    }
+    let file = file_of(request);
+    if !ended.has(file) {
+        return Ok(None);
+    }
+    let bare = bare_finish(alloc, request, reply)?;
+    Ok(Some(bare))
+}
+
+/// Appends the record of a request to a buffer, bare if its file has ended, and returns its check value.
+fn spell(
+    alloc: Global,
+    ended: &Numbers,
+    out: &mut Vec<u8>,
+    start: [u8; 16],
+    check: [u8; 16],
+    request: &[u8],
+    reply: &[u8],
+) -> Result<[u8; 16], AllocError>
+    requires header { 18 ≤ length request.now }
+    requires size { length request.now + length reply.now + 25 ≤ 8388608 }
+    ensures bytes { OnOk result (out.new.items ≡ out.old.items ++ record_bytes start check (made true (smaller_request (has_number ended.now) request.now reply.now) reply.now)) }
+    ensures check { IfOk result (λ next. next ≡ next_check start check (made true (smaller_request (has_number ended.now) request.now reply.now) reply.now)) }
+    ensures fits { OnOk result (Fits (made true (smaller_request (has_number ended.now) request.now reply.now) reply.now)) }
+{
+    match bare_of(alloc, ended, request, reply)? {
+        Some(bare) => record(out, &start, &check, true, &bare, reply),
+        None => record(out, &start, &check, true, request, reply),
+    }
+}
+
+/// Writes what was collected.
+pub(crate) fn flush<N: LogFile>(file: &mut N, out: &mut Vec<u8>) -> Result<(), RewriteFault>
+    ensures written { (s : List ℕ) → N.has file.old s → OnOk result (N.has file.new (s ++ out.old.items)) }
+    ensures empty { OnOk result (out.new.items ≡ []) }
+    ensures fault { IfErr result (λ fault. fault ≡ RewriteFault.Write) }
+{
+    match file.append(out.as_slice()) {
+        Ok(()) => {}
+        Err(_) => return Err(RewriteFault::Write),
+    }
+    out.clear();
+    Ok(())
+}
+
+impl<N: LogFile> Taker for Rewriter<N> {
+    ghost use Rattle.droid_journal_rewriting.specs.Aims.{Aim};
+    ghost use Rattle.droid_journal_rewriting.specs.Writing.{IsWriting};
+
+    ghost Setting = { Aim };
+
+    ghost took = { λ aim rewriter its. IsWriting N.has aim rewriter its };
+
+    fn take(&mut self, request: &[u8], reply: &[u8]) -> Result<(), RewriteFault> {
+        let stamp = stamp_of(request);
+        if self.stamps.has(stamp) {
+            return Ok(());
+        }
+        match self.stamps.add(stamp) {
+            Ok(()) => {}
+            Err(_) => return Err(RewriteFault::Memory),
+        }
+        let (start, check) = (self.start, self.check);
+        match spell(
+            self.alloc,
+            &self.ended,
+            &mut self.out,
+            start,
+            check,
+            request,
+            reply,
+        ) {
+            Ok(next) => self.check = next,
+            Err(_) => return Err(RewriteFault::Memory),
+        }
+        if self.out.len() < COLLECTED {
+            return Ok(());
+        }
+        match flush(&mut self.file, &mut self.out) {
+            Ok(()) => Ok(()),
+            Err(_) => Err(RewriteFault::Write),
+        }
+    }
+}

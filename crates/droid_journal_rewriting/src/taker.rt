@@ -1,0 +1,24 @@
+//! What takes the records of a file, one after another.
+
+ghost use Rattle.std.specs.Prelude.{◌+◌, ◌≤◌, ◌++◌, ◌∷◌, [], Bool, List, length, IfErr, OnOk};
+ghost use Rattle.droid_journal_chain.specs.Records.{Record, made};
+
+use crate::fault::RewriteFault;
+
+/// What takes the records of a file, one after another.
+pub(crate) trait Taker {
+    ghost use Rattle.droid_journal_rewriting.specs.Faults.{IsOfTaking};
+
+    /// What its work depends on beside the records.
+    ghost Setting: { Type 0 };
+
+    /// It took these records, in order.
+    ghost took: { Setting → Self → List Record → Type 0 };
+
+    /// Takes the next record.
+    fn take(&mut self, request: &[u8], reply: &[u8]) -> Result<(), RewriteFault>
+        requires header { 18 ≤ length request.now }
+        requires size { length request.now + length reply.now + 25 ≤ 8388608 }
+        ensures took { (setting : Setting) (before : List Record) (first : Bool) → took setting self.old before → OnOk result (took setting self.new (before ++ made first request.now reply.now ∷ [])) }
+        ensures fault { IfErr result IsOfTaking };
+}

@@ -1,0 +1,4 @@
+pub mod Ended
+pub mod FrameBytes
+pub mod Smaller
+pub mod Stamps

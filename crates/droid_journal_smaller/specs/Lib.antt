@@ -1,0 +1,2 @@
+-- Which files are bare in a journal that was made smaller.
+pub mod BareFiles

@@ -1,0 +1,150 @@
+//! Making journals smaller.
+
+use crate::memory_log::MemoryLog;
+use crate::memory_name::MemoryName;
+use crate::sample::{ENDS, SMALLER, WHOLE};
+use droid_journal_rewriting::{RewriteFault, compact};
+use std::alloc::Global;
+use std::test::Fail;
+
+const HEADER: &[u8; 10] = b"0123456789";
+
+// What making a journal of these bytes smaller gives. So many calls on the new file succeed.
+fn made(
+    alloc: Global,
+    bytes: &[u8],
+    header: &[u8; 10],
+    calls: usize,
+    name: &mut MemoryName,
+) -> Result<Result<MemoryLog, RewriteFault>, Fail> {
+    let old = MemoryLog::new(bytes.to_vec(alloc)?, 99);
+    let new = MemoryLog::new(Vec::new(alloc), calls);
+    Ok(compact(alloc, &old, header, new, name))
+}
+
+// Whether the smaller journal of these bytes is that of the sample, all of it on the disk under the name for sure.
+fn gives_the_smaller(alloc: Global, bytes: &[u8]) -> Result<bool, Fail> {
+    let mut name = MemoryName::new(2);
+    let Ok(file) = made(alloc, bytes, HEADER, 2, &mut name)? else {
+        return Ok(false);
+    };
+    Ok(file.bytes.as_slice() == SMALLER.as_slice() && file.synced == SMALLER.len() && name.is_kept)
+}
+
+#[test]
+fn a_journal_is_made_smaller(rt: HostRuntime) -> Result<(), Fail> {
+    assert!(rt; gives_the_smaller(rt.alloc(), WHOLE)?);
+    Ok(())
+}
+
+#[test]
+fn a_smaller_one_stays_as_it_is(rt: HostRuntime) -> Result<(), Fail> {
+    assert!(rt; gives_the_smaller(rt.alloc(), SMALLER)?);
+    Ok(())
+}
+
+// The fault of making a journal of these bytes smaller.
+fn fault_of(
+    alloc: Global,
+    bytes: &[u8],
+    header: &[u8; 10],
+    calls: usize,
+    name_calls: usize,
+) -> Result<Option<RewriteFault>, Fail> {
+    let mut name = MemoryName::new(name_calls);
+    match made(alloc, bytes, header, calls, &mut name)? {
+        Ok(_) => Ok(None),
+        Err(fault) => Ok(Some(fault)),
+    }
+}
+
+// How many of the records are whole in so many bytes.
+fn records_in(len: usize) -> u64 {
+    let ends = ENDS.iter().filter(|end| **end <= len).count();
+    ends.saturating_sub(1) as u64
+}
+
+// Whether the front of the journal with this length gives the fault that it has to.
+fn front_is_right(alloc: Global, len: usize) -> Result<bool, Fail> {
+    let fault = fault_of(alloc, &WHOLE[..len.min(WHOLE.len())], HEADER, 99, 99)?;
+    if len < HEADER.len() {
+        return Ok(matches!(fault, Some(RewriteFault::Header)));
+    }
+    if ENDS.contains(&len) {
+        return Ok(fault.is_none());
+    }
+    Ok(is_behind(fault, records_in(len)))
+}
+
+// A journal that lost its end is refused, but for one that ends with a record.
+#[test]
+fn each_front_is_told(rt: HostRuntime) -> Result<(), Fail> {
+    let alloc = rt.alloc();
+    for len in [0usize, 9, 11, 300, 900] {
+        assert!(rt; front_is_right(alloc, len)?);
+    }
+    for end in ENDS {
+        assert!(rt; front_is_right(alloc, end)?);
+    }
+    Ok(())
+}
+
+// Whether it is told that bytes stand behind so many records.
+fn is_behind(fault: Option<RewriteFault>, records: u64) -> bool {
+    match fault {
+        Some(RewriteFault::Behind(told)) => told == records,
+        _ => false,
+    }
+}
+
+// A flipped bit in the fourth record.
+#[test]
+fn damage_is_told(rt: HostRuntime) -> Result<(), Fail> {
+    let alloc = rt.alloc();
+    let mut bytes = WHOLE.as_slice().to_vec(alloc)?;
+    match bytes.get_mut(300) {
+        Some(byte) => *byte ^= 16,
+        None => return Err("there is no such byte".into()),
+    }
+    let fault = fault_of(alloc, &bytes, HEADER, 99, 99)?;
+    assert!(rt; is_behind(fault, 3));
+    assert!(rt;
+        matches!(
+            fault_of(alloc, WHOLE, b"0123456780", 99, 99)?,
+            Some(RewriteFault::Header)
+        )
+    );
+    Ok(())
+}
+
+// The append fails, the sync, the rename, the sync of the folder.
+#[test]
+fn each_call_fails_in_turn(rt: HostRuntime) -> Result<(), Fail> {
+    let alloc = rt.alloc();
+    assert!(rt;
+        matches!(
+            fault_of(alloc, WHOLE, HEADER, 0, 2)?,
+            Some(RewriteFault::Write)
+        )
+    );
+    assert!(rt;
+        matches!(
+            fault_of(alloc, WHOLE, HEADER, 1, 2)?,
+            Some(RewriteFault::Exchange)
+        )
+    );
+    assert!(rt;
+        matches!(
+            fault_of(alloc, WHOLE, HEADER, 2, 0)?,
+            Some(RewriteFault::Exchange)
+        )
+    );
+    assert!(rt;
+        matches!(
+            fault_of(alloc, WHOLE, HEADER, 2, 1)?,
+            Some(RewriteFault::Exchange)
+        )
+    );
+    assert!(rt; matches!(fault_of(alloc, WHOLE, HEADER, 2, 2)?, None));
+    Ok(())
+}
