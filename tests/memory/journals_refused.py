@@ -23,6 +23,13 @@ EARLIER = [create(1), file(2, b"a.msg", 7, 7), piece(3, 1, 0, b"message")]
 LATER = [finish(4, 1), folder(5, b"in"), folder(6, b"out")]
 TORN = bytes(30)
 NOTED = b"journal: 30 bytes behind the last whole record are now in "
+# the body of a refusal for memory
+MEMORY = bytes([18])
+
+
+def due_to(requests):
+    """The replies that the model gives to these requests, one after another."""
+    return list(cut(answer(service_of_the_sample(), b"".join(requests))[0]))
 
 
 class JournalsRefused(unittest.TestCase):
@@ -30,7 +37,6 @@ class JournalsRefused(unittest.TestCase):
         folder_of_all = tempfile.TemporaryDirectory()
         self.addCleanup(folder_of_all.cleanup)
         self.path = os.path.join(folder_of_all.name, "desk.journal")
-        self.replies = list(cut(answer(service_of_the_sample(), b"".join(EARLIER + LATER))[0]))
 
     def run_over(self, data, requests, variables):
         """Runs over a journal of these bytes, in a file of its own: the status, what was written, what was said, and the
@@ -53,22 +59,23 @@ class JournalsRefused(unittest.TestCase):
 
     def is_right(self, before, requests):
         """Whether an end is right, where these records were there: nothing of them is gone, each accepted command that was
-        answered is there, and nothing else."""
-        replies = self.replies[len(before) : len(before) + len(requests)]
+        answered is there, and nothing else. What memory was refused to has changed nothing for those behind it."""
 
         def check(status, written, said, left):
             named = faults(b"".join(line for line in said.splitlines(True) if not line.startswith(NOTED)))
             found = list(cut(written))
-            accepted = [reply for reply in found if reply.kind != REFUSED]
+            answered = [(request, reply) for request, reply in zip(requests, found) if (reply.kind, reply.body) != (REFUSED, MEMORY)]
+            accepted = [(request, reply) for request, reply in answered if reply.kind != REFUSED]
             records = read(left).records if left else []
-            kept = [next(cut(record.reply)) for record in records[len(before) :]]
+            kept = [(record.request, next(cut(record.reply))) for record in records]
             return (
                 (named == b"" if status == 0 else status in STATUSES and named in (b"fault: Memory\n", b"fault: Journal\n"))
-                and [record.request for record in records[: len(before)]] == before[: len(records)]
-                and (not before or len(records) >= len(before))
-                and all(reply in replies or reply.kind == REFUSED for reply in found)
-                and kept[: len(accepted)] == accepted
-                and (status != 0 or len(found) == len(requests))
+                and [request for request, _ in kept[: len(before)]] == before[: len(kept)]
+                and (not before or len(kept) >= len(before))
+                and kept[len(before) :][: len(accepted)] == accepted
+                and [reply for _, reply in kept] == due_to(request for request, _ in kept)
+                and [reply for _, reply in answered] == due_to([*before, *(request for request, _ in answered)])[len(before) :]
+                and (status != 0 or (len(found) == len(requests) and len(kept) == len(before) + len(accepted)))
             )
 
         return check

@@ -56,10 +56,13 @@ class Trees(InFolder):
         self.nested()
         status, out, err = profile(self.top)
         self.assertEqual(status, 0)
-        self.assertEqual(len(lines(err, b"registry: ")), 1)
+        with open(EVERYDAY, "rb") as file:
+            digest = hashlib.md5(file.read()).hexdigest()
+        named = f"the built-in registry of everyday formats, MD5 {digest}".encode()
+        self.assertEqual(lines(err, b"registry: "), [named])
         given = profile(self.top, "--registry", EVERYDAY)
         self.assertEqual(given[:2], (0, out))
-        self.assertEqual(lines(given[2], b"registry: "), [])
+        self.assertEqual(lines(given[2], b"registry: "), [os.fsencode(f"{EVERYDAY}, MD5 {digest}")])
         rows = {row["FILE_PATH"]: row for row in read(out)}
         self.assertEqual(rows["/b/deep/er/still/picture.png"]["METHOD"], "Signature")
         self.assertEqual(rows["/a/three.txt"]["METHOD"], "Extension")
