@@ -55,7 +55,7 @@ def middle(values):
 
 def submit(folder, top, *options):
     with Service(*options) as service:
-        words = [PROGRAM, "submit", top, "--port", str(service.port), "--output", os.path.join(folder, "out.csv"), "--piece-size", str(PIECE)]
+        words = [PROGRAM, "submit", top, "--port", str(service.port), "--client", "1", "--quiet", "--export", os.path.join(folder, "out.csv"), "--piece-size", str(PIECE)]
         return timed(lambda: subprocess.run(words, check=True, stdout=subprocess.DEVNULL, stderr=subprocess.DEVNULL))
 
 

@@ -1,6 +1,6 @@
 -- Why a registry cannot hold a byte sequence: what each reason says of it.
 use Rattle.std.specs.Prelude.{◌≡◌, ◌⊎◌, ℕ, suc, ◌<◌, ◌≤◌, ◌==◌, ◌&&◌, Bool, true, false, List, [], ◌∷◌, length, map, take, unwrap_or, Option, Some, None}
-use Rattle.std.specs.List.{Any, list_any}
+use Rattle.std.specs.List.{AllByRecursion, Any, list_any}
 use Rattle.droid_signature_texts.specs.Patterns.{Element}
 use Rattle.droid_signature_texts.specs.pronom_types.rows.Anchor.{Anchor}
 use Rattle.droid_signature_texts.specs.pronom_types.rows.Offsets.{Offsets}
@@ -64,6 +64,9 @@ IsReasonOfPart reason part =
 abbrev pub HasUpper : SubSequenceRecord → Type 0
 HasUpper part = 0 < unwrap_or part.offsets.max 0
 
+abbrev pub HasNoUpper : SubSequenceRecord → Type 0
+HasNoUpper part = unwrap_or part.offsets.max 0 ≡ 0
+
 abbrev pub IsReasonOfFurther : Reason → SubSequenceRecord → Type 0
 IsReasonOfFurther reason part = ((reason ≡ reasons.FurtherUpperOffset) × HasUpper part) ⊎ IsReasonOfPart reason part
 
@@ -104,7 +107,7 @@ IsReasonOfRow part further reason =
 abbrev pub HasGapAtEnd : List (List Element) → Reason → Type 0
 HasGapAtEnd patterns reason = (reason ≡ reasons.GapAtEnd) × Any (λ es. ends_in_byte (written_all es) ≡ false) patterns
 
--- The subsequences of a byte sequence are read as these, with these offsets.
+-- The subsequences of a byte sequence are read as these, with these offsets. None but the first has an upper one.
 pub record AreRead (anchor : Anchor) (part : SubSequenceRecord) (further : List SubSequenceRecord) (offsets : Offsets) (first : ReadPart) (rest : List ReadPart) : Type 0 where
   pub same : offsets.anchor ≡ anchor
   pub from_min : offsets.min ≡ lowest part.offsets
@@ -113,6 +116,7 @@ pub record AreRead (anchor : Anchor) (part : SubSequenceRecord) (further : List 
   pub small : offsets.max ≤ 65535
   pub is_first : IsReadPart part first
   pub are_rest : AreReadParts further rest
+  pub plain : AllByRecursion HasNoUpper further
 
 -- A byte sequence is read as these subsequences, with these offsets.
 pub record IsRead (sequence : ByteSequenceRecord) (offsets : Offsets) (first : ReadPart) (rest : List ReadPart) : Type 0 where

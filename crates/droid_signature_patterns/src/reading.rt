@@ -1,14 +1,14 @@
 //! Reads the texts of byte sequences, and checks what a registry asks of their offsets and positions.
 
-ghost use Rattle.std.specs.Prelude.{◌≡◌, ◌↔◌, ◌<◌, ◌∷◌, IsTrue, IfErr, IfOk, map};
+ghost use Rattle.std.specs.Prelude.{◌≡◌, ◌↔◌, ◌<◌, ◌∷◌, IsTrue, IfErr, IfOk, OnOk, map};
 ghost use Rattle.droid_signature_texts.specs.Sequences.{IsAnchorOf};
 ghost use Rattle.droid_signature_texts.specs.record_types.sequence.Reference.TheVariants.{End, Other};
 ghost use Rattle.droid_signature_texts.specs.TermValues.{term_of};
 ghost use Rattle.droid_signature_texts.specs.Outcomes.{IfLeftOut};
 ghost use Rattle.droid_signature_texts.specs.declared.reason.Reason.TheVariants as reasons;
 ghost use Rattle.droid_signature_patterns.specs.Parts.{AreReadFragments, AreReadParts, IsReadFragment, IsReadPart, IsReadText};
-ghost use Rattle.droid_signature_patterns.specs.Reasons.{AreRead, IsRead, IsReasonOfFragment, IsReasonOfFurther, IsReasonOfPart, IsReasonOfParts, IsReasonOfSequence, IsReasonOfSide, IsReasonOfText};
-ghost use Rattle.std.specs.List.{Any};
+ghost use Rattle.droid_signature_patterns.specs.Reasons.{AreRead, HasNoUpper, IsRead, IsReasonOfFragment, IsReasonOfFurther, IsReasonOfPart, IsReasonOfParts, IsReasonOfSequence, IsReasonOfSide, IsReasonOfText};
+ghost use Rattle.std.specs.List.{AllByRecursion, Any};
 
 use crate::offsets::{bounds_of, lower_of};
 use crate::positions::{are_numbered, see_positions};
@@ -89,6 +89,8 @@ fn anchor_of(reference: Reference) -> Result<Anchor, Reason>
 /// Reads the subsequences behind the first.
 fn read_further(alloc: Global, parts: &[SubSequence]) -> Result<Vec<ReadPart>, Stop>
     ensures ok { IfOk result (λ read. AreReadParts parts.now read.items) }
+    // None of them has an upper offset.
+    ensures plain { OnOk result (AllByRecursion HasNoUpper parts.now) }
     ensures err { IfLeftOut result (λ reason. Any (IsReasonOfFurther reason) parts.now) }
 {
     let mut read = Vec::new(alloc);
@@ -102,6 +104,7 @@ fn read_further(alloc: Global, parts: &[SubSequence]) -> Result<Vec<ReadPart>, S
 /// Reads a subsequence behind the first.
 fn read_one_further(alloc: Global, part: &SubSequence) -> Result<ReadPart, Stop>
     ensures ok { IfOk result (IsReadPart part.now) }
+    ensures plain { OnOk result (HasNoUpper part.now) }
     ensures err { IfLeftOut result (λ reason. IsReasonOfFurther reason part.now) }
 {
     let upper = part.offsets().max.unwrap_or(0);

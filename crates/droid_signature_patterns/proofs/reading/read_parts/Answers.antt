@@ -19,4 +19,4 @@ returns-in_err-further-clause-err c = passed_on (λ reason. IsReasonOfParts reas
 pub returns-clause-ok : goal.returns-clause-ok
 returns-clause-ok c =
     let bounds = c.in_ok-bounds.ensures.ok in
-    record { same = refl; from_min = bounds.0 ∙ ap lowest c.offsets.ensures; to_max = sym (ap (λ (o : OffsetRange). o.max) c.offsets.ensures) ∙ bounds.1; ordered = bounds.2; small = bounds.3; is_first = c.in_ok-first.ensures.ok; are_rest = c.in_ok-further.ensures.ok }
+    record { same = refl; from_min = bounds.0 ∙ ap lowest c.offsets.ensures; to_max = sym (ap (λ (o : OffsetRange). o.max) c.offsets.ensures) ∙ bounds.1; ordered = bounds.2; small = bounds.3; is_first = c.in_ok-first.ensures.ok; are_rest = c.in_ok-further.ensures.ok; plain = c.in_ok-further.ensures.plain }
