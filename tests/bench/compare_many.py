@@ -371,7 +371,7 @@ def read_kinds(stream, kinds):
 # ---- connections without a byte
 
 OPENED = 10_000
-FIRST = 100
+FIRST = 1_000
 
 
 def open_and_close(port, rounds):
@@ -381,17 +381,23 @@ def open_and_close(port, rounds):
             stream.close()
 
 
+def resident_at_rest(service):
+    """Returns the service's memory once it has closed all connections: an open one has a buffer of 64 KiB."""
+    with connect(service.port) as stream:
+        stream.sendall(QUESTION)
+        stream.recv(ANSWERED)
+    time.sleep(0.2)
+    return resident(service.process)
+
+
 def opened_and_closed(_rounds):
     with many() as service:
         open_and_close(service.port, FIRST)
-        before = resident(service.process)
+        before = resident_at_rest(service)
         start = time.perf_counter()
         open_and_close(service.port, OPENED)
         took = time.perf_counter() - start
-        with connect(service.port) as stream:
-            stream.sendall(QUESTION)
-            stream.recv(ANSWERED)
-        grown = resident(service.process) - before
+        grown = resident_at_rest(service) - before
     print(
         f"many: {SEATS} connections opened and closed without a byte, {OPENED} times: {OPENED * SEATS / took:.0f} a second, at least 5000;"
         f" memory grew by {grown} bytes",
