@@ -2,11 +2,12 @@
 
 import contextlib
 import os
+import socket
 import subprocess
 import tempfile
 import unittest
 
-from lib.connections import SECONDS, exchange, free_port
+from lib.connections import SECONDS, connect, exchange, free_port, read_until_reset
 from lib.frames import LIMITS, in_version, refusal
 from lib.program import PROGRAM, faults, preloaded
 from run_command import REPLIES, SESSION, session_in
@@ -24,7 +25,32 @@ SHORT = {b"".join(ANSWERS[:at] + [refusal(NUMBERS[at], 18)] + ANSWERS[at + 1 :])
 WITHOUT_PROFILE = refusal(1, 18) + refusal(2, 3) * 3
 
 
-def served(requests, options=(), **variables):
+def requests_in(version):
+    return [in_version(version, request) for request, _ in SESSION]
+
+
+def one_by_one(port, session):
+    """Sends a session on one connection after the other, and yields what comes on each."""
+    for _ in range(CONNECTIONS):
+        yield exchange(port, b"".join(session), len(REPLIES) + 1)
+
+
+def together(port, session):
+    """Sends a session on connections that are open at once, a request on each in turn, and yields what comes on each."""
+    with contextlib.ExitStack() as opened:
+        streams = [opened.enter_context(connect(port)) for _ in range(CONNECTIONS)]
+        for request in session:
+            for stream in streams:
+                with contextlib.suppress(OSError):
+                    stream.sendall(request)
+        for stream in streams:
+            with contextlib.suppress(OSError):
+                stream.shutdown(socket.SHUT_WR)
+        for stream in streams:
+            yield read_until_reset(stream, len(REPLIES) + 1)
+
+
+def served(session, options=(), way=one_by_one, **variables):
     """Runs `serve` over connections with these requests: its status, its standard error, and what came on each
     connection; no connection is made where the program ended before."""
     port = free_port()
@@ -36,17 +62,18 @@ def served(requests, options=(), **variables):
         came = []
         # (with --at-once it may run out of memory once it listens)
         with contextlib.suppress(ConnectionError):
-            while is_there and len(came) < CONNECTIONS:
-                came.append(exchange(port, requests, len(REPLIES) + 1))
+            if is_there:
+                for replies in way(port, session):
+                    came.append(replies)
         _, said = service.communicate(timeout=SECONDS)
     return service.returncode, faults(said), came
 
 
 class ServeMemory(unittest.TestCase):
-    def allocations(self, requests, replies, options=()):
+    def allocations(self, session, replies, options=(), way=one_by_one):
         with tempfile.TemporaryDirectory() as folder:
             path = os.path.join(folder, "count")
-            self.assertEqual(served(requests, options, ALLOCATIONS=path), (0, b"", [replies] * CONNECTIONS))
+            self.assertEqual(served(session, options, way, ALLOCATIONS=path), (0, b"", [replies] * CONNECTIONS))
             with open(path, encoding="ascii") as file:
                 return int(file.read())
 
@@ -56,13 +83,13 @@ class ServeMemory(unittest.TestCase):
 
     def each_allocation_refused(self, version):
         """There is no service, or it goes on: a refused allocation affects one connection alone."""
-        requests, whole = session_in(version)
+        session, whole = requests_in(version), session_in(version)[1]
         fronts, short = ({in_version(version, replies) for replies in rows} for rows in (FRONTS, SHORT))
         without_profile = in_version(version, WITHOUT_PROFILE)
         found = set()
-        for number in range(1, self.allocations(requests, whole) + 1):
+        for number in range(1, self.allocations(session, whole) + 1):
             with self.subTest(version=version, number=number):
-                status, said, came = served(requests, REFUSE=number)
+                status, said, came = served(session, REFUSE=number)
                 found.add((status, *came[:1]))
                 if not came:
                     self.assertEqual(said, MEMORY)
@@ -78,13 +105,19 @@ class ServeMemory(unittest.TestCase):
 
     def test_each_allocation_refused_at_once(self):
         """With --at-once there may also be no memory for the list of connections."""
-        options = ["--at-once", "2"]
-        requests, whole = session_in(2)
-        parts = {in_version(2, replies) for replies in {*FRONTS, *SHORT, WITHOUT_PROFILE}}
+        self.each_allocation_refused_at_once(2, ["--at-once", "2"], one_by_one)
+
+    def test_each_allocation_refused_of_connections_at_once(self):
+        """They are open at once. A refused allocation affects one of them alone."""
+        self.each_allocation_refused_at_once(1, ["--at-once", str(CONNECTIONS)], together)
+
+    def each_allocation_refused_at_once(self, version, options, way):
+        session, whole = requests_in(version), session_in(version)[1]
+        parts = {in_version(version, replies) for replies in {*FRONTS, *SHORT, WITHOUT_PROFILE}}
         found = set()
-        for number in range(1, self.allocations(requests, whole, options) + 1):
+        for number in range(1, self.allocations(session, whole, options, way) + 1):
             with self.subTest(number=number):
-                status, said, came = served(requests, options, REFUSE=number)
+                status, said, came = served(session, options, way, REFUSE=number)
                 found.add((status, *came[:1]))
                 if status:
                     self.assertIn((status, said), {(3, MEMORY), (6, MEMORY), (4, MEMORY), (4, b"fault: Socket\n")})
@@ -94,7 +127,7 @@ class ServeMemory(unittest.TestCase):
                 others = [replies for replies in came if replies != whole]
                 self.assertLessEqual(len(others), 1, others)
                 self.assertLessEqual(set(others), parts)
-        self.assertLessEqual({(3,), (6,), (0, b""), (0, in_version(2, WITHOUT_PROFILE))}, found)
+        self.assertLessEqual({(3,), (6,), (0, b""), (0, in_version(version, WITHOUT_PROFILE))}, found)
 
 
 if __name__ == "__main__":
