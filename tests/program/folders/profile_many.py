@@ -15,8 +15,9 @@ FEW, MANY = 20_001, 100_001
 IN_FOLDER = 1_000
 # so much memory may a profile of MANY take beside one of FEW: less than 26 bytes a file
 MORE = 2 << 20
-# so many bytes may `verify` take for a row of the list and the file that it names: twice 150, and the path of 11 bytes
-EACH = 2 * (150 + 11)
+# so much memory may `verify` take at all, and for a row of the list and the file that it names: twice 150 bytes and the
+# path of 11
+AT_ALL, EACH = 6 << 20, 2 * (150 + 11)
 
 
 class Many(InFolder):
@@ -56,21 +57,19 @@ class Many(InFolder):
             yield str(folders + number + 1), str(number // IN_FOLDER + 1), "/%03d/%06d" % (number // IN_FOLDER, number)
 
     def test_many(self):
-        against = "--against", self.work + b"/out.csv"
         self.make(0, FEW)
         few = self.run_over()
-        few_verified = self.watched("verify", *against)
         self.make(FEW, MANY)
         many = self.run_over("--manifest", self.work + b"/list")
-        many_verified = self.watched("verify", *against)
+        verified, memory = self.watched("verify", "--against", self.work + b"/out.csv")
         for (status, text, _), count in ((few, FEW), (many, MANY)):
             self.assertEqual(status, 0)
             rows = csv.DictReader(io.StringIO(text, newline=""), strict=True)
             found = [(row["ID"], row["PARENT_ID"], row["FILE_PATH"]) for row in rows]
             self.assertTrue(found == list(self.due(count)), count)
         self.assertLess(many[2] - few[2], MORE)
-        self.assertEqual((few_verified[0], many_verified[0]), (0, 0))
-        self.assertLess((many_verified[1] - few_verified[1]) / (MANY - FEW), EACH)
+        self.assertEqual(verified, 0)
+        self.assertLess(memory, AT_ALL + MANY * EACH)
         with open(self.work + b"/list", "rb") as file:
             self.assertEqual(file.read().count(b"\n"), MANY)
 
