@@ -1,5 +1,6 @@
 -- A text is read as its one list of terms, or spells none, or is too long.
-use Rattle.std.proofs.Common.{map, inl, inr, refl, arith}
+use Rattle.std.specs.Prelude.{Err}
+use Rattle.std.proofs.Common.{ap, map, inl, inr, refl}
 use Rattle.droid_signature_texts.specs.TermValues.{term_of}
 use Rattle.droid_signature_texts.proofs.PieceSets.{text_patterns}
 use Rattle.droid_signature_patterns.proofs.reading.read_terms.Goals as goal
@@ -15,4 +16,4 @@ returns-in-Ok-clause-ok c = record {
 }
 
 pub returns-in-Err-BadText-clause-err : goal.returns-in-Err-BadText-clause-err
-returns-in-Err-BadText-clause-err c = inr (refl, c.in-Err-BadText.ensures.bad c.in-Err-BadText.field-0-is)
+returns-in-Err-BadText-clause-err c = inr (refl, c.in-Err-BadText.ensures.bad (ap Err c.in-Err-BadText.field-0-is))
