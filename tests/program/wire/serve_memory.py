@@ -8,7 +8,7 @@ import tempfile
 import unittest
 
 from lib.connections import SECONDS, connect, exchange, free_port, read_until_reset
-from lib.frames import LIMITS, in_version, refusal
+from lib.frames import HEADER, LIMITS, in_version, refusal
 from lib.program import PROGRAM, faults, preloaded
 from run_command import REPLIES, SESSION, session_in
 
@@ -36,18 +36,27 @@ def one_by_one(port, session):
 
 
 def together(port, session):
-    """Sends a session on connections that are open at once, a request on each in turn, and yields what comes on each."""
+    """Sends a session on connections that are open at once, a request on each in turn once the one before has its reply, and
+    returns what comes on each."""
     with contextlib.ExitStack() as opened:
         streams = [opened.enter_context(connect(port)) for _ in range(CONNECTIONS)]
+        came = [b"" for _ in streams]
         for request in session:
-            for stream in streams:
+            for place, stream in enumerate(streams):
                 with contextlib.suppress(OSError):
                     stream.sendall(request)
-        for stream in streams:
+                came[place] += reply_on(stream)
+        for place, stream in enumerate(streams):
             with contextlib.suppress(OSError):
                 stream.shutdown(socket.SHUT_WR)
-        for stream in streams:
-            yield read_until_reset(stream, len(REPLIES) + 1)
+            came[place] += read_until_reset(stream, 1)
+        return came
+
+
+def reply_on(stream):
+    """Reads a reply, or nothing where the connection has ended."""
+    header = read_until_reset(stream, HEADER.size)
+    return header + read_until_reset(stream, HEADER.unpack(header)[4]) if header else b""
 
 
 def served(session, options=(), way=one_by_one, **variables):
@@ -105,29 +114,42 @@ class ServeMemory(unittest.TestCase):
 
     def test_each_allocation_refused_at_once(self):
         """With --at-once there may also be no memory for the list of connections."""
-        self.each_allocation_refused_at_once(2, ["--at-once", "2"], one_by_one)
+        options = ["--at-once", "2"]
+        session, whole = requests_in(2), session_in(2)[1]
+        found = set()
+        for number in range(1, self.allocations(session, whole, options) + 1):
+            with self.subTest(number=number):
+                status, said, came = served(session, options, REFUSE=number)
+                found.add((status, *came[:1]))
+                self.affects_one(2, status, said, came)
+        self.assertLessEqual({(3,), (6,), (0, b""), (0, in_version(2, WITHOUT_PROFILE))}, found)
+
+    def affects_one(self, version, status, said, came):
+        """Whether the refused allocation ended the service before it served anyone, or affected one connection alone."""
+        if status:
+            self.assertIn((status, said), {(3, MEMORY), (6, MEMORY), (4, MEMORY), (4, b"fault: Socket\n")})
+            self.assertEqual(set(came) - {b""}, set())
+            return
+        self.assertEqual((said, len(came)), (b"", CONNECTIONS))
+        others = [replies for replies in came if replies != session_in(version)[1]]
+        self.assertLessEqual(len(others), 1, others)
+        self.assertLessEqual(set(others), {in_version(version, replies) for replies in {*FRONTS, *SHORT, WITHOUT_PROFILE}})
 
     def test_each_allocation_refused_of_connections_at_once(self):
-        """They are open at once. A refused allocation affects one of them alone."""
-        self.each_allocation_refused_at_once(1, ["--at-once", str(CONNECTIONS)], together)
-
-    def each_allocation_refused_at_once(self, version, options, way):
-        session, whole = requests_in(version), session_in(version)[1]
-        parts = {in_version(version, replies) for replies in {*FRONTS, *SHORT, WITHOUT_PROFILE}}
-        found = set()
-        for number in range(1, self.allocations(session, whole, options, way) + 1):
+        """They are open at once, and each is affected by some. Allocations are refused from the last one on, up to some in a
+        row without which nobody is served."""
+        options = ["--at-once", str(CONNECTIONS)]
+        session, whole = requests_in(1), session_in(1)[1]
+        affected, without = set(), 0
+        for number in range(self.allocations(session, whole, options, together), 0, -1):
             with self.subTest(number=number):
-                status, said, came = served(session, options, way, REFUSE=number)
-                found.add((status, *came[:1]))
-                if status:
-                    self.assertIn((status, said), {(3, MEMORY), (6, MEMORY), (4, MEMORY), (4, b"fault: Socket\n")})
-                    self.assertEqual(set(came) - {b""}, set())
-                    continue
-                self.assertEqual((said, len(came)), (b"", CONNECTIONS))
-                others = [replies for replies in came if replies != whole]
-                self.assertLessEqual(len(others), 1, others)
-                self.assertLessEqual(set(others), parts)
-        self.assertLessEqual({(3,), (6,), (0, b""), (0, in_version(version, WITHOUT_PROFILE))}, found)
+                status, said, came = served(session, options, together, REFUSE=number)
+                self.affects_one(1, status, said, came)
+                affected |= {place for place, replies in enumerate(came) if replies != whole}
+                without = without + 1 if status else 0
+            if without == 5:
+                break
+        self.assertEqual((affected, without), (set(range(CONNECTIONS)), 5))
 
 
 if __name__ == "__main__":
