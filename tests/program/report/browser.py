@@ -201,7 +201,7 @@ def main():
         browser = Browser(program, os.path.join(folder, "user"))
         try:
             for name, text in sample_profiles.all_of(random.Random(7)).items():
-                source, page = (os.path.join(folder, name + end) for end in (".csv", ".html"))
+                source, page = os.path.join(folder, name + ".csv"), os.path.join(folder, name[:200] + ".html")
                 with open(source, "w", encoding="utf-8", newline="") as file:
                     file.write(text)
                 subprocess.run([PROGRAM, "report", source, "--output", page], check=True, timeout=120)
