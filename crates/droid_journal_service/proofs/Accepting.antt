@@ -26,13 +26,21 @@ where_it_holds : (b : Bool) (value : Option Request) (request : Request) → con
 where_it_holds true value request is = is
 where_it_holds false value request is = absurd cc
 
-kind_asked : (frame : Frame) (request : Request) → IsBytes frame.body → command frame ≡ Some request → frame.kind ≡ request_kind request
+pub kind_asked : (frame : Frame) (request : Request) → IsBytes frame.body → command frame ≡ Some request → frame.kind ≡ request_kind request
 unfolding command request_in
 kind_asked frame request are is =
     (value_is_spelled frame.version frame.kind frame.body request are (where_it_holds (nat_lt frame.number (2 ^ 63)) (request_value frame.version frame.kind frame.body) request is)).kind_is
 
-contrary : (b : Bool) → b ≡ true → b ≡ false → ⊥
+pub contrary : (b : Bool) → b ≡ true → b ≡ false → ⊥
 contrary b is isnt = cc
+
+pub held : (b accepted : Bool) → (b ≡ false → accepted ≡ false) → accepted ≡ true → b ≡ true
+held true accepted unless is = refl
+held false accepted unless is = absurd (contrary accepted is (unless refl))
+
+pub held_not : (b accepted : Bool) → (b ≡ true → accepted ≡ false) → accepted ≡ true → b ≡ false
+held_not true accepted unless is = absurd (contrary accepted is (unless refl))
+held_not false accepted unless is = refl
 
 refused_memory : (reply : Reply) → is_out_of_memory reply ≡ true → is_refused reply ≡ true
 refused_memory (Refused refusal) is = refl
