@@ -1,4 +1,5 @@
 -- The history of a journal's records (this project's own).
+use Rattle.std.proofs.Common.{inl, refl}
 use Rattle.std.specs.Prelude.{◌≡◌, ◌⊎◌, ℕ, if◌then◌else◌, nat_lt, Bool, true, false, List, [], ◌∷◌, ◌++◌}
 use Rattle.droid_frame.specs.Frames.{frame_bytes}
 use Rattle.droid_frame.specs.Replies.{HasReplySpelling}

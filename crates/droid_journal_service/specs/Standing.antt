@@ -1,5 +1,5 @@
 -- What a service with a journal stands for (this project's own).
-use Rattle.std.specs.Prelude.{◌≡◌, ◌⊎◌, ℕ, true, List, [], length}
+use Rattle.std.specs.Prelude.{◌≡◌, ◌⊎◌, ℕ, true, List, length}
 use Rattle.droid_frame.specs.Streams.{IsReadable}
 use Rattle.droid_frame.specs.types.frame.Frame.{Frame}
 use Rattle.droid_frame.specs.types.refusal.Refusal.TheVariants.{Malformed, Memory}
@@ -7,7 +7,6 @@ use Rattle.droid_frame.specs.types.reply.Reply.{Reply}
 use Rattle.droid_frame.specs.types.reply.Reply.TheVariants.{Refused}
 use Rattle.droid_core.specs.Histories.{Handles, History, next}
 use Rattle.droid_core.specs.Setting.{Setting}
-use Rattle.droid_core_revival.specs.BareWorlds.{Bare}
 use Rattle.droid_journal_disk.specs.journal.Standing.{Keeps, Stands}
 use Rattle.droid_journal_disk.specs.journal.Turns.{IsTurn}
 use Rattle.droid_journal_disk.specs.journal.declared.journal.Journal.{Journal}
@@ -16,7 +15,6 @@ use Rattle.droid_journal_disk.specs.chain.Fronts.{IsFront}
 use Rattle.droid_journal_disk.specs.chain.Records.{AllFit, Record}
 use Rattle.droid_journal_recovery.specs.Standing as recovering
 use Rattle.droid_journal_recovery.specs.Standing.{Recovery}
-use Rattle.droid_journal_recovery.specs.declared.machine.RecoveringMachine.{RecoveringMachine}
 use Rattle.droid_journal_service.specs.Histories.{Base, HasBare, IsHistoryBehind, StandsForRecords}
 use Rattle.droid_journal_service.specs.declared.small_reader.SmallReader.{SmallReader}
 use Rattle.droid_journal_service.specs.declared.service_machine.ServiceMachine.{ServiceMachine}
@@ -63,10 +61,6 @@ abbrev pub IsNextOr : Setting → History → Frame → History → Type 0
 IsNextOr setting history frame after = (after ≡ history) ⊎ (after ≡ next setting history frame)
 
 -- ---- reading a journal that was made small
-
--- whichever files have no bytes, the machine has read nothing yet, and makes a service of this setting
-abbrev pub Begins : Setting → RecoveringMachine → Type 0
-Begins setting machine = (bare : Bare) → recovering.StandsForRecords (record { setting = setting; bare = bare }) machine []
 
 -- the machine stands for the records, and knows of a record without its bytes
 pub record ReadsRecords (recovery : Recovery) (reader : SmallReader) (records : List Record) : Type 0 where

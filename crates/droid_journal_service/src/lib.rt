@@ -15,7 +15,6 @@ pub use droid_core::{Limits, Service};
 pub use droid_journal_disk::{
     DiskFault, DiskLog, Drive, DriveError, Fault, FileDrive, FileError, LogFile, Tears, header_for,
 };
-pub use droid_journal_recovery::RecoveringMachine;
 pub use service_journal::{ServiceJournal, Unopened, crash_and_reopen};
 pub use service_machine::ServiceMachine;
 pub use small_reader::SmallReader;

@@ -2,9 +2,11 @@
 
 ghost use Rattle.std.specs.Prelude.{◌≡◌, ◌≢◌, ◌≤◌, ◌++◌, ◌⊎◌, ℕ, List, [], None, IfErr, IfOk, IfSome, IsErr, IsErrOf, IsSome, OnErr, OnOk, length};
 ghost use Rattle.droid_core.specs.Histories.{History};
+ghost use Rattle.droid_core.specs.Identified.{IsOf};
 ghost use Rattle.droid_core.specs.Setting.{Setting};
 ghost use Rattle.droid_core.specs.Standing.{StandsFor};
 ghost use Rattle.droid_core_revival.specs.BareWorlds.{Bare};
+ghost use Rattle.droid_core_revival.specs.Standing.{limits_given};
 ghost use Rattle.droid_frame.specs.Replies.{HasReplySpelling};
 ghost use Rattle.droid_journal_disk.specs.journal.Opening.{HasHeader, IsBegun, IsKept, IsReady, WasDamaged, WasFound, WasRefuted};
 ghost use Rattle.droid_journal_disk.specs.journal.Standing.{IsSettled, Keeps};
@@ -12,14 +14,14 @@ ghost use Rattle.droid_journal_disk.specs.chain.Chains.{NotByChance};
 ghost use Rattle.droid_journal_disk.specs.chain.Records.{Record};
 ghost use Rattle.droid_journal_recovery.specs.Standing.{GivesReply as GivesRecord, Recovery};
 ghost use Rattle.droid_journal_service.specs.Histories.{AreSmall, Base, GivesReply, HasBare, IsBetween, IsHistoryOf, StandsForRecords, no_base};
-ghost use Rattle.droid_journal_service.specs.Standing.{AnswersIn, Begins, IsLeft, IsNextOr, KeepsHistory, ReadsRecords, StandsForHistory};
+ghost use Rattle.droid_journal_service.specs.Standing.{AnswersIn, IsLeft, IsNextOr, KeepsHistory, ReadsRecords, StandsForHistory};
 
 use crate::service_machine::ServiceMachine;
 use crate::small_reader::SmallReader;
-use droid_core::Service;
+use droid_core::{Limits, Service};
 use droid_frame::{Frame, Reply};
 use droid_journal_disk::{Fault, Journal, LogFile, Opened, Tears, open};
-use droid_journal_recovery::RecoveringMachine;
+use droid_pronom::Registry;
 use std::alloc::Global;
 use std::num::NonZeroUsize;
 
@@ -83,38 +85,39 @@ impl<F: LogFile + Drop> ServiceJournal<F> {
         }
     }
 
-    /// Makes a service from the records of a file that was made small, and cuts the file behind them; `machine` has read
-    /// nothing yet, and the service caches up to `places` replies. Returns `None` if the file has no bare record: it was not
-    /// made small.
+    /// Makes a service from the records of a file that was made small, and cuts the file behind them. The service has this
+    /// registry and these limits, and caches up to `places` replies. Returns `None` if no record of the file lacks its bytes:
+    /// it was not made small.
     pub fn open_small(
         alloc: Global,
         file: F,
         header: &[u8],
-        machine: RecoveringMachine,
+        registry: Registry,
+        limits: Limits,
         places: NonZeroUsize,
     ) -> Result<Option<ServiceJournal<F>>, Fault>
         requires found { F.is_found file }
         requires header { length header.now ≤ 4096 }
         requires kept { (s : List ℕ) → F.has file s → HasHeader header.now s → IsKept header.now (F.kept file) }
-        // It stands for each history that the records have, whichever files have no bytes. Only of files that have ended may
-        // the bytes be missing.
-        ensures opened { (setting : Setting) (s : List ℕ) → Begins setting machine → F.has file s → IfOk result (λ o. IfSome o (λ it. (its : List Record) × WasFound header.now s its × HasBare its
+        requires profiles { limits.profiles ≤ 64 }
+        requires nodes { limits.nodes ≤ 100000 }
+        requires unfinished { limits.unfinished ≤ 64 }
+        // It stands for each history that the records have, whichever files have no bytes, if each of these files has ended.
+        ensures opened { (setting : Setting) (s : List ℕ) → setting.limits ≡ limits_given limits → IsOf registry setting → F.has file s
+            → IfOk result (λ o. IfSome o (λ it. (its : List Record) × WasFound header.now s its × HasBare its
             × ((bare : Bare) (history : History) → AreSmall setting bare its history → StandsForHistory F.has F.kept setting header.now it.journal history history))) }
         // So it does after it went on and crashed: no more is lost than of a journal that was never made small.
-        ensures reopened { (setting : Setting) (s : List ℕ) (synced all : History) → Begins setting machine → F.has file s → IsLeft setting header.now s synced all
+        ensures reopened { (setting : Setting) (s : List ℕ) (synced all : History) → setting.limits ≡ limits_given limits → IsOf registry setting → F.has file s → IsLeft setting header.now s synced all
             → IfOk result (λ o. IfSome o (λ it. (history : History) × StandsForHistory F.has F.kept setting header.now it.journal history history × IsBetween synced history all)) }
         ensures lawful { (n : ℕ) (setting : Setting) (s : List ℕ) (synced all : History) → F.has file s → IsLeft setting header.now s synced all → IsErrOf result (Fault.Damage n) → ⊥ }
         ensures damage { (n : ℕ) → IsErrOf result (Fault.Damage n) → (s : List ℕ) → F.has file s → WasDamaged header.now s n }
         // A record is told only if it is none that goes on a history of those before it, whichever files have no bytes.
-        ensures refuted { (n : ℕ) → IsErrOf result (Fault.Record n) → (setting : Setting) (bare : Bare) (s : List ℕ) → Begins setting machine → F.has file s
+        ensures refuted { (n : ℕ) → IsErrOf result (Fault.Record n) → (setting : Setting) (bare : Bare) (s : List ℕ) → setting.limits ≡ limits_given limits → IsOf registry setting → F.has file s
             → WasRefuted (GivesRecord (record { setting = setting; bare = bare })) header.now s n }
         ensures other_header { IsErrOf result Fault.Header → (s : List ℕ) → F.has file s → (HasHeader header.now s → ⊥) × ((count : ℕ) → IsBegun header.now s count → ⊥) }
     {
+        let reader = SmallReader::new(alloc, registry, limits)?;
         let mut file = file;
-        let reader = SmallReader {
-            machine,
-            is_small: false,
-        };
         match open(alloc, &mut file, header, reader) {
             Ok(opened) => ServiceJournal::revived(alloc, file, opened, places),
             Err(fault) => Err(fault),

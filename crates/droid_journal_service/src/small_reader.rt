@@ -1,11 +1,18 @@
 //! The machine that reads a journal that was made small.
 
-ghost use Rattle.std.specs.Prelude.{◌≡◌, ◌⊎◌, ◌×◌, true};
+ghost use Rattle.std.specs.Prelude.{◌≡◌, ◌≤◌, ◌⊎◌, [], true, IfErr, IfOk};
+ghost use Rattle.droid_core.specs.Identified.{IsOf};
+ghost use Rattle.droid_core_revival.specs.Standing.{limits_given};
+ghost use Rattle.droid_journal_recovery.specs.Standing.{Recovery};
+ghost use Rattle.droid_journal_service.specs.Standing.{ReadsRecords};
 
+use droid_core::Limits;
 use droid_frame::Frame;
 use droid_journal_bare::{BARE_FINISH, BARE_PIECE};
-use droid_journal_disk::{Handled, Machine};
+use droid_journal_disk::{Fault, Handled, Machine};
 use droid_journal_recovery::RecoveringMachine;
+use droid_pronom::Registry;
+use std::alloc::Global;
 
 /// Reads a journal that was made small, and notes whether it was: whether a record has a piece or a Finish without the bytes
 /// of the file.
@@ -17,13 +24,38 @@ pub struct SmallReader {
     pub is_small: bool,
 }
 
+impl SmallReader {
+    /// Makes one that has read nothing yet, for a service with this registry and these limits. Fails only if there is no
+    /// memory.
+    pub(crate) fn new(
+        alloc: Global,
+        registry: Registry,
+        limits: Limits,
+    ) -> Result<SmallReader, Fault>
+        requires profiles { limits.profiles ≤ 64 }
+        requires nodes { limits.nodes ≤ 100000 }
+        requires unfinished { limits.unfinished ≤ 64 }
+        ensures empty { IfOk result (λ reader. (recovery : Recovery) → recovery.setting.limits ≡ limits_given limits → IsOf registry recovery.setting → ReadsRecords recovery reader []) }
+        ensures memory { IfErr result (λ fault. fault ≡ Fault.Memory) }
+    {
+        match RecoveringMachine::new(alloc, registry, limits) {
+            Ok(machine) => Ok(SmallReader {
+                machine,
+                is_small: false,
+            }),
+            Err(_) => Err(Fault::Memory),
+        }
+    }
+}
+
 impl Machine for SmallReader {
-    ghost use Rattle.droid_journal_recovery.specs.Standing.{GivesReply, Recovery};
-    ghost use Rattle.droid_journal_service.specs.Standing.{ReadsRecords};
+    ghost use Rattle.droid_journal_recovery.specs.Standing.{GivesReply};
+    ghost use Rattle.droid_journal_recovery.specs.Standing as recovering;
+    ghost use Rattle.droid_journal_service.specs.Standing as standing;
 
-    ghost Setting = { Recovery };
+    ghost Setting = { recovering.Recovery };
 
-    ghost stands = { ReadsRecords };
+    ghost stands = { standing.ReadsRecords };
 
     ghost gives = { GivesReply };
 

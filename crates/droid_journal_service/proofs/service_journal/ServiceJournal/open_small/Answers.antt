@@ -9,18 +9,16 @@ use Rattle.droid_journal_recovery.specs.Standing.{Recovery}
 use Rattle.droid_journal_service.specs.Histories.{AreSmall, HasBare, IsBetween}
 use Rattle.droid_journal_service.specs.Standing.{ReadsRecords, StandsForHistory}
 use Rattle.droid_journal_service.specs.declared.service_journal.ServiceJournal.{ServiceJournal}
-use Rattle.droid_journal_service.specs.declared.small_reader.SmallReader.{SmallReader}
 use Rattle.droid_journal_service.proofs.HistoryLaws.{as_behind_nothing, as_history, none_small, some_history}
 use Rattle.droid_journal_service.proofs.Results.{both_there, each_there, none_there, only_memory, some_weaker}
 use Rattle.droid_journal_service.proofs.SmallHistories.{found_small}
 use Rattle.droid_journal_service.proofs.service_journal.ServiceJournal.open_small.Goals as goal
 
 pub returns-in-Ok-clause-opened : goal.returns-in-Ok-clause-opened
-returns-in-Ok-clause-opened g c = λ setting s begins here.
+returns-in-Ok-clause-opened g c = λ setting s limits of here.
     let found = c.in-Ok.ensures.opened s here in
-    let reader : SmallReader = record { machine = c.args.machine; is_small = false } in
     let recovery : Bare → Recovery = λ bare. record { setting = setting; bare = bare } in
-    let stands : (bare : Bare) → ReadsRecords (recovery bare) reader [] = λ bare. record { recovers = begins bare; noted = λ is. absurd cc } in
+    let stands : (bare : Bare) → ReadsRecords (recovery bare) c.in_ok-reader.field-0 [] = λ bare. c.in_ok-reader.ensures.empty (recovery bare) limits of in
     let none : Bare = λ profile file. false in
     let some = c.revived.ensures.small (recovery none) c.args.header.now found.0 (found.2 (recovery none) (stands none)).0 in
     let each : (bare : Bare) (x : (history : History) × AreSmall setting bare found.0 history) → IfOk c.revived.result (λ o. IfSome o (λ it. StandsForHistory g.F.LogFile.has g.F.LogFile.kept setting c.args.header.now it.journal x.0 x.0)) =
@@ -29,10 +27,9 @@ returns-in-Ok-clause-opened g c = λ setting s begins here.
     (both_there c.revived.result _ (HasBare found.0) _ found.1 some (each_there c.revived.result (λ bare x it. StandsForHistory g.F.LogFile.has g.F.LogFile.kept setting c.args.header.now it.journal x.0 x.0) each))
 
 pub returns-in-Ok-clause-reopened : goal.returns-in-Ok-clause-reopened
-returns-in-Ok-clause-reopened g c = λ setting s synced all begins here left.
-    let reader : SmallReader = record { machine = c.args.machine; is_small = false } in
+returns-in-Ok-clause-reopened g c = λ setting s synced all limits of here left.
     let recovery : Bare → Recovery = λ bare. record { setting = setting; bare = bare } in
-    let stands : (bare : Bare) → ReadsRecords (recovery bare) reader [] = λ bare. record { recovers = begins bare; noted = λ is. absurd cc } in
+    let stands : (bare : Bare) → ReadsRecords (recovery bare) c.in_ok-reader.field-0 [] = λ bare. c.in_ok-reader.ensures.empty (recovery bare) limits of in
     elim left.base.came [
       | inl nothing ↦ (
           let none : Bare = λ profile file. false in
@@ -56,7 +53,7 @@ pub returns-in-Ok-clause-damage : goal.returns-in-Ok-clause-damage
 returns-in-Ok-clause-damage g c = λ n told s here. let is = only_memory c.revived.result (faults.Damage n) c.revived.ensures.fault told in absurd cc
 
 pub returns-in-Ok-clause-refuted : goal.returns-in-Ok-clause-refuted
-returns-in-Ok-clause-refuted g c = λ n told setting bare s begins here. let is = only_memory c.revived.result (faults.Record n) c.revived.ensures.fault told in absurd cc
+returns-in-Ok-clause-refuted g c = λ n told setting bare s limits of here. let is = only_memory c.revived.result (faults.Record n) c.revived.ensures.fault told in absurd cc
 
 pub returns-in-Ok-clause-other_header : goal.returns-in-Ok-clause-other_header
 returns-in-Ok-clause-other_header g c = λ told s here. let is = only_memory c.revived.result faults.Header c.revived.ensures.fault told in absurd cc
@@ -72,9 +69,8 @@ returns-in-Err-clause-damage g c = λ n told s here.
     c.in-Err.ensures.damage n (ap Err same) s here
 
 pub returns-in-Err-clause-refuted : goal.returns-in-Err-clause-refuted
-returns-in-Err-clause-refuted g c = λ n told setting bare s begins here.
-    let reader : SmallReader = record { machine = c.args.machine; is_small = false } in
-    let stands : ReadsRecords (record { setting = setting; bare = bare }) reader [] = record { recovers = begins bare; noted = λ is. absurd cc } in
+returns-in-Err-clause-refuted g c = λ n told setting bare s limits of here.
+    let stands : ReadsRecords (record { setting = setting; bare = bare }) c.in_ok-reader.field-0 [] = c.in_ok-reader.ensures.empty (record { setting = setting; bare = bare }) limits of in
     let same : c.in-Err.fault ≡ faults.Record n = cc in
     c.in-Err.ensures.refuted n (ap Err same) (record { setting = setting; bare = bare }) s here stands
 
