@@ -4,7 +4,7 @@ use Rattle.md5.specs.Md5.{md5}
 use Rattle.droid_desk_service.specs.Endings.{IsProgramSetting}
 use Rattle.droid_pronom.specs.Registry.{Contents}
 use Rattle.droid_pronom.specs.RegistryFile.{File}
-use Rattle.droid_wire.specs.with_journal.service.Histories.{AreSmall, GivesReply, HasBare, IsHistoryOf, no_base}
+use Rattle.droid_wire.specs.with_journal.service.Histories.{LeadTo, GivesReply, HasBare, IsHistoryOf, no_base}
 use Rattle.droid_wire.specs.with_journal.service.BareWorlds.{Bare}
 use Rattle.droid_wire.specs.with_journal.service.recovery.Standing.{GivesReply as GivesRecord}
 use Rattle.droid_wire.specs.with_journal.service.Standing.{StandsForHistory}
@@ -32,7 +32,7 @@ IsSettingFor bytes setting = (registry : Contents) → File bytes (Ok registry) 
 
 -- the service stands for each history that these records have, all of it on the disk
 abbrev pub StandsForSmall : {F : Type 0} (has : F → List ℕ → Type 0) (kept : F → List ℕ) (setting : Setting) (header : List ℕ) (its : List Record) (journal : Journal F ServiceMachine) → Type 0
-StandsForSmall has kept setting header its journal = (bare : Bare) (history : History) → AreSmall setting bare its history → StandsForHistory has kept setting header journal history history
+StandsForSmall has kept setting header its journal = (bare : Bare) (history : History) → LeadTo setting bare its history → StandsForHistory has kept setting header journal history history
 
 -- the service stands for the history of these records, all of it on the disk
 abbrev pub StandsForWhole : {F : Type 0} (has : F → List ℕ → Type 0) (kept : F → List ℕ) (setting : Setting) (header : List ℕ) (its : List Record) (journal : Journal F ServiceMachine) → Type 0

@@ -1,5 +1,6 @@
 -- A service that was made of a small journal goes on: its records, read again, have the history that it stands for.
 use Rattle.std.proofs.Common.{◌≡◌, ℕ, ℤ, nat_lt, if◌then◌else◌, cond, Bool, true, false, List, [], ◌∷◌, ◌++◌, Option, Some, None, refl, sym, ap, subst, ◌∙◌, inl, inr}
+use Rattle.std.proofs.lemmas.Bool.{false≢true}
 use Rattle.droid_frame.specs.Frames.{frame_bytes}
 use Rattle.droid_frame.specs.Replies.{HasReplySpelling}
 use Rattle.droid_frame.specs.ReplyFrames.{reply_frame}
@@ -23,7 +24,7 @@ use Rattle.droid_core_revival.specs.Ending.{IsEnded, has_ended}
 use Rattle.droid_journal_disk.specs.chain.Fronts.{IsFront}
 use Rattle.droid_journal_disk.specs.chain.Records.{Record}
 use Rattle.droid_journal_recovery.specs.BareRecords.{HaveHistory, IsAfter, kept_frame}
-use Rattle.droid_journal_service.specs.Histories.{AreOf, AreSmall, Base, HasBare, IsBetween, IsHistoryBehind, IsOf}
+use Rattle.droid_journal_service.specs.Histories.{AreOf, Base, HasBare, IsBetween, IsHistoryBehind, IsHistoryOf, IsOf, LeadTo, no_base}
 use Rattle.droid_journal_service.proofs.Accepting.{contrary, kind_asked}
 use Rattle.droid_journal_service.proofs.HistoryLaws.{bare_front, between, some_history}
 
@@ -155,8 +156,8 @@ module _ (setting : Setting) (bare : Bare) where
   have_append before (x ∷ xs) ys middle all a b = (a.0, a.1, have_append a.0 xs ys middle all a.2 b)
 
   -- the records of a service with such records behind it have its history
-  pub still_small : (base : Base setting) (records : List Record) (history : History) → AreSmall setting bare base.first base.history → IsHistoryBehind setting base records history → AreSmall setting bare records history
-  still_small base records history small its =
+  pub still_lead : (base : Base setting) (records : List Record) (history : History) → LeadTo setting bare base.first base.history → IsHistoryBehind setting base records history → LeadTo setting bare records history
+  still_lead base records history small its =
       let more = records_behind base.history its.rest its.behind.frames small.ended its.behind.are in
       let same : history_from setting base.history its.behind.frames ≡ history = sym its.behind.history_is in
       let have : HaveHistory setting bare base.history its.rest history = subst (λ (h : History). HaveHistory setting bare base.history its.rest h) same more.0 in
@@ -168,17 +169,22 @@ module _ (setting : Setting) (bare : Bare) where
   -- what is found after a crash
   pub record Found (its : List Record) (synced all : History) : Type 0 where
     pub history : History
-    pub small : AreSmall setting bare its history
+    pub small : LeadTo setting bare its history
     pub some : HasBare its
     pub between : IsBetween synced history all
 
-  pub found_small : (base : Base setting) (first its written : List Record) (synced all : History) → AreSmall setting bare base.first base.history → HasBare base.first → IsFront first its → IsFront its written
+  pub found_small : (base : Base setting) (first its written : List Record) (synced all : History) → LeadTo setting bare base.first base.history → HasBare base.first → IsFront first its → IsFront its written
       → IsHistoryBehind setting base first synced → IsHistoryBehind setting base written all → Found its synced all
   found_small base first its written synced all small some one other on_disk accepted =
       let found = some_history setting base first its written synced all one other on_disk accepted in
       record {
         history = found.0;
-        small = still_small base its found.0 small found.1;
+        small = still_lead base its found.0 small found.1;
         some = bare_front first its one (bare_front base.first first (on_disk.rest, on_disk.parts) some);
         between = between setting base first its written synced found.0 all one other on_disk found.1 accepted;
       }
+
+-- those of a journal that was never made small
+pub whole_lead : (setting : Setting) (records : List Record) (history : History) → IsHistoryOf setting records history → LeadTo setting (λ profile file. false) records history
+whole_lead setting records history its =
+    still_lead setting (λ profile file. false) (no_base setting) records history (record { have = refl; ended = λ profile file is. absurd (false≢true is) }) (record { rest = records; parts = refl; behind = its })

@@ -59,9 +59,9 @@ abbrev pub HasBare : List Record → Type 0
 HasBare [] = ⊥
 HasBare (it ∷ its) = IsBare it ⊎ HasBare its
 
--- Records of a journal that was made small have this history, and each file that they have without its bytes has ended in it.
--- No history can be computed from such records: they have a mark in the place of a piece.
-pub record AreSmall (setting : Setting) (bare : Bare) (records : List Record) (history : History) : Type 0 where
+-- The records have this history, without the bytes of these files, each of which has ended in it. No history can be computed
+-- from such records: they have a mark in the place of a piece.
+pub record LeadTo (setting : Setting) (bare : Bare) (records : List Record) (history : History) : Type 0 where
   pub have : HaveHistory setting bare [] records history
   pub ended : (profile file : ℕ) → bare profile file ≡ true → IsEnded (world_of setting history) profile file
 
@@ -72,7 +72,7 @@ pub record AreSmall (setting : Setting) (bare : Bare) (records : List Record) (h
 pub record Base (setting : Setting) : Type 0 where
   pub first : List Record
   pub history : History
-  pub came : ((first ≡ []) × (history ≡ [])) ⊎ ((bare : Bare) × AreSmall setting bare first history × HasBare first)
+  pub came : ((first ≡ []) × (history ≡ [])) ⊎ ((bare : Bare) × LeadTo setting bare first history × HasBare first)
 
 -- nothing
 abbrev pub no_base : (setting : Setting) → Base setting

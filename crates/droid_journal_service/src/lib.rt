@@ -7,6 +7,7 @@
 //! of a journal.
 #![tactic(auto)]
 
+pub mod laws;
 mod service_journal;
 mod service_machine;
 mod small_reader;

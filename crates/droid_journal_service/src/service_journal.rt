@@ -13,7 +13,7 @@ ghost use Rattle.droid_journal_disk.specs.journal.Standing.{IsSettled, Keeps};
 ghost use Rattle.droid_journal_disk.specs.chain.Chains.{NotByChance};
 ghost use Rattle.droid_journal_disk.specs.chain.Records.{Record};
 ghost use Rattle.droid_journal_recovery.specs.Standing.{GivesReply as GivesRecord, Recovery};
-ghost use Rattle.droid_journal_service.specs.Histories.{AreSmall, Base, GivesReply, HasBare, IsBetween, IsHistoryOf, StandsForRecords, no_base};
+ghost use Rattle.droid_journal_service.specs.Histories.{LeadTo, Base, GivesReply, HasBare, IsBetween, IsHistoryOf, StandsForRecords, no_base};
 ghost use Rattle.droid_journal_service.specs.Standing.{AnswersIn, IsLeft, IsNextOr, KeepsHistory, ReadsRecords, StandsForHistory};
 
 use crate::service_machine::ServiceMachine;
@@ -105,7 +105,7 @@ impl<F: LogFile + Drop> ServiceJournal<F> {
         // It stands for each history that the records have, whichever files have no bytes, if each of these files has ended.
         ensures opened { (setting : Setting) (s : List ℕ) → setting.limits ≡ limits_given limits → IsOf registry setting → F.has file s
             → IfOk result (λ o. IfSome o (λ it. (its : List Record) × WasFound header.now s its × HasBare its
-            × ((bare : Bare) (history : History) → AreSmall setting bare its history → StandsForHistory F.has F.kept setting header.now it.journal history history))) }
+            × ((bare : Bare) (history : History) → LeadTo setting bare its history → StandsForHistory F.has F.kept setting header.now it.journal history history))) }
         // So it does after it went on and crashed: no more is lost than of a journal that was never made small.
         ensures reopened { (setting : Setting) (s : List ℕ) (synced all : History) → setting.limits ≡ limits_given limits → IsOf registry setting → F.has file s → IsLeft setting header.now s synced all
             → IfOk result (λ o. IfSome o (λ it. (history : History) × StandsForHistory F.has F.kept setting header.now it.journal history history × IsBetween synced history all)) }
@@ -133,7 +133,7 @@ impl<F: LogFile + Drop> ServiceJournal<F> {
     ) -> Result<Option<ServiceJournal<F>>, Fault>
         ensures small { (recovery : Recovery) (header : List ℕ) (its : List Record) → IsReady F.has F.kept (ReadsRecords recovery) header file opened its → IfOk result (λ o. IsSome o → HasBare its) }
         ensures stands { (setting : Setting) (bare : Bare) (header : List ℕ) (its : List Record) (history : History) → IsReady F.has F.kept (ReadsRecords (record { setting = setting; bare = bare })) header file opened its
-            → AreSmall setting bare its history → IfOk result (λ o. IfSome o (λ it. StandsForHistory F.has F.kept setting header it.journal history history)) }
+            → LeadTo setting bare its history → IfOk result (λ o. IfSome o (λ it. StandsForHistory F.has F.kept setting header it.journal history history)) }
         ensures fault { IfErr result (λ fault. fault ≡ Fault.Memory) }
     {
         let (reader, opened) = opened.with(());

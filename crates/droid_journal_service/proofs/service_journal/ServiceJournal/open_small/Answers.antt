@@ -6,7 +6,7 @@ use Rattle.droid_core_revival.specs.BareWorlds.{Bare}
 use Rattle.droid_journal_disk.specs.chain.Records.{Record}
 use Rattle.droid_journal_disk.specs.journal.declared.fault.Fault.TheVariants as faults
 use Rattle.droid_journal_recovery.specs.Standing.{Recovery}
-use Rattle.droid_journal_service.specs.Histories.{AreSmall, HasBare, IsBetween}
+use Rattle.droid_journal_service.specs.Histories.{LeadTo, HasBare, IsBetween}
 use Rattle.droid_journal_service.specs.Standing.{ReadsRecords, StandsForHistory}
 use Rattle.droid_journal_service.specs.declared.service_journal.ServiceJournal.{ServiceJournal}
 use Rattle.droid_journal_service.proofs.HistoryLaws.{as_behind_nothing, as_history, none_small, some_history}
@@ -21,7 +21,7 @@ returns-in-Ok-clause-opened g c = λ setting s limits of here.
     let stands : (bare : Bare) → ReadsRecords (recovery bare) c.in_ok-reader.field-0 [] = λ bare. c.in_ok-reader.ensures.empty (recovery bare) limits of in
     let none : Bare = λ profile file. false in
     let some = c.revived.ensures.small (recovery none) c.args.header.now found.0 (found.2 (recovery none) (stands none)).0 in
-    let each : (bare : Bare) (x : (history : History) × AreSmall setting bare found.0 history) → IfOk c.revived.result (λ o. IfSome o (λ it. StandsForHistory g.F.LogFile.has g.F.LogFile.kept setting c.args.header.now it.journal x.0 x.0)) =
+    let each : (bare : Bare) (x : (history : History) × LeadTo setting bare found.0 history) → IfOk c.revived.result (λ o. IfSome o (λ it. StandsForHistory g.F.LogFile.has g.F.LogFile.kept setting c.args.header.now it.journal x.0 x.0)) =
     λ bare x. c.revived.ensures.stands setting bare c.args.header.now found.0 x.0 (found.2 (recovery bare) (stands bare)).0 x.1 in
     IfOk-weaker c.revived.result _ _ (λ o. some_weaker _ _ o (λ it all. (found.0, all.0, all.1, λ bare history small. all.2 bare (history, small))))
     (both_there c.revived.result _ (HasBare found.0) _ found.1 some (each_there c.revived.result (λ bare x it. StandsForHistory g.F.LogFile.has g.F.LogFile.kept setting c.args.header.now it.journal x.0 x.0) each))
