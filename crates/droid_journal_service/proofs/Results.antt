@@ -20,10 +20,10 @@ both_there (Ok None) B C P b some there = tt
 both_there (Err e) B C P b some there = tt
 
 -- what holds of it for each of these
-pub each_there : {A E X : Type 0} {Y : X → Type 0} (r : Result (Option A) E) (P : (x : X) → Y x → A → Type 0) → ((x : X) (y : Y x) → IfOk r (λ o. IfSome o (P x y))) → IfOk r (λ o. IfSome o (λ a. (x : X) (y : Y x) → P x y a))
-each_there (Ok (Some a)) P each = λ x y. each x y
-each_there (Ok None) P each = tt
-each_there (Err e) P each = tt
+pub each_there : {A E : Type 0} (X : Type 0) (Y : X → Type 0) (r : Result (Option A) E) (P : (x : X) → Y x → A → Type 0) → ((x : X) (y : Y x) → IfOk r (λ o. IfSome o (P x y))) → IfOk r (λ o. IfSome o (λ a. (x : X) (y : Y x) → P x y a))
+each_there X Y (Ok (Some a)) P each = λ x y. each x y
+each_there X Y (Ok None) P each = tt
+each_there X Y (Err e) P each = tt
 
 pub only_memory : {A : Type 0} (r : Result A Fault) (fault : Fault) → IfErr r (λ f. f ≡ Memory) → IsErrOf r fault → fault ≡ Memory
 only_memory r fault is told = subst (λ x. IfErr x (λ f. f ≡ Memory)) told is

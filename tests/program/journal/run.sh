@@ -7,4 +7,4 @@ tests=$(cd "$(dirname "$0")/../.." && pwd)
 . "$tests/lib/modules.sh"
 export PRELOAD_SYNCED="$work/synced.so" PYTHONPATH="$tests:$tests/program/model:$tests/program/wire"
 build_library synced.c "$PRELOAD_SYNCED"
-run_modules journal_files journal_damage journal_full journal_kills
+run_modules journal_files journal_smaller journal_damage journal_full journal_kills

@@ -24,7 +24,7 @@ returns-in-Ok-clause-opened g c = λ setting s limits of here.
     let each : (bare : Bare) (x : (history : History) × LeadTo setting bare found.0 history) → IfOk c.revived.result (λ o. IfSome o (λ it. StandsForHistory g.F.LogFile.has g.F.LogFile.kept setting c.args.header.now it.journal x.0 x.0)) =
     λ bare x. c.revived.ensures.stands setting bare c.args.header.now found.0 x.0 (found.2 (recovery bare) (stands bare)).0 x.1 in
     IfOk-weaker c.revived.result _ _ (λ o. some_weaker _ _ o (λ it all. (found.0, all.0, all.1, λ bare history small. all.2 bare (history, small))))
-    (both_there c.revived.result _ (HasBare found.0) _ found.1 some (each_there c.revived.result (λ bare x it. StandsForHistory g.F.LogFile.has g.F.LogFile.kept setting c.args.header.now it.journal x.0 x.0) each))
+    (both_there c.revived.result _ (HasBare found.0) _ found.1 some (each_there Bare (λ bare. (history : History) × LeadTo setting bare found.0 history) c.revived.result (λ bare x it. StandsForHistory g.F.LogFile.has g.F.LogFile.kept setting c.args.header.now it.journal x.0 x.0) each))
 
 pub returns-in-Ok-clause-reopened : goal.returns-in-Ok-clause-reopened
 returns-in-Ok-clause-reopened g c = λ setting s synced all limits of here left.
