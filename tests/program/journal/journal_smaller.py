@@ -4,9 +4,9 @@ journal, and goes on with it."""
 import random
 import unittest
 
-from journal_file import Record, header_size, md5, next_check, read, record_bytes
+from journal_file import header_size, md5, next_check, read, record_bytes
 from journal_session import InJournal, contents, run_journal, store
-from lib.frames import EXPORT, HEADER, PIECE, REFUSED, abandon, create, cut, export_body, file, finish, folder, frame, piece, reply, status
+from lib.frames import EXPORT, HEADER, NODE, REFUSED, TAKEN, abandon, create, cut, export_body, file, finish, folder, frame, piece, reply, status
 from model_frames import answer, service_of_the_sample
 from smaller_file import smaller
 
@@ -58,7 +58,6 @@ class Smaller(InJournal):
         for _ in range(2):
             asked = ASKED + MORE + [EXPORT_ALL]
             self.assertEqual(run_journal(self.path, b"".join(asked)), (0, by_model(asked), b""))
-        self.assertEqual(run_journal(self.path, EXPORT_ALL), (0, by_model(ASKED + MORE + [EXPORT_ALL])[-len(run_journal(self.path, EXPORT_ALL)[1]) :], b""))
 
     def test_no_bytes(self):
         """The pieces of the finished and of the abandoned file are not in the file, and what it has stays as it is."""
@@ -138,7 +137,7 @@ class Smaller(InJournal):
         """The reply of a bare piece, and that of a whole request behind it, as no service gives it."""
         self.make(ASKED)
         records = self.records()
-        for place, other in ((2, reply(PIECE + 127, 3, 2)), (3, reply(PIECE + 126, 4, 7))):
+        for place, other in ((2, reply(TAKEN, 3, 2)), (3, reply(NODE, 4, 7))):
             self.rewritten([it._replace(reply=other) if at == place else it for at, it in enumerate(records)])
             self.ends(run_journal(self.path, ASKED[0]), 3, f"fault: Journal at {place + 1}")
 
