@@ -35,10 +35,10 @@ first_refuses true refusal more verdict reply after is accepted = absurd cc
 first_refuses false refusal more verdict reply after is accepted = absurd cc
 
 module _ (world : World) (profile file : ℕ) (ended : IsEnded world profile file) (judged : Profile → ℕ → ℤ → List ℕ → Content → Verdict) (reply : Reply) (after : World)
-    (no : (its : Profile) (parent : ℕ) (modified : ℤ) (name : List ℕ) (content : Content) → content.finished ≡ true → judged its parent modified name content ≡ Accepted reply after → ⊥) where
+    (refuses : (its : Profile) (parent : ℕ) (modified : ℤ) (name : List ℕ) (content : Content) → content.finished ≡ true → judged its parent modified name content ≡ Accepted reply after → ⊥) where
   by_node : (its : Profile) (node : Node) → has_ended node ≡ true → in_file (unless_abandoned (Some node)) (judged its) ≡ Accepted reply after → ⊥
   by_node its (Folder parent modified name) is accepted = absurd cc
-  by_node its (File parent modified name content) is accepted = no its parent modified name content is accepted
+  by_node its (File parent modified name content) is accepted = refuses its parent modified name content is accepted
   by_node its Abandoned is accepted = absurd cc
 
   by_found : (found : Option Node) (its : Profile) → found ≡ Some ended.node → in_file (unless_abandoned found) (judged its) ≡ Accepted reply after → ⊥
@@ -62,8 +62,8 @@ no_finish setting world version profile file reply after ended accepted =
     never world profile file ended (λ its parent modified name content. unless_refused (refusal_of (finish_checks version its.hash content)) _) reply after (λ its parent modified name content finished. first_refuses content.finished _ _ _ reply after finished) accepted
 
 whole_if : (b : Bool) (x y : Frame) → (b ≡ true → ⊥) → (if b then x else y) ≡ y
-whole_if true x y no = absurd (no refl)
-whole_if false x y no = refl
+whole_if true x y isnt = absurd (isnt refl)
+whole_if false x y isnt = refl
 
 -- ---- one record more
 
@@ -84,7 +84,7 @@ module _ (setting : Setting) (bare : Bare) (history : History) (it : Record) (fr
 
   by_verdict : (request : Request) (verdict : Verdict) → command frame ≡ Some request → kept history frame.client frame.number ≡ None → judge setting (world_of setting history) frame.version request ≡ verdict
       → answer setting history frame ≡ verdict_reply verdict → next setting history frame ≡ history_with history frame (New verdict) → After
-  by_verdict request (Accepted reply after) asked is_new accepted told then =
+  by_verdict request (Accepted reply after) asked is_new accepted told after_is =
       inl (
         entry_of frame reply,
         record {
@@ -96,13 +96,13 @@ module _ (setting : Setting) (bare : Bare) (history : History) (it : Record) (fr
           request = is.request ∙ ap frame_bytes (sym (whole request reply after accepted));
           reply = is.reply ∙ ap (λ (r : Reply). reply_frame frame.version frame.client frame.number r) told;
         },
-        then,
+        after_is,
       )
-  by_verdict request (Answered reply) asked is_new answered told then =
+  by_verdict request (Answered reply) asked is_new answered told after_is =
       let query : is_command request ≡ false = (judged_as setting (world_of setting history) frame.version request (Answered reply) answered).query in
       let commands : is_command request ≡ true = ap (λ (kind : ℕ). nat_lt kind 7) (sym (kind_asked frame request is.readable.is_frame.body_is_bytes asked)) ∙ is.command in
       absurd (contrary (is_command request) commands query)
-  by_verdict request (Refuses refusal) asked is_new refused told then = absurd (refused_is (answer setting history frame) refusal told is.unrefused)
+  by_verdict request (Refuses refusal) asked is_new refused told after_is = absurd (refused_is (answer setting history frame) refusal told is.unrefused)
 
   by_mark : (request : Request) (entry : Entry) (same : Bool) → command frame ≡ Some request → kept history frame.client frame.number ≡ Some entry → is_request_of entry frame ≡ same → answer setting history frame ≡ cond same entry.reply (Refused NumberReused) → After
   by_mark request entry true asked there same told =

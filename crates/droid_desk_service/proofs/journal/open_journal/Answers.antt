@@ -28,14 +28,14 @@ open_small-requires-clause-kept g c = λ s there has.
     subst (λ (f : g.F). IsKept c.deref-2.result.now (g.F.LogFile.kept f)) (sym file) (c.requires.kept s c.deref-2.result.now here its has)
 
 pub returns-in-Ok-open-clause-opened : goal.returns-in-Ok-open-clause-opened
-returns-in-Ok-open-clause-opened g c = λ setting s stands for here.
+returns-in-Ok-open-clause-opened g c = λ setting s stands named here.
     let full : length c.args.random.now ≡ 16 = search rules in
     let its = is_header c.args.registry.now c.deref.result.now c.args.random.now s c.deref-2.result.now (c.deref.ensures.value ∙ c.in_ok-text.ensures.text) full (c.deref-2.ensures.value ∙ c.in-Ok.ensures.text s here) in
     let opened = c.in-Ok-open.ensures.opened setting s stands here in
     record { header = c.deref-2.result.now; is_of = its; its = opened.0; found = opened.2; stands = inl (opened.1, opened.3, opened.4) }
 
 pub returns-in-Ok-open-clause-reopened : goal.returns-in-Ok-open-clause-reopened
-returns-in-Ok-open-clause-reopened g c = λ setting s header synced all stands for here is_of left.
+returns-in-Ok-open-clause-reopened g c = λ setting s header synced all stands named here is_of left.
     let full : length c.args.random.now ≡ 16 = search rules in
     let same : c.deref-2.result.now ≡ header =
     same_header c.args.registry.now c.deref.result.now c.args.random.now s c.deref-2.result.now (c.deref.ensures.value ∙ c.in_ok-text.ensures.text) full (c.deref-2.ensures.value ∙ c.in-Ok.ensures.text s here) header is_of (left_header setting header s synced all left) in
@@ -43,22 +43,22 @@ returns-in-Ok-open-clause-reopened g c = λ setting s header synced all stands f
     (c.in-Ok-open.ensures.reopened setting s synced all stands here (subst (λ (h : List ℕ). IsLeft setting h s synced all) (sym same) left))
 
 pub returns-in-Record-clause-opened : goal.returns-in-Record-clause-opened
-returns-in-Record-clause-opened g c = λ setting s stands for here.
+returns-in-Record-clause-opened g c = λ setting s stands named here.
     let full : length c.args.random.now ≡ 16 = search rules in
     let its = is_header c.args.registry.now c.deref.result.now c.args.random.now s c.deref-2.result.now (c.deref.ensures.value ∙ c.in_ok-text.ensures.text) full (c.deref-2.ensures.value ∙ c.in-Ok.ensures.text s here) in
     let file = c.in-Err-open.ensures.unchanged (no_write c.in-Err-open.unopened.fault c.in-Record.number c.in-Record.is) in
     let there : g.F.LogFile.has c.in-Err-open.unopened.file s = subst (λ (f : g.F). g.F.LogFile.has f s) (sym file) here in
-    IfOk-weaker c.open_small.result _ _ (λ it opened. record { header = c.deref-2.result.now; is_of = its; its = opened.0; found = opened.1; stands = inr (opened.2, opened.3) }) (c.open_small.ensures.opened setting s for there)
+    IfOk-weaker c.open_small.result _ _ (λ it opened. record { header = c.deref-2.result.now; is_of = its; its = opened.0; found = opened.1; stands = inr (opened.2, opened.3) }) (c.open_small.ensures.opened setting s named there)
 
 pub returns-in-Record-clause-reopened : goal.returns-in-Record-clause-reopened
-returns-in-Record-clause-reopened g c = λ setting s header synced all stands for here is_of left.
+returns-in-Record-clause-reopened g c = λ setting s header synced all stands named here is_of left.
     let full : length c.args.random.now ≡ 16 = search rules in
     let same : c.deref-2.result.now ≡ header =
     same_header c.args.registry.now c.deref.result.now c.args.random.now s c.deref-2.result.now (c.deref.ensures.value ∙ c.in_ok-text.ensures.text) full (c.deref-2.ensures.value ∙ c.in-Ok.ensures.text s here) header is_of (left_header setting header s synced all left) in
     let file = c.in-Err-open.ensures.unchanged (no_write c.in-Err-open.unopened.fault c.in-Record.number c.in-Record.is) in
     let there : g.F.LogFile.has c.in-Err-open.unopened.file s = subst (λ (f : g.F). g.F.LogFile.has f s) (sym file) here in
     subst (λ (h : List ℕ). IfOk c.open_small.result (λ it. (history : History) × StandsForHistory g.F.LogFile.has g.F.LogFile.kept setting h it.journal history history × IsBetween synced history all)) same
-    (c.open_small.ensures.reopened setting s synced all for there (subst (λ (h : List ℕ). IsLeft setting h s synced all) (sym same) left))
+    (c.open_small.ensures.reopened setting s synced all named there (subst (λ (h : List ℕ). IsLeft setting h s synced all) (sym same) left))
 
 pub returns-in-Record-clause-lawful : goal.returns-in-Record-clause-lawful
 returns-in-Record-clause-lawful g c = λ n setting s header synced all here is_of left told.
@@ -87,7 +87,7 @@ returns-in-Record-clause-damage g c = λ n told s here.
     record { header = c.deref-2.result.now; is_of = its; damaged = c.open_small.ensures.damage n told s there }
 
 pub returns-in-Record-clause-refuted : goal.returns-in-Record-clause-refuted
-returns-in-Record-clause-refuted g c = λ n told setting s stands for here.
+returns-in-Record-clause-refuted g c = λ n told setting s stands named here.
     let full : length c.args.random.now ≡ 16 = search rules in
     let its = is_header c.args.registry.now c.deref.result.now c.args.random.now s c.deref-2.result.now (c.deref.ensures.value ∙ c.in_ok-text.ensures.text) full (c.deref-2.ensures.value ∙ c.in-Ok.ensures.text s here) in
     let file = c.in-Err-open.ensures.unchanged (no_write c.in-Err-open.unopened.fault c.in-Record.number c.in-Record.is) in
@@ -95,7 +95,7 @@ returns-in-Record-clause-refuted g c = λ n told setting s stands for here.
     record {
       header = c.deref-2.result.now;
       is_of = its;
-      refuted = elim (c.open_small.ensures.refuted n told setting s for there) [
+      refuted = elim (c.open_small.ensures.refuted n told setting s named there) [
         | inl number ↦ inl (c.in-Err-open.ensures.refuted n setting s stands here (c.in-Record.is ∙ ap (λ (m : ℕ). faults.Record m) (sym number)))
         | inr small ↦ inr small
       ];
@@ -125,7 +125,7 @@ returns-in_default-clause-damage g c = λ n told s here.
     record { header = c.deref-2.result.now; is_of = its; damaged = c.in-Err-open.ensures.damage n s here is }
 
 pub returns-in_default-clause-refuted : goal.returns-in_default-clause-refuted
-returns-in_default-clause-refuted g c = λ n told setting s stands for here.
+returns-in_default-clause-refuted g c = λ n told setting s stands named here.
     let full : length c.args.random.now ≡ 16 = search rules in
     let its = is_header c.args.registry.now c.deref.result.now c.args.random.now s c.deref-2.result.now (c.deref.ensures.value ∙ c.in_ok-text.ensures.text) full (c.deref-2.ensures.value ∙ c.in-Ok.ensures.text s here) in
     let is : c.in-Err-open.unopened.fault ≡ faults.Record n = cc in
@@ -147,6 +147,6 @@ returns-in-Err-clause-damage g c = λ n told s here.
     absurd (no_damage c.in-Err.fault n c.in-Err.ensures.fault same)
 
 pub returns-in-Err-clause-refuted : goal.returns-in-Err-clause-refuted
-returns-in-Err-clause-refuted g c = λ n told setting s stands for here.
+returns-in-Err-clause-refuted g c = λ n told setting s stands named here.
     let same : c.in-Err.fault ≡ faults.Record n = cc in
     absurd (no_record c.in-Err.fault n c.in-Err.ensures.fault same)
