@@ -42,7 +42,7 @@ module _ {F : Type 0} (has : F → List ℕ → Type 0) (kept : F → List ℕ) 
       )
 
   pub answers_in : (old new : Journal F ServiceMachine) (synced all : History) (frame : Frame) (reply : Reply) (first accepted : Bool) → (stood : StandsForHistory has kept setting header old synced all)
-      → Answers (GivesReply setting) stood.records frame reply accepted → Stands has kept (OfRecords stood.base) header new stood.first (extended stood.records first frame reply accepted)
+      → Answers (GivesReply setting stood.base) stood.records frame reply accepted → Stands has kept (OfRecords stood.base) header new stood.first (extended stood.records first frame reply accepted)
       → AnswersIn setting all frame reply (StandsForHistory has kept setting header new synced)
   answers_in old new synced all frame reply first accepted stood (inl gives) stands =
       let said = gives_in stood.base stood.records all frame reply accepted stood.accepted gives in
@@ -91,7 +91,7 @@ module _ {F : Type 0} (has : F → List ℕ → Type 0) (kept : F → List ℕ) 
     abbrev pub Kept : Type 0
     Kept = (written : List Record) × (after : History) × IsNextOr setting all frame after × KeepsHistory kept setting header new.file written synced after
 
-    by_answer : (first accepted : Bool) → Answers (GivesReply setting) stood.records frame reply accepted → Stands has kept (OfRecords stood.base) header new stood.first (extended stood.records first frame reply accepted) → Kept
+    by_answer : (first accepted : Bool) → Answers (GivesReply setting stood.base) stood.records frame reply accepted → Stands has kept (OfRecords stood.base) header new stood.first (extended stood.records first frame reply accepted) → Kept
     by_answer first accepted (inl gives) stands =
         let said = gives_in stood.base stood.records all frame reply accepted stood.accepted gives in (
           extended stood.records first frame reply accepted,
@@ -149,7 +149,7 @@ module _ {F : Type 0} (has : F → List ℕ → Type 0) (kept : F → List ℕ) 
         ]
 
     pub kept_after : kept new.file ≡ kept old.file → (IsSome old.fault → new.file ≡ old.file)
-        → (new.fault ≡ None → (first : Bool) × (accepted : Bool) × Answers (GivesReply setting) stood.records frame reply accepted × Stands has kept (OfRecords stood.base) header new stood.first (extended stood.records first frame reply accepted))
+        → (new.fault ≡ None → (first : Bool) × (accepted : Bool) × Answers (GivesReply setting stood.base) stood.records frame reply accepted × Stands has kept (OfRecords stood.base) header new stood.first (extended stood.records first frame reply accepted))
         → (old.fault ≡ None → IsSome new.fault → WroteOne has (GivesReply setting stood.base) header new.file stood.first stood.records frame) → Kept
     kept_after same closed handled part =
         elim (none_or_some old.fault) [
