@@ -1,7 +1,7 @@
 use Rattle.std.proofs.Common.{rules, ◌≡◌, ◌+◌, ◌∙◌, ℕ, take, drop, ap}
-use Rattle.droid_journal_rewriting.specs.declared.place.Place.{Place}
+use Rattle.droid_journal_rewriting.specs.declared.walk.Place.{Place}
 use Rattle.droid_journal_rewriting.proofs.Passing.{ends_there, passed, stand_in}
-use Rattle.droid_journal_rewriting.proofs.taking.take_some.Goals as goal
+use Rattle.droid_journal_rewriting.proofs.walk.take_some.Goals as goal
 
 pub returns-clause-passes : goal.returns-clause-passes
 returns-clause-passes g c =

@@ -7,13 +7,23 @@ ghost use Rattle.droid_journal_rewriting.specs.Faults.{IsOfReading, IsOfTaking};
 ghost use Rattle.droid_journal_rewriting.specs.Taking.{Passes, StandIn, StandThere, Takes};
 
 use crate::fault::RewriteFault;
-use crate::place::Place;
 use crate::taker::Taker;
 use droid_journal::LogFile;
 use droid_journal_chain::{Found, record_of};
 
 /// How many bytes of a file are read at once.
 pub(crate) const WINDOW: usize = 16_777_216;
+
+/// How far the records of a file were read.
+#[derive(Clone, Copy)]
+pub(crate) struct Place {
+    /// Where the next record begins, in bytes.
+    pub(crate) at: u64,
+    /// The check value of the last record.
+    pub(crate) check: [u8; 16],
+    /// How many records were read.
+    pub(crate) records: u64,
+}
 
 /// How far the records of some bytes were taken.
 #[derive(Clone, Copy)]

@@ -7,11 +7,11 @@ ghost use Rattle.droid_journal_chain.specs.Records.{AllFit, Record};
 ghost use Rattle.droid_journal_rewriting.specs.Numbers.{has_number};
 ghost use Rattle.droid_journal_rewriting.specs.Shortening.{HasBehind, IsShortened, IsWhole, smaller_by};
 
-use crate::ended::ended_in;
+use crate::ended_files::ended_in;
 use crate::fault::RewriteFault;
 use crate::numbers::Numbers;
 use crate::rewriter::{Rewriter, flush};
-use crate::taking::WINDOW;
+use crate::walk::WINDOW;
 use crate::whole::take_whole;
 use droid_journal::LogFile;
 use droid_journal_chain::start_of;

@@ -1,7 +1,7 @@
 use Rattle.std.proofs.Common.{◌++◌, [], refl, arith}
 use Rattle.droid_journal_rewriting.proofs.Going.{chain_long}
 use Rattle.droid_journal_rewriting.proofs.Passing.{passes_none, passes_on, stand_on}
-use Rattle.droid_journal_rewriting.proofs.taking.take_all.Goals as goal
+use Rattle.droid_journal_rewriting.proofs.walk.take_all.Goals as goal
 
 pub loop-init : goal.loop-init
 loop-init g c = record { window = c.requires.window; so_far = ([], passes_none g.T.Taker.took c.args.start.now c.args.taker.now c.args.from, λ s here. refl) }

@@ -1,7 +1,7 @@
 use Rattle.std.proofs.Common.{arith}
 use Rattle.droid_journal_chain.specs.Records.{made}
 use Rattle.droid_journal_rewriting.proofs.Going.{begun, goes_on, room, shorter, went, within}
-use Rattle.droid_journal_rewriting.proofs.taking.take_records.Goals as goal
+use Rattle.droid_journal_rewriting.proofs.walk.take_records.Goals as goal
 
 pub loop-found-init : goal.loop-found-init
 loop-found-init g c = begun g.T.Taker.took c.args.start.now c.args.check c.args.bytes.now c.args.records c.args.taker.now

@@ -1,7 +1,7 @@
 use Rattle.std.proofs.Common.{subst}
 use Rattle.droid_journal_rewriting.specs.Aims.{Aim}
 use Rattle.droid_journal_rewriting.proofs.Writing.{begun}
-use Rattle.droid_journal_rewriting.proofs.rewriting.write_anew.Goals as goal
+use Rattle.droid_journal_rewriting.proofs.new_file.write_anew.Goals as goal
 
 pub returns-in-Ok-flush-clause-written : goal.returns-in-Ok-flush-clause-written
 returns-in-Ok-flush-clause-written g c = λ s have_ended here empty ended.

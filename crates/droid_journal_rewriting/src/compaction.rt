@@ -5,7 +5,7 @@ ghost use Rattle.droid_journal.specs.Opening.{HasHeader};
 ghost use Rattle.droid_journal_rewriting.specs.Shortening.{HasBehind, IsShortened};
 
 use crate::fault::RewriteFault;
-use crate::rewriting::rewrite;
+use crate::new_file::rewrite;
 use droid_journal::LogFile;
 use droid_journal_exchange::{Exchange, replace};
 use std::alloc::Global;

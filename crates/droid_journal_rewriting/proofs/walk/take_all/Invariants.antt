@@ -1,7 +1,7 @@
 use Rattle.std.proofs.Common.{◌≡◌, ℕ, List, length}
 use Rattle.droid_journal_chain.specs.Records.{Record}
 use Rattle.droid_journal_rewriting.specs.Taking.{Passes, StandIn}
-use Rattle.droid_journal_rewriting.proofs.taking.take_all.Given as goal
+use Rattle.droid_journal_rewriting.proofs.walk.take_all.Given as goal
 
 abbrev pub invariant-loop : goal.invariant-loop
 invariant-loop g l = record {
