@@ -26,6 +26,7 @@ BELOW_HEADS = {
     "droid_wire_turns": ["droid_frame_feed"],
     "droid_wire_journal": ["droid_journal_chain", "droid_journal_service"],
     "droid_journal_recovery": ["droid_core_revival"],
+    "droid_journal_smaller": ["droid_core_revival"],
     "droid_core_tests": ["droid_lines_script"],
     "droid_profile_rows": ["droid_core_spec"],
     "droid_profile_spec": ["droid_core_spec"],

@@ -79,4 +79,6 @@ pub(crate) const SMALLER: &[u8; 904] = b"\
     \x82\xc6\x7e\x77\x07\xe2\x5f\x42";
 
 /// Where the header and each record of the whole one end.
-pub(crate) const ENDS: [usize; 13] = [10, 81, 179, 277, 375, 458, 541, 624, 707, 791, 887, 956, 1025];
+pub(crate) const ENDS: [usize; 13] = [
+    10, 81, 179, 277, 375, 458, 541, 624, 707, 791, 887, 956, 1025,
+];

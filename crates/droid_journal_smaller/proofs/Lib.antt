@@ -1,0 +1,5 @@
+pub mod Ended
+pub mod FrameBytes
+pub mod Smaller
+pub mod Stamps
+pub mod SmallerFiles

@@ -1,0 +1,41 @@
+//! Laws of smaller journals. Each is the contract of a function that does nothing, and is proved with it.
+
+ghost use Rattle.std.specs.Prelude.{◌≡◌, [], ℕ, Bool, false, true, List};
+ghost use Rattle.droid_core.specs.Histories.{History, world_of};
+ghost use Rattle.droid_core.specs.Setting.{Setting};
+ghost use Rattle.droid_core_revival.specs.BareWorlds.{Bare, HaveEnded};
+ghost use Rattle.droid_core_revival.specs.Ending.{IsEnded};
+ghost use Rattle.droid_journal.specs.Opening.{WasFound};
+ghost use Rattle.droid_journal_chain.specs.Records.{Record};
+ghost use Rattle.droid_journal_recovery.specs.BareRecords.{HaveHistory};
+ghost use Rattle.droid_journal_rewriting.specs.Shortening.{IsShortened, IsWhole, has_ended, once, smaller_by};
+ghost use Rattle.droid_journal_smaller.specs.BareFiles.{bare_after, or_ended};
+ghost use Rattle.droid_journal_smaller.specs.Standing.{StandFor};
+
+/// Whichever files are made bare, the records of the smaller journal have the history of the old one's.
+pub fn a_smaller_journal_has_the_same_history()
+    ensures { (setting : Setting) (bare : Bare) (ended : ℕ → Bool) (its : List Record) (history : History) → HaveHistory setting bare [] its history
+        → HaveHistory setting (or_ended bare ended) [] (smaller_by ended its) history }
+{}
+
+/// Once the bare files of the old journal have ended, those of the smaller one have, if it makes only files bare that were
+/// finished or abandoned by the first record of a number.
+pub fn its_bare_files_have_ended()
+    ensures { (setting : Setting) (bare : Bare) (ended : ℕ → Bool) (its : List Record) (history : History) → HaveHistory setting bare [] its history
+        → ((profile file : ℕ) → bare profile file ≡ true → IsEnded (world_of setting history) profile file)
+        → ((number : ℕ) → ended number ≡ true → has_ended (once [] its) number ≡ true)
+        → (profile file : ℕ) → or_ended bare ended profile file ≡ true → IsEnded (world_of setting history) profile file }
+{}
+
+/// A file stands for the same history after it was made smaller as before, however often: whatever records opening finds in
+/// the smaller file, with the bytes that [`droid_journal_rewriting::rewrite`] writes, a service that is made of them stands
+/// for the history of the old file's records.
+pub fn a_smaller_file_stands_for_the_same_history()
+    ensures same { (header file bytes : List ℕ) (setting : Setting) (bare : Bare) (its read : List Record) (history : History) → IsWhole header file its → StandFor setting bare its history
+        → IsShortened header file bytes → WasFound header bytes read → StandFor setting (bare_after bare its) read history }
+    // What `RecoveringMachine::into_service` wants to know of the records.
+    ensures service { (setting : Setting) (bare : Bare) (its : List Record) (history : History) → StandFor setting bare its history
+        → HaveHistory setting bare [] its history × HaveEnded bare (world_of setting history) }
+    // A journal in which nothing is bare stands for its history.
+    ensures whole { (setting : Setting) (its : List Record) (history : History) → HaveHistory setting (λ profile file. false) [] its history → StandFor setting (λ profile file. false) its history }
+{}
