@@ -1,11 +1,18 @@
--- A text is read as its one list of terms, or spells none.
-use Rattle.std.proofs.Common.{map}
+-- A text is read as its one list of terms, or spells none, or is too long.
+use Rattle.std.proofs.Common.{map, inl, inr, refl, arith}
 use Rattle.droid_signature_texts.specs.TermValues.{term_of}
 use Rattle.droid_signature_texts.proofs.PieceSets.{text_patterns}
 use Rattle.droid_signature_patterns.proofs.reading.read_terms.Goals as goal
 
+pub returns-then-len-gt-LONGEST_TEXT-clause-err : goal.returns-then-len-gt-LONGEST_TEXT-clause-err
+returns-then-len-gt-LONGEST_TEXT-clause-err c = inl (refl, omega (arith, c.len.ensures))
+
 pub returns-in-Ok-clause-ok : goal.returns-in-Ok-clause-ok
 returns-in-Ok-clause-ok c = record {
+  short = omega (arith, c.len.ensures);
   spelled = c.in-Ok.ensures.spelled;
   patterns = text_patterns c.args.text.now (map term_of c.in-Ok.terms.items) c.in-Ok.ensures.spelled c.in-Ok.ensures.only;
 }
+
+pub returns-in-Err-BadText-clause-err : goal.returns-in-Err-BadText-clause-err
+returns-in-Err-BadText-clause-err c = inr (refl, c.in-Err-BadText.ensures.bad refl)
