@@ -4,15 +4,15 @@ use Rattle.droid_signature_texts.specs.TermValues.{term_of}
 use Rattle.droid_signature_texts.proofs.PieceSets.{text_patterns}
 use Rattle.droid_signature_patterns.proofs.reading.read_terms.Goals as goal
 
-pub returns-then-len-gt-LONGEST_TEXT-clause-err : goal.returns-then-len-gt-LONGEST_TEXT-clause-err
-returns-then-len-gt-LONGEST_TEXT-clause-err c = inl (refl, omega (arith, c.len.ensures))
+pub returns-then-text-gt-LONGEST_TEXT-clause-err : goal.returns-then-text-gt-LONGEST_TEXT-clause-err
+returns-then-text-gt-LONGEST_TEXT-clause-err c = inl (refl, omega arith)
 
 pub returns-in-Ok-clause-ok : goal.returns-in-Ok-clause-ok
 returns-in-Ok-clause-ok c = record {
-  short = omega (arith, c.len.ensures);
+  short = omega arith;
   spelled = c.in-Ok.ensures.spelled;
   patterns = text_patterns c.args.text.now (map term_of c.in-Ok.terms.items) c.in-Ok.ensures.spelled c.in-Ok.ensures.only;
 }
 
 pub returns-in-Err-BadText-clause-err : goal.returns-in-Err-BadText-clause-err
-returns-in-Err-BadText-clause-err c = inr (refl, c.in-Err-BadText.ensures.bad refl)
+returns-in-Err-BadText-clause-err c = inr (refl, (rw c.in-Err-BadText.field-0-is at c.in-Err-BadText.ensures.bad) refl)
