@@ -10,7 +10,7 @@ use droid_pronom_sample::SAMPLE;
 use std::alloc::{AllocError, Global};
 use std::test::Fail;
 
-/// Returns whether the report is right after each step together with this one.
+/// Returns whether the report is right after this step together with each step from it on.
 fn all_right_with(
     alloc: Global,
     registry: &Registry,
@@ -19,7 +19,9 @@ fn all_right_with(
 ) -> Result<bool, AllocError> {
     let listed = list_text(alloc, asked)?;
     for other in &STEPS {
-        if judge(alloc, registry, asked, listed.as_slice(), one | *other)? != Came::Right {
+        if *other >= one
+            && judge(alloc, registry, asked, listed.as_slice(), one | *other)? != Came::Right
+        {
             return Ok(false);
         }
     }
@@ -94,12 +96,26 @@ fn each_step_of_a_tree_that_is_listed(rt: HostRuntime) -> Result<(), Fail> {
 }
 
 #[test]
-fn each_pair_of_steps(rt: HostRuntime) -> Result<(), Fail> {
+fn each_pair_of_steps_by_a_profile(rt: HostRuntime) -> Result<(), Fail> {
     let alloc = rt.alloc();
     let registry = Registry::parse(alloc, SAMPLE.as_bytes())?;
-    for asked in [A_PROFILE, A_BAG, A_LISTING] {
-        assert!(rt; all_pairs_right(alloc, &registry, asked)?);
-    }
+    assert!(rt; all_pairs_right(alloc, &registry, A_PROFILE)?);
+    Ok(())
+}
+
+#[test]
+fn each_pair_of_steps_by_a_bag(rt: HostRuntime) -> Result<(), Fail> {
+    let alloc = rt.alloc();
+    let registry = Registry::parse(alloc, SAMPLE.as_bytes())?;
+    assert!(rt; all_pairs_right(alloc, &registry, A_BAG)?);
+    Ok(())
+}
+
+#[test]
+fn each_pair_of_steps_of_a_listing(rt: HostRuntime) -> Result<(), Fail> {
+    let alloc = rt.alloc();
+    let registry = Registry::parse(alloc, SAMPLE.as_bytes())?;
+    assert!(rt; all_pairs_right(alloc, &registry, A_LISTING)?);
     Ok(())
 }
 
