@@ -8,7 +8,7 @@ import random
 import subprocess
 import sys
 import unittest
-from concurrent.futures import ThreadPoolExecutor
+from concurrent.futures import ProcessPoolExecutor
 from itertools import product
 from types import SimpleNamespace
 
@@ -88,12 +88,12 @@ class Model(InFolder):
 
     def test_each_hash_limit_and_mode(self):
         cases = [(number, *how) for how in product(HASHES, LIMITS, (False, True)) for number in range(TREES)]
-        with ThreadPoolExecutor(WORKERS) as pool:
-            wrong = [it for it in pool.map(lambda case: compare(*case), cases) if it is not None]
+        with ProcessPoolExecutor(WORKERS) as pool:
+            wrong = [it for it in pool.map(compare, cases) if it is not None]
         self.assertEqual(wrong, [])
 
 
-def compare(*case):
+def compare(case):
     """Compares one tree in a folder of its own: what is wrong, if anything is."""
     test = Model()
     test.setUp()

@@ -11,7 +11,7 @@ import shutil
 import stat
 import subprocess
 import unittest
-from concurrent.futures import ThreadPoolExecutor
+from concurrent.futures import ProcessPoolExecutor
 
 from lib.program import PROGRAM, SAMPLE, Serve
 from lib.submissions import submit
@@ -62,6 +62,11 @@ def contents(top):
     return found
 
 
+def moments(top):
+    """The moment of each file and folder below a folder."""
+    return {path: os.lstat(top + path).st_mtime_ns // 10**9 for path in contents(top)}
+
+
 def files_of(items):
     """The files among these, as a list of checksums has them."""
     return {path: content for path, content in items.items() if content is not None}
@@ -89,24 +94,33 @@ def bag(items, name):
     return b"".join(HASHES[name](content).hexdigest().encode() + b"  data" + encode(path) + b"\n" for path, content in items.items() if content is not None)
 
 
-def expected(listed, found, name, with_sizes=True, unreadable=None):
+def expected(listed, found, name, with_sizes=True, unreadable=None, when=None):
     """The report by the definition: for each path of either side what differs; a missing file moved where it and a new file
     are the only ones with their hash, and their sizes are not known to differ. An unreadable path (with its reason) is
-    reported as that, and nothing else is of it and of what lies below it."""
+    reported as that, and nothing else is of it and of what lies below it. By `--quick` the moments of both sides
+    (`when`) are compared in the place of hashes, if there are sizes, and no file moves."""
     unreadable = unreadable or {}
     readable = lambda items: {p: items[p] for p in items if not any(p == u or p.startswith(u + b"/") for u in unreadable)}
     listed, found = readable(listed), readable(found)
     digest = lambda content: b"" if content is None or name == "none" else HASHES[name](content).hexdigest().encode()
     size = lambda content: b"" if content is None else str(len(content)).encode()
     old = lambda content: (size(content) if with_sizes else b"", digest(content))
-    new = lambda content: (size(content), digest(content))
+    new = lambda content: (size(content), b"" if when else digest(content))
+
+    def differ(path, a, b):
+        if (a is None) != (b is None):
+            return True
+        if when:
+            return a is not None and with_sizes and (len(a) != len(b) or when[0][path] != when[1][path])
+        return a is not None and (digest(a) != digest(b) or (with_sizes and len(a) != len(b)))
+
     missing = [path for path in listed if path not in found]
     added = [path for path in found if path not in listed]
     by = lambda paths, items: {d: [p for p in paths if digest(items[p]) == d] for d in {digest(items[p]) for p in paths} if d}
     lost, came = by(missing, listed), by(added, found)
     moves = {}
     for d, paths in lost.items():
-        if len(paths) == 1 and len(came.get(d, [])) == 1:
+        if len(paths) == 1 and len(came.get(d, [])) == 1 and not when:
             moves[paths[0]] = came[d][0]
     rows = []
     for path in sorted({*listed, *found, *unreadable}):
@@ -114,7 +128,7 @@ def expected(listed, found, name, with_sizes=True, unreadable=None):
             rows.append((b"unreadable", path, b"", b"", b"", b"", b"", unreadable[path]))
         elif path in listed and path in found:
             a, b = listed[path], found[path]
-            if (a is None) != (b is None) or (a is not None and (digest(a) != digest(b) or (with_sizes and len(a) != len(b)))):
+            if differ(path, a, b):
                 rows.append((b"changed", path, *old(a), path, *new(b), b""))
         elif path in moves:
             rows.append((b"moved", path, *old(listed[path]), moves[path], *new(found[moves[path]]), b""))
@@ -156,9 +170,9 @@ class InLists(InFolder):
 
 class Lists(InLists):
 
-    def checked(self, top, against, rows, **more):
+    def checked(self, top, against, rows, *words, **more):
         """Checks the report of `verify`, its status and that standard error counts what it has."""
-        status, out, said = verify(top, "--against", against, **more)
+        status, out, said = verify(top, "--against", against, *words, **more)
         self.assertEqual((rows_in(out), status), (rows, 5 if rows else 0), said)
         for kind in [b"changed", b"missing", b"new", b"moved", b"unreadable"]:
             self.assertIn(b"\n" + kind + b": %d\n" % sum(row[0] == kind for row in rows), said)
@@ -180,16 +194,17 @@ class Lists(InLists):
         self.write(os.path.basename(path), bag(contents(self.top), name))
         return folder, path, False
 
-    def by_each_form(self, change, forms=FORMS, **more):
+    def by_each_form(self, change, forms=FORMS, quick=False, **more):
         """Makes the lists of the tree, changes the tree, and compares it with each list. The change returns what is
         unreadable after it, if anything is."""
-        listed = contents(self.top)
+        listed, before = contents(self.top), moments(self.top)
         lists = [(name, *self.listed_as(form, name)) for form, name in forms]
         unreadable = change()
-        found = contents(self.top)
+        found, after = contents(self.top), moments(self.top)
         for name, top, path, with_sizes in lists:
             both = (listed, found) if with_sizes else (files_of(listed), files_of(found))
-            self.checked(top, path, expected(*both, name, with_sizes, unreadable), **more)
+            rows = expected(*both, name, with_sizes, unreadable, (before, after) if quick else None)
+            self.checked(top, path, rows, *["--quick"] * quick, **more)
 
     def tree(self):
         for folder in (b"/in", b"/out"):
@@ -467,8 +482,8 @@ class Lists(InLists):
         self.checked(self.top, path, expected(listed, contents(self.top), "md5"))
 
     def test_random_pairs(self):
-        """Each is compared by one form of a list."""
-        with ThreadPoolExecutor(WORKERS) as pool:
+        """Each is compared by one form of a list, with --quick or without."""
+        with ProcessPoolExecutor(WORKERS) as pool:
             wrong = [it for it in pool.map(compare_pair, range(PAIRS)) if it is not None]
         self.assertEqual(wrong, [])
 
@@ -489,7 +504,7 @@ class Lists(InLists):
                 self.folder(path)
             elif not os.path.isdir(full):
                 self.folder(folder)
-                self.file(path, b"%d" % chance.randrange(5) * chance.randrange(3))
+                self.file(path, b"%d" % chance.randrange(5) * chance.randrange(3), 1_600_000_000 + chance.randrange(2))
 
     def spoil(self, chance):
         """Puts a pipe or a link in the place of a file, or neither: what is unreadable then."""
@@ -514,7 +529,7 @@ def compare_pair(number):
 
     try:
         case.fill(chance, 16)
-        case.by_each_form(change, [chance.choice(FORMS)])
+        case.by_each_form(change, [chance.choice(FORMS)], chance.randrange(4) == 0)
     except AssertionError as wrong:
         return f"pair {number}: {wrong}"
     finally:
@@ -535,9 +550,9 @@ class Formats(InLists):
         self.assertEqual(profile(self.top, "--registry", SAMPLE, "--output", self.path, "--quiet")[0], 0)
         self.text = bytes_of(self.path)
 
-    def identified(self, text, formats, others=(), registry=SAMPLE):
+    def identified(self, text, formats, others=(), by=("--registry", SAMPLE)):
         """Checks the rows of formats: by path those of the list and those that are found."""
-        status, out, said = verify(self.top, "--against", self.write(b"changed.csv", text), "--identify", "--registry", registry)
+        status, out, said = verify(self.top, "--against", self.write(b"changed.csv", text), "--identify", *by)
         found = records_in(out)
         self.assertEqual({r["path"]: (r["formats"], r["found_formats"]) for r in found if r["difference"] == b"format"}, formats, said)
         self.assertEqual([(r["difference"], r["path"]) for r in found if r["difference"] != b"format"], list(others), said)
@@ -579,7 +594,32 @@ class Formats(InLists):
 
     def test_another_registry(self):
         registry = self.write(b"other.csv", bytes_of(SAMPLE).replace(b"dev/1,", b"dev/7,"))
-        self.identified(self.text, {b"/in/a.msg": (b"dev/1", b"dev/7")}, registry=registry)
+        self.identified(self.text, {b"/in/a.msg": (b"dev/1", b"dev/7")}, by=("--registry", registry))
+
+    def test_options(self):
+        """A signature that begins at byte 3 is found with a limit of 4 and not with one of 3; a format that has one goes by its
+        extension only with --match-all."""
+        by = "--registry", self.write(b"registry.csv", b"F,dev/1,One,,,\nE,dev/1,one,,,\nS,dev/1,BOF,3,3,61\n")
+        self.file(b"/x.bin", b"...a")
+        self.file(b"/y.one", b"...b")
+        self.assertEqual(profile(self.top, *by, "--output", self.path, "--quiet")[0], 0)
+        text = bytes_of(self.path)
+        self.identified(text, {}, by=by)
+        self.identified(text, {}, by=(*by, "--limit", "4"))
+        self.identified(text, {b"/x.bin": (b"dev/1", b"")}, by=(*by, "--limit", "3"))
+        self.identified(text, {b"/y.one": (b"", b"dev/1")}, by=(*by, "--match-all"))
+
+    def test_everyday_formats(self):
+        """They are those of `profile`, with --everyday and without."""
+        self.file(b"/d.png", b"\x89PNG\r\n\x1a\n\0\0\0\rIHDR")
+        self.assertEqual(profile(self.top, "--output", self.path, "--quiet")[0], 0)
+        text = bytes_of(self.path)
+        [png] = [row["PUID"] for row in csv.DictReader(io.StringIO(text.decode(), newline="")) if row["NAME"] == "d.png"]
+        self.assertTrue(png)
+        for by in ((), ("--everyday",)):
+            self.identified(text, {}, by=by)
+        status, out, said = verify(self.top, "--against", self.path, "--identify", "--registry", SAMPLE)
+        self.assertIn((b"/d.png", png.encode(), b""), [(row["path"], row["formats"], row["found_formats"]) for row in records_in(out)], said)
 
     def test_lists_without_formats(self):
         listed = self.write(b"list", sums({b"/c": b"nothing that is known"}, "md5"))
