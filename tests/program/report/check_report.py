@@ -1,6 +1,7 @@
 """Tests `report` of the built program: every number of the page is computed again from the CSV, which is random or odd.
 check_report.py PROGRAM"""
 
+import datetime
 import os
 import random
 import re
@@ -10,6 +11,7 @@ import subprocess
 import sys
 import tempfile
 import time
+from xml.etree import ElementTree
 
 sys.path.insert(0, os.path.dirname(os.path.abspath(__file__)))
 import numbers_of  # noqa: E402
@@ -63,8 +65,10 @@ def see(text, title, hash_words="Its hashes are MD5"):
     page = page_by(text.encode("utf-8"), title)
     read = Page(page)
     assert read.title == numbers_of.shown(title) and read.heading == numbers_of.shown(title), (read.title, title)
-    about = re.fullmatch(r"Made by droid_desk from p\.csv at \d{4}-\d\d-\d\dT\d\d:\d\d:\d\d \(UTC\)\. (.*)\. A file with several formats counts once\.", read.about)
-    assert about and about.group(1) == hash_words, read.about
+    about = re.fullmatch(r"Made by droid_desk from p\.csv at (\d{4}-\d\d-\d\dT\d\d:\d\d:\d\d) \(UTC\)\. (.*)\. A file with several formats counts once\.", read.about)
+    assert about and about.group(2) == hash_words, read.about
+    made = datetime.datetime.fromisoformat(about.group(1) + "+00:00")
+    assert abs(datetime.datetime.now(datetime.timezone.utc) - made) < datetime.timedelta(minutes=10), made
     start, end = page.index("<main>"), page.index("</body>")
     around = len((page[:start] + page[end:]).encode())
     tables, body = numbers_of.fitting(numbers_of.Numbers(text), title, read.about, around)
@@ -184,11 +188,17 @@ def many_rows():
 
 
 def pictures(page):
-    """Each SVG by xmllint, where it is installed."""
+    """Each SVG as XML: by Python, and by xmllint, where it is installed."""
+    found = re.findall(r"<svg .*?</svg>", page)
+    for svg in found:
+        picture = ElementTree.fromstring(svg)
+        (bar,) = picture
+        assert (picture.tag, bar.tag, len(bar)) == ("svg", "rect", 0), svg
+        assert picture.attrib["viewbox"] == "0 0 1000 20" and 0 <= int(bar.attrib["width"]) <= 1000, svg
+    print(f"{len(found)} pictures as XML: passed")
     if not shutil.which("xmllint"):
         print("pictures: skipped, xmllint is not installed")
         return
-    found = re.findall(r"<svg .*?</svg>", page)
     whole = "<all>" + "".join(found) + "</all>"
     done = subprocess.run(["xmllint", "--noout", "-"], input=whole.encode(), capture_output=True, timeout=60)
     assert done.returncode == 0 and found, done.stderr
