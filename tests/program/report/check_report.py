@@ -92,7 +92,8 @@ def random_profiles():
 
 
 def odd_profiles():
-    """An empty profile, one whose names fill more than a page, one of many years, one whose sums end at 2^64 - 1."""
+    """An empty profile, one whose names fill more than a page, one of many years, one whose sums end at 2^64 - 1, and those
+    whose formats' names fill a page."""
     see(written([]), "empty")
     see(written([["1", "", "file:/a/", "/a", "a", "", "Done", "", "Folder", "", "", "false", "", "", "", "", "", ""]]), "a folder")
     see(written(row(n, "/" + '"' * 3000 + str(n)) for n in range(300)), "long names")
@@ -100,7 +101,22 @@ def odd_profiles():
     see(written(row(n, f"/{n}", moment=f"{n:04}-01-01T00:00:00") for n in range(10000)), "ten thousand years")
     see(written(row(n, f"/{n}", size=2**63) for n in range(5)), "large files")
     see(written(row(n, f"/{n}", method="Extension", puid=f"fmt/{n}") for n in range(1000)), "many formats")
+    for size in (500, 5_000, 50_000):
+        see(written(named_rows(20, '"' * size)), "long names of formats")
+    # the largest page without a format's name: each size and depth, and numbers of twenty digits
+    see(written(row(n, "/" * (n % 70 + 1) + "a", size=min(4 ** (n % 35), 2**64 - 1)) for n in range(700)) + "\n".join(lines_of(named_rows(20, "&" * 50_000))), "x" * 10_000)
     print("odd profiles: passed")
+
+
+def named_rows(count, name):
+    """Returns rows of files whose formats have this name, and a number behind it."""
+    rows = [row(n, f"/{n}", method="Extension", puid=f"fmt/{n}") for n in range(1_000, 1_000 + count)]
+    return [[*one[:16], name + str(place), ""] for place, one in enumerate(rows)]
+
+
+def lines_of(rows):
+    """Returns the lines of rows in a CSV, without its header."""
+    return written(rows).split("\n")[1:]
 
 
 def each_byte_changed():
