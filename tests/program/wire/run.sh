@@ -13,6 +13,7 @@ run_modules run_command both_versions cases_as_frames export_parts serve_command
     hostile_streams hostile_registries || exit 1
 # once more, by a service for many connections at once
 export SERVE_OPTIONS="--at-once 8"
-run_modules serve_command idle_streams.Idle idle_streams.NothingHeldBack.test_by_serve idle_streams.NothingHeldBack.test_by_send \
+run_modules serve_command two_senders both_versions send_sizes send_faults send_streams.SendStreams send_memory hostile_rows \
+    steady_memory.SteadyConnections idle_streams.Idle idle_streams.NothingHeldBack.test_by_serve idle_streams.NothingHeldBack.test_by_send \
     hostile_streams.ChangedBytes.test_through_serve hostile_streams.CutSessions hostile_streams.SlowClients \
     hostile_streams.Floods.test_through_serve
