@@ -4,9 +4,9 @@ ghost use Rattle.std.specs.Prelude.{[], ◌≤◌, IfOk, length};
 
 use crate::disk_fault::DiskFault;
 use crate::drive::{Drive, DriveError};
-use std::fs::{self, File, Files, OpenFile, OpenOptions};
+use std::fs::{self, File, Files, Metadata, OpenFile, OpenOptions};
 use std::io::{self, ErrorKind, Write};
-use std::os::unix::fs::FileExt;
+use std::os::unix::fs::{FileExt, MetadataExt};
 
 /// Progress is printed each time that so many more bytes were read.
 const REPORTED: u64 = 1_073_741_824;
@@ -27,6 +27,9 @@ pub struct FileDrive<'a, R> {
 
 impl<'a, R: Files<File = File> + Eprint + AllocGlobal> FileDrive<'a, R> {
     /// Opens a file, and makes it if it is not there. The name is then on the disk too. A link is no regular file.
+    ///
+    /// Fails as in use if another process put another file in the place of the name before this one had the lock: nobody
+    /// would find again what was appended to a file without a name.
     pub fn open(runtime: &'a R, path: &'a str) -> Result<FileDrive<'a, R>, DiskFault> {
         see_regular(runtime, path)?;
         let file = match open_for_appending(runtime, path) {
@@ -34,6 +37,7 @@ impl<'a, R: Files<File = File> + Eprint + AllocGlobal> FileDrive<'a, R> {
             Err(error) => return Err(DiskFault::Unopened(error.kind())),
         };
         lock(&file)?;
+        see_named(runtime, path, &file)?;
         match sync_folder(runtime, path) {
             Ok(()) => Ok(FileDrive {
                 runtime,
@@ -80,6 +84,28 @@ fn lock(file: &File) -> Result<(), DiskFault> {
         Err(fs::TryLockError::WouldBlock) => Err(DiskFault::InUse),
         Err(fs::TryLockError::Error(error)) => Err(DiskFault::Unopened(error.kind())),
     }
+}
+
+/// Sees that a path is still that of an open file.
+fn see_named<R: Files>(runtime: &R, path: &str, file: &File) -> Result<(), DiskFault> {
+    let named = match fs::symlink_metadata(runtime, path) {
+        Ok(named) => named,
+        Err(error) => return Err(DiskFault::Unopened(error.kind())),
+    };
+    match file.metadata() {
+        Ok(opened) => {
+            if is_same_file(&named, &opened) {
+                return Ok(());
+            }
+            Err(DiskFault::InUse)
+        }
+        Err(error) => Err(DiskFault::Unopened(error.kind())),
+    }
+}
+
+/// Returns whether both are of one file.
+fn is_same_file(first: &Metadata, second: &Metadata) -> bool {
+    first.dev() == second.dev() && first.ino() == second.ino()
 }
 
 /// Brings the name of a file to the disk.

@@ -8,7 +8,7 @@ from journal_file import header_size, header_text, md5, next_check, read, record
 from journal_session import REGISTRY, InJournal, contents, run_journal, sample_bytes, serving, store
 from lib.connections import connect, free_port, read_exactly
 from lib.frames import ADD_FOLDER, EXPORT, NODE, create, export_body, file, finish, folder, frame, piece, reply, status
-from lib.program import EVERYDAY, Serve, faults, run_plainly
+from lib.program import EVERYDAY, Serve, faults, preloaded, run_plainly
 from model_frames import answer, service_of_the_sample
 
 ASKED = [create(1), folder(2, b"in"), file(3, b"a.msg", 7, 7), piece(4, 2, 0, b"message"), finish(5, 2), folder(6, b"out", version=2)]
@@ -134,6 +134,18 @@ class Refused(InJournal):
             code, written, said = run_plainly(["serve", "--port", free_port(), *REGISTRY, "--journal", self.path])
             self.assertEqual((code, written, faults(said.encode()).decode()), (4, b"", "fault: Journal in use\n"))
         self.assertEqual(run_journal(self.path, ASKED[0])[0], 0)
+
+    def test_a_file_that_lost_its_name(self):
+        """Another file takes the journal's name when the journal was opened and is not locked yet. Whatever were appended now
+        nobody would find again."""
+        other = self.path + ".new"
+        self.assertEqual(run_journal(self.path, ASKED[0])[0], 0)
+        self.assertEqual(run_journal(other, b"".join(ASKED[:2]))[0], 0)
+        before = contents(other)
+        env = preloaded("SYNCED", JOURNAL="/desk.journal", SYNCED=os.path.join(self.folder, "synced"), REPLACEMENT=other)
+        self.ends(run_journal(self.path, ASKED[2], env=env), 4, "fault: Journal in use")
+        self.assertEqual(contents(self.path), before)
+        self.assertEqual(run_journal(self.path, b"".join(ASKED[:3])), (0, by_model(ASKED[:3]), b""))
 
     def test_no_regular_file(self):
         link = os.path.join(self.folder, "link")

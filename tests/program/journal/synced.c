@@ -1,16 +1,20 @@
 // For LD_PRELOAD: notes how much of a journal is on the disk. Behind each fdatasync or fsync that succeeded the file SYNCED
-// has, as text, the number of bytes that the synced file had before the call, if its path ends with JOURNAL.
+// has, as text, the number of bytes that the synced file had before the call, if its path ends with JOURNAL. If REPLACEMENT
+// names a file, that file takes the journal's name just before the journal is locked.
 #define _GNU_SOURCE
 #include <dlfcn.h>
 #include <fcntl.h>
 #include <stdio.h>
 #include <stdlib.h>
 #include <string.h>
+#include <sys/file.h>
 #include <sys/stat.h>
 #include <unistd.h>
 
+static char path[4096];
+
 static int is_journal(int fd) {
-    char link[64], path[4096];
+    char link[64];
     const char *name = getenv("JOURNAL");
     snprintf(link, sizeof link, "/proc/self/fd/%d", fd);
     ssize_t size = readlink(link, path, sizeof path - 1);
@@ -49,4 +53,13 @@ int fdatasync(int fd) {
 
 int fsync(int fd) {
     return noted(fd, "fsync");
+}
+
+int flock(int fd, int how) {
+    int (*real)(int, int) = (int (*)(int, int))dlsym(RTLD_NEXT, "flock");
+    const char *other = getenv("REPLACEMENT");
+    if (other && is_journal(fd) && rename(other, path) != 0) {
+        abort();
+    }
+    return real(fd, how);
 }
