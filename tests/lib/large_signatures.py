@@ -11,6 +11,8 @@ FORMATS, SIGNATURES = 2_500, 2_200
 BYTES = 1024 * 1024
 FULL = 16 * BYTES
 LONG_NAME = b"n" * 65_536
+# the most bytes of a text that is read
+LONG_TEXT = 65_536
 
 
 def digits(some):
@@ -117,9 +119,9 @@ def usual():
 ROOT, ROOT_END = b"<FFSignatureFile>", b"</FFSignatureFile>"
 
 
-def filled(front, part, back):
-    """A text of about BYTES bytes, with as many of the parts as fit."""
-    return front + part * ((BYTES - len(front) - len(back)) // len(part)) + back
+def filled(front, part, back, size=None):
+    """A text of about BYTES bytes, or of at most `size`, with as many of the parts as fit."""
+    return front + part * (((size or BYTES) - len(front) - len(back)) // len(part)) + back
 
 
 def numbered(front, part, back):
@@ -173,16 +175,26 @@ def text(front, part, back):
     return filled(before + b"<SubSequence Position='1' SubSeqMaxOffset='0'><Sequence>" + front, part, back + b"</Sequence></SubSequence>" + behind)
 
 
-def wide_signatures():
-    """Signatures of 64 patterns of nearly 4,096 bytes each, which a format names."""
-    fragments = b"".join(b"<RightFragment Position='1' MaxOffset='0'>%02X</RightFragment>" % at for at in range(64))
-    inner = (
-        b"<ByteSequence Reference='BOFoffset'><SubSequence Position='1' SubSeqMaxOffset='0'><Sequence>" + b"61" * 2_040 + b"</Sequence>"
-        + fragments + b"</SubSequence></ByteSequence>"
-    )
-    count = BYTES // (len(inner) + 100)
-    signatures = b"".join(b"<InternalSignature ID='%d'>%s</InternalSignature>" % (at, inner) for at in range(count))
-    named = b"".join(b"<InternalSignatureID>%d</InternalSignatureID>" % at for at in range(count))
+def long_texts(front, part, back):
+    """A file of signatures, each with a sequence of a text that is as long as one may be."""
+    whole = filled(front, part, back, LONG_TEXT)
+    before, behind = in_signatures(b"")
+    sequence = b"<ByteSequence Reference='BOFoffset'>" + LONG_SUBSEQUENCE % (1, whole) + b"</ByteSequence>"
+    return numbered(before, b"<InternalSignature ID='%d'>" + sequence + b"</InternalSignature>", behind)
+
+
+def long_fragments(part):
+    """A file of one sequence with fragments of such texts."""
+    return fragments_of(b"<LeftFragment Position='1' MaxOffset='0'>" + filled(b"", part, b"", LONG_TEXT) + b"</LeftFragment>")
+
+
+def wide_signatures(front, part, count, back=b""):
+    """Signatures of so many patterns of nearly 4,096 bytes each, which a format names."""
+    whole = front + b"(" + b"|".join([part] * count) + b")" + back
+    inner = b"<ByteSequence Reference='BOFoffset'>" + LONG_SUBSEQUENCE % (1, whole) + b"</ByteSequence>"
+    many = BYTES // (len(inner) + 100)
+    signatures = b"".join(b"<InternalSignature ID='%d'>%s</InternalSignature>" % (at, inner) for at in range(many))
+    named = b"".join(b"<InternalSignatureID>%d</InternalSignatureID>" % at for at in range(many))
     front, back = in_formats(b"<FileFormat ID='1' PUID='f/1' Name='N'>" + named + b"</FileFormat>")
     return front.replace(b"<InternalSignature ID='1'></InternalSignature>", signatures) + back
 
@@ -193,8 +205,11 @@ def declared_entities():
     return b"<!DOCTYPE a [" + entities + b"]><a>&a98;</a>"
 
 
+LONG_SUBSEQUENCE = b"<SubSequence Position='%d' SubSeqMaxOffset='0'><Sequence>%b</Sequence></SubSequence>"
 SUBSEQUENCE = b"<SubSequence Position='%d' SubSeqMaxOffset='0'><Sequence>61</Sequence></SubSequence>"
 FRAGMENT = b"<LeftFragment Position='%s' MaxOffset='0'>61</LeftFragment>"
+# five bytes, none of them 00 or 01: a text of 40 bytes, and 3,815 in a pattern
+EXCLUDED = b"[!00:01]" * 5
 # the first line where a signature file has no version
 NOTHING = "signature file: version , of "
 # each with the first line that `registry` prints
@@ -222,7 +237,11 @@ HOSTILE = {
     "priorities": (lambda: in_format(b"<HasPriorityOverFileFormatID>1</HasPriorityOverFileFormatID>"), NOTHING),
     "one signature named often": (lambda: in_format(b"<InternalSignatureID>1</InternalSignatureID>"), NOTHING),
     "signatures": (lambda: numbered(*around(b"<InternalSignature ID='%d'/>", *in_signatures(b""))), NOTHING),
-    "wide signatures": (wide_signatures, "fault: LongRegistry"),
+    "signatures of four patterns": (lambda: wide_signatures(EXCLUDED, b"??", 4), "fault: LongRegistry"),
+    "wide signatures": (lambda: wide_signatures(EXCLUDED, b"??", 64), NOTHING),
+    "wide signatures with a gap at the end": (lambda: wide_signatures(EXCLUDED, b"??", 4, b"*"), NOTHING),
+    "signatures of long alternatives": (lambda: wide_signatures(b"", EXCLUDED, 64), NOTHING),
+    "signatures of a long byte sequence": (lambda: wide_signatures(b"61" * 2_000, b"??", 64), NOTHING),
     "byte sequences": (lambda: filled(*around(b"<ByteSequence/>", *in_signatures(b"<InternalSignature ID='1'>"), b"</InternalSignature>")), NOTHING),
     "subsequences": (lambda: numbered(*around(SUBSEQUENCE, *around_sequence())), NOTHING),
     "fragments of one position": (lambda: fragments_of(FRAGMENT % b"1"), NOTHING),
@@ -237,6 +256,14 @@ HOSTILE = {
     "open quotes": (lambda: text(b"", b"(61|'", b""), NOTHING),
     "open braces": (lambda: text(b"{", b"1", b""), NOTHING),
     "gaps": (lambda: text(b"", b"*", b""), NOTHING),
+    "long texts of bytes": (lambda: long_texts(b"", b"61", b""), NOTHING),
+    "long texts of gaps": (lambda: long_texts(b"", b"*", b""), NOTHING),
+    "long texts of alternatives": (lambda: long_texts(b"(61", b"|61", b")"), NOTHING),
+    "long texts of alternatives with gaps": (lambda: long_texts(b"(61", b"|61*62", b")"), NOTHING),
+    "long texts of gaps in an alternative": (lambda: long_texts(b"(61|", b"*", b")"), NOTHING),
+    "long texts of excluded ranges": (lambda: long_texts(b"", b"[!00:01]", b""), NOTHING),
+    "long texts of ranges": (lambda: long_texts(b"", b"[0000:FFFF]", b""), NOTHING),
+    "long texts of fragments": (lambda: long_fragments(b"*"), NOTHING),
 }
 
 

@@ -122,6 +122,20 @@ class InFolder(unittest.TestCase):
             file.write(content)
         os.utime(self.top + path, ns=(0, int(when * 1_000_000_000)))
 
+    def as_nobody(self, command, *words):
+        """Runs a copy of the program over the folder as a user who is not root, whom permissions stop: its status, its
+        standard output and its standard error."""
+        if os.geteuid():
+            run = subprocess.run([PROGRAM, command, self.top, *words], capture_output=True, timeout=120, check=False)
+            return run.returncode, run.stdout, run.stderr
+        for path in (self.work, self.top):
+            os.chmod(path, 0o755)
+        copy = self.work + b"/program"
+        shutil.copy(PROGRAM, copy)
+        os.chmod(copy, 0o755)
+        run = subprocess.run([copy, command, self.top, *words], capture_output=True, timeout=120, user=65534, group=65534, extra_groups=[], cwd="/", check=False)
+        return run.returncode, run.stdout, run.stderr
+
     def same(self, text, rows):
         """Checks that the export has exactly these rows, in their order."""
         found = read(text)

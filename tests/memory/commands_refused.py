@@ -1,5 +1,6 @@
 """Runs `script` over its stored script, in both versions, `profile` and `verify` of a folder, and `registry` again and again, and
 refuses another of their allocations each time. As many run at once as there are processors."""
+import hashlib
 import os
 import re
 import subprocess
@@ -64,12 +65,12 @@ class Refused(InFolder):
         hashed = [line + b" md5" * (b" create " in line) for line in lines]
         self.each_of_a_script(b"".join(b"v2 %s\n" % line for line in hashed))
 
-    def made_by(self, *words, page=False, **variables):
-        """Runs a command with an output file, and a page or none: the status, the output with the fault, and the files that
-        are there, by name. The page is without the moment when it was made."""
+    def made_by(self, *words, beside=(), **variables):
+        """Runs a command with an output file, and others beside it (their options and names): the status, the output with the
+        fault, and the files that are there, by name. A page is without the moment when it was made."""
         with tempfile.TemporaryDirectory(dir=self.work) as made:
-            if page:
-                words += ("--report", os.path.join(made, b"page.html"))
+            for option, name in beside:
+                words += (option, os.path.join(made, name))
             status, written, said = run(*words, "--output", os.path.join(made, b"output"), **variables)
             named = b"".join(line for line in said.splitlines(True) if line.startswith(b"fault: "))
             files = {}
@@ -82,7 +83,7 @@ class Refused(InFolder):
         """Runs a command with each of its allocations refused. Its output files are complete, or there are none, not even
         unfinished ones; of several the first may be complete without the others."""
         whole = self.made_by(*words, **more)
-        self.assertEqual((whole[0], whole[1], sorted(whole[2])), (due, b"", names))
+        self.assertEqual((whole[0], whole[1], sorted(whole[2])), (due, b"", sorted(names)))
         self.assertTrue(all(whole[2].values()))
         begun = [{name: whole[2][name] for name in names[:count]} for count in range(len(names))]
 
@@ -98,6 +99,14 @@ class Refused(InFolder):
         self.file(b"/outer/inner/second", b"nothing that is known")
         self.each_output(["profile", self.top, "--registry", SAMPLE], [b"output"], 0)
 
+    def test_profile_with_lists(self):
+        """By SHA-256, with a link that is skipped: the CSV is the last file that is put in its place."""
+        self.folder(b"/outer")
+        self.file(b"/outer/first.msg", b"message of a file")
+        os.symlink(b"first.msg", self.top + b"/outer/link")
+        beside = ("--manifest", b"sums"), ("--skipped", b"skipped.csv")
+        self.each_output(["profile", self.top, "--registry", SAMPLE, "--hash", "sha256"], [b"skipped.csv", b"sums", b"output"], 0, beside=beside)
+
     def test_registry(self):
         """A signature file of which not all is taken."""
         self.each_output(["registry", SIGNATURES], [b"output", b"output.txt"], 5, {4, 6}, {5})
@@ -106,16 +115,17 @@ class Refused(InFolder):
         """The page is made last: if it is there, the CSV is there too."""
         self.folder(b"/outer")
         self.file(b"/outer/first.msg", b"message of a file")
-        self.each_output(["profile", self.top, "--registry", SAMPLE], [b"output", b"page.html"], 0, page=True)
+        self.each_output(["profile", self.top, "--registry", SAMPLE], [b"output", b"page.html"], 0, beside=[("--report", b"page.html")])
 
-    def verify(self, listed, *more, **variables):
-        """Compares the folder with a list: the status, the output with the fault, and the summary's line on formats."""
-        status, written, said = run("verify", self.top, "--against", listed, *more, **variables)
+    def verify(self, top, listed, *more, **variables):
+        """Compares a folder with a list: the status, the output with the fault, and the summary's line on formats."""
+        status, written, said = run("verify", top, "--against", listed, *more, **variables)
         kept = [line for line in said.splitlines(True) if line.startswith((b"fault: ", b"format: "))]
         return status, written + b"".join(kept)
 
     def test_verify(self):
-        """A file changed, one moved, one is new and one has another format: the report is whole, or there is none."""
+        """A file changed, one moved, one is new and one has another format: the report by each form of a list is whole, or there
+        is none."""
         self.folder(b"/outer/inner")
         self.file(b"/outer/first.msg", b"message of a file")
         self.file(b"/outer/inner/second", b"nothing that is known")
@@ -126,18 +136,40 @@ class Refused(InFolder):
             text = file.read()
         with open(listed, "wb") as file:
             file.write(text.replace(b"dev/1", b"dev/9"))
+        bag = self.work + b"/bag"
+        os.mkdir(bag)
+        os.symlink(self.top, bag + b"/data")
+        sums = {name: hashlib.sha256(self.bytes_of(name)).hexdigest().encode() for name in (b"moved", b"outer/first.msg", b"outer/inner/second")}
+        lists = {
+            b"/bag/bagit.txt": b"BagIt-Version: 1.0\nTag-File-Character-Encoding: UTF-8\n",
+            b"/sums": b"".join(digest + b"  " + name + b"\n" for name, digest in sums.items()),
+            b"/manifest": b"".join(digest + b"  data/" + name + b"\n" for name, digest in sums.items()),
+        }
+        for path, text in lists.items():
+            with open(self.work + path, "wb") as file:
+                file.write(text)
         self.file(b"/outer/inner/second", b"NOTHING that is known")
         os.rename(self.top + b"/moved", self.top + b"/outer/moved")
         self.file(b"/new", b"new")
-        # (--quick does not see that bytes changed; it reads no registry, so that it never ends with status 3)
-        for more, lines, statuses in (["--quick"], 4, {4, 5, 6}), (["--identify", "--registry", SAMPLE], 6, {3, 4, 5, 6}):
-            whole = self.verify(listed, *more)
+        # (--quick does not see that bytes changed; without formats no registry is read, so that the status is never 3)
+        cases = [
+            (4, {4, 5, 6}, self.top, listed, "--quick"),
+            (6, {3, 4, 5, 6}, self.top, listed, "--identify", "--registry", SAMPLE),
+            (4, {4, 5, 6}, self.top, self.work + b"/sums"),
+            (4, {4, 5, 6}, bag, self.work + b"/manifest"),
+        ]
+        for lines, statuses, *words in cases:
+            whole = self.verify(*words)
             self.assertEqual((whole[0], len(whole[1].splitlines())), (5, lines), whole)
 
             def is_right(status, written):
                 return (status, written) == whole if status == 5 else status in statuses and written == FAULT
 
-            self.each_in_turn(lambda **variables: self.verify(listed, *more, **variables), is_right, statuses)
+            self.each_in_turn(lambda **variables: self.verify(*words, **variables), is_right, statuses)
+
+    def bytes_of(self, name):
+        with open(self.top + b"/" + name, "rb") as file:
+            return file.read()
 
 
 def script_is_right(status, written, said):

@@ -28,6 +28,7 @@ TESTS = {
     "droid_wire_client_tests": ["memory::short_and_again"],
     "droid_lines_send_tests": ["memory::each_growth_of_a_sending"],
     "droid_wire_tests": ["memory::each_growth_of_serving"],
+    "droid_wire_turns_tests": ["memory::each_growth_of_turns"],
     "droid_export_tests": ["memory::each_growth_of_small_texts", "memory::each_growth_of_an_export", "row_texts::each_growth_of_rows"],
     "droid_store_tests": ["memory::each_growth_of_the_store"],
     "droid_fixity_manifest_tests": ["growths::each_growth_of_a_list", "growths::each_growth_of_a_manifest", "growths::each_growth_of_a_text"],

@@ -6,13 +6,15 @@
  *   READ_INTERRUPTED_AT    BYTES:CALLS,BYTES:CALLS.. with rising BYTES: after BYTES bytes interrupts CALLS calls
  *   READ_ROOM              after this many bytes each call fails
  *   READ_FAILS_ONCE        after this many bytes one call fails, and the next succeeds
- *   READ_WIDTH             a call takes at most this many bytes; a write of width 0 takes none */
+ *   READ_WIDTH             a call takes at most this many bytes; a write of width 0 takes none
+ * CLOCK_TIMES has its clock go so many times as fast. */
 #define _GNU_SOURCE
 #include <dlfcn.h>
 #include <errno.h>
 #include <stdio.h>
 #include <stdlib.h>
 #include <sys/socket.h>
+#include <time.h>
 #include <unistd.h>
 
 struct stream {
@@ -123,4 +125,20 @@ ssize_t send(int file, const void *bytes, size_t size, int flags) {
     if (!next) next = (ssize_t (*)(int, const void *, size_t, int))dlsym(RTLD_NEXT, "send");
     most = allowed(&sent, size);
     return most <= 0 ? most : counted(&sent, next(file, bytes, most, flags));
+}
+
+int clock_gettime(clockid_t clock, struct timespec *now) {
+    static int (*next)(clockid_t, struct timespec *);
+    static struct timespec first;
+    const char *times = getenv("CLOCK_TIMES");
+    long long passed;
+    int result;
+    if (!next) next = (int (*)(clockid_t, struct timespec *))dlsym(RTLD_NEXT, "clock_gettime");
+    result = next(clock, now);
+    if (result || !times || clock != CLOCK_MONOTONIC) return result;
+    if (!first.tv_sec) first = *now;
+    passed = ((now->tv_sec - first.tv_sec) * 1000000000LL + now->tv_nsec - first.tv_nsec) * atol(times) + first.tv_nsec;
+    now->tv_sec = first.tv_sec + passed / 1000000000LL;
+    now->tv_nsec = passed % 1000000000LL;
+    return 0;
 }

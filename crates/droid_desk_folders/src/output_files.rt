@@ -4,7 +4,7 @@ use crate::submission_ending::{OutputFile, SubmissionEnding};
 use droid_desk_arguments::SubmitOptions;
 use droid_desk_report::{
     PageFault, SkippedEntry, absolute_path, folder_of, is_same_place, lies_in, name_of, page_now,
-    put_page, skipped_csv,
+    put_page, skipped_csv, title_of,
 };
 use droid_frame::{WriteState, write_all};
 use droid_tree_disk::{Output, OutputFault};
@@ -97,8 +97,8 @@ pub(crate) fn write_skipped<R: Files<File = File> + AllocGlobal>(
     }
 }
 
-/// Writes the page of the profile, if a file is named for it. `absolute` is the absolute path of the folder, whose name the
-/// page has if no file is named for the CSV.
+/// Writes the page of the profile, if a file is named for it. Its title is the name of the folder, of which `absolute` is the
+/// absolute path; it says that it is made from the CSV's file, or from the folder if no file is named for the CSV.
 pub(crate) fn write_report<R: Files<File = File> + Clock + AllocGlobal>(
     rt: &R,
     options: SubmitOptions<'_>,
@@ -108,8 +108,9 @@ pub(crate) fn write_report<R: Files<File = File> + Clock + AllocGlobal>(
     let Some(path) = options.report else {
         return Ok(());
     };
+    let title = title_of(absolute);
     let name = name_of(options.export.unwrap_or(absolute));
-    let page = page_now(rt, csv, name, name, None)?;
+    let page = page_now(rt, csv, title, name, None)?;
     match Output::create(rt.alloc(), rt, path) {
         Ok(output) => put_page(output, page.as_str()),
         Err(fault) => Err(PageFault::NoOutput(fault)),

@@ -3,7 +3,7 @@
 use crate::named_registry::RegistryName;
 use crate::profile_ending::ProfileEnding;
 use droid_desk_arguments::ProfileOptions;
-use droid_desk_report::{PageFault, absolute_path, name_of, page_now, put_page};
+use droid_desk_report::{PageFault, absolute_path, name_of, page_now, put_page, title_of};
 use droid_tree_disk::Output;
 use std::fs::{File, Files};
 use std::time::Clock;
@@ -29,7 +29,8 @@ where
     ending.with_page(write_page_of(rt, registry, options, csv.as_slice(), page))
 }
 
-/// Writes the page of a CSV. It has the name of the CSV's file, or of the folder if there is no such file.
+/// Writes the page of a CSV. Its title is the folder's name; it says that it is made from the CSV's file, or from the folder if
+/// there is no such file.
 fn write_page_of<R>(
     rt: &R,
     registry: RegistryName<'_>,
@@ -42,7 +43,8 @@ where
 {
     let registry = format!(in rt.alloc(); "{registry}")?;
     let folder = absolute_path(rt, options.folder)?;
+    let title = title_of(folder.as_str());
     let name = name_of(options.output.unwrap_or(folder.as_str()));
-    let text = page_now(rt, csv, name, name, Some(registry.as_str()))?;
+    let text = page_now(rt, csv, title, name, Some(registry.as_str()))?;
     put_page(page, text.as_str())
 }

@@ -19,9 +19,11 @@ reason_text reasons.LargeOffset = codes "an offset is over 65,535"
 reason_text reasons.FragmentPositions = codes "the positions of its fragments leave one out"
 reason_text reasons.LargePosition = codes "a fragment has a position over 64"
 reason_text reasons.Text = codes "a text that a registry has no pattern for, as a bit mask"
+reason_text reasons.LongText = codes "a text of more than 65,536 bytes"
 reason_text reasons.LongRange = codes "a range of more than 16 bytes"
 reason_text reasons.ManyAlternatives = codes "more than 64 alternatives"
 reason_text reasons.LongPattern = codes "a pattern of more than 4,096 bytes"
+reason_text reasons.LongPatterns = codes "patterns of more than 16,384 bytes in all"
 reason_text reasons.GapAtEnd = codes "a gap at the end of a pattern"
 
 unfoldable pub why_text : Why → List ℕ

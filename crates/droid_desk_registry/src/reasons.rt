@@ -47,9 +47,11 @@ fn reason_sentence(reason: Reason) -> &'static str
         Reason::FragmentPositions => "the positions of its fragments leave one out",
         Reason::LargePosition => "a fragment has a position over 64",
         Reason::Text => "a text that a registry has no pattern for, as a bit mask",
+        Reason::LongText => "a text of more than 65,536 bytes",
         Reason::LongRange => "a range of more than 16 bytes",
         Reason::ManyAlternatives => "more than 64 alternatives",
         Reason::LongPattern => "a pattern of more than 4,096 bytes",
+        Reason::LongPatterns => "patterns of more than 16,384 bytes in all",
         Reason::GapAtEnd => "a gap at the end of a pattern",
     }
 }

@@ -4,6 +4,7 @@ ghost use Rattle.std.specs.Prelude.{Some, option_map};
 ghost use Rattle.droid_desk_report.specs.Abouts.{about_text, hash_words, registry_words};
 
 use droid_report::HashColumn;
+use droid_report_page::texts;
 use std::fmt::{self, Display, Formatter, Write};
 
 /// What a page says of itself.
@@ -26,11 +27,15 @@ impl Display for About<'_> {
     fn fmt<W: Write>(&self, f: &mut Formatter<W>) -> fmt::Result {
         write!(
             f,
-            "Made by droid_desk from {} at {} (UTC). {}{} A file with several formats counts once.",
+            "{}{}{}{}{}{}{}{}",
+            texts::MADE_FROM,
             self.name,
+            texts::MADE_AT,
             self.moment,
+            texts::IN_UTC,
             RegistryWords(self.registry),
-            HashWords(self.hash)
+            HashWords(self.hash),
+            texts::COUNTED_ONCE
         )
     }
 }
@@ -45,7 +50,7 @@ impl Display for RegistryWords<'_> {
     #[tactic(auto, unfolding(crate::specs::Abouts::registry_words))]
     fn fmt<W: Write>(&self, f: &mut Formatter<W>) -> fmt::Result {
         match self.0 {
-            Some(registry) => write!(f, "Registry: {registry}. "),
+            Some(registry) => write!(f, "{}{registry}{}", texts::REGISTRY, texts::REGISTRY_END),
             None => Ok(()),
         }
     }
@@ -60,9 +65,9 @@ impl Display for HashWords {
 
     fn fmt<W: Write>(&self, f: &mut Formatter<W>) -> fmt::Result {
         match self.0 {
-            HashColumn::Nothing => f.write_str("It has no hashes."),
-            HashColumn::Md5 => f.write_str("Its hashes are MD5."),
-            HashColumn::Sha256 => f.write_str("Its hashes are SHA-256."),
+            HashColumn::Nothing => f.write_str(texts::NO_HASHES),
+            HashColumn::Md5 => f.write_str(texts::MD5_HASHES),
+            HashColumn::Sha256 => f.write_str(texts::SHA256_HASHES),
         }
     }
 }

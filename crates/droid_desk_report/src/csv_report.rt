@@ -1,17 +1,19 @@
 //! The page of a CSV, made now and written to a file.
 
-ghost use Rattle.std.specs.Prelude.{ℕ, List, option_map};
+ghost use Rattle.std.specs.Prelude.{◌≡◌, ℕ, List, option_map};
 ghost use Rattle.csv.specs.Reading.{AreRecords, default_config, strip_bom};
 ghost use Rattle.csv.specs.declared.parser.State.TheVariants as st;
 ghost use Rattle.droid_report.specs.Rows.{profile_of};
+ghost use Rattle.droid_desk_report.specs.Abouts.{title_of};
 ghost use Rattle.droid_desk_report.specs.PagesOfCsv.{GivesNow};
 
 use crate::csv_page::{PageTexts, page_of_csv};
 use crate::page_fault::PageFault;
 use crate::page_writer::write_page;
-use droid_desk_outputs::moment_text;
+use droid_desk_outputs::{moment_text, name_of};
 use droid_frame::Text;
 use droid_report::ProfileFault;
+use droid_report_page::texts;
 use droid_tree_disk::Output;
 use std::alloc::AllocError;
 use std::fs::Files;
@@ -47,6 +49,14 @@ pub fn page_now<R: Clock + AllocGlobal>(
     }
 }
 
+/// Returns the title of the page of a folder with this absolute path: its last name, or `/`.
+pub fn title_of(absolute: &str) -> &str
+    ensures { result.now ≡ title_of absolute.now }
+{
+    let name = name_of(absolute);
+    if name.is_empty() { "/" } else { name }
+}
+
 /// Writes a page to a file, and puts it in its place once it is complete.
 pub fn put_page<R: Files>(output: Output<'_, R>, page: &str) -> Result<(), PageFault> {
     let mut output = output;
@@ -64,7 +74,7 @@ pub fn put_page<R: Files>(output: Output<'_, R>, page: &str) -> Result<(), PageF
 fn moment_now<R: Clock + AllocGlobal>(rt: &R) -> Result<Text, AllocError> {
     match seconds_now(rt) {
         Some(seconds) => moment_of(rt, seconds),
-        None => Text::copy_of(rt.alloc(), "an unknown time"),
+        None => Text::copy_of(rt.alloc(), texts::UNKNOWN_TIME),
     }
 }
 

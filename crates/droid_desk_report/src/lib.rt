@@ -13,7 +13,7 @@ mod report_ending;
 mod report_sentences;
 
 pub use csv_page::{PageTexts, page_of_csv};
-pub use csv_report::{page_now, put_page};
+pub use csv_report::{page_now, put_page, title_of};
 pub use droid_desk_outputs::{
     HashText, NO_MEMORY, Recorder, Reporter, Shown, SkippedEntry, SkippedPaths, Verbosity,
     absolute_path, cause, entry_line, finish_csv, folder_of, header_line, holds_above,

@@ -3,7 +3,7 @@
 use droid_frame::{Frame, FrameFault};
 use droid_frame_feed::{Fed, FrameFeed};
 use droid_frame_vectors::{VECTORS, Vector, body_of};
-use std::alloc::Global;
+use std::alloc::{AllocError, Global};
 use std::test::Fail;
 
 /// Returns whether this is the frame of the vector.
@@ -85,13 +85,41 @@ fn count_in(feed: &mut FrameFeed, piece: &[u8], vectors: &[Vector], next: usize)
     if rest.is_empty() { Some(count) } else { None }
 }
 
-/// Returns how many frames of the vectors come of the stream in pieces of this width.
-fn count_by_width(alloc: Global, stream: &[u8], width: usize, vectors: &[Vector]) -> Option<usize> {
+/// How wide the pieces of a stream are: each as many bytes, or by chance up to as many, from a seed that isn't 0.
+#[derive(Clone, Copy)]
+struct Widths {
+    most: usize,
+    seed: u64,
+}
+
+impl Widths {
+    /// Returns the width of the next piece.
+    fn next(&mut self) -> usize {
+        if self.seed == 0 {
+            return self.most;
+        }
+        self.seed = self
+            .seed
+            .wrapping_mul(6_364_136_223_846_793_005)
+            .wrapping_add(1_442_695_040_888_963_407);
+        let rolled = (self.seed >> 33) % self.most.max(1) as u64;
+        (rolled as usize).saturating_add(1)
+    }
+}
+
+/// Returns how many frames of the vectors come of the stream in pieces of these widths.
+fn count_by_width(
+    alloc: Global,
+    stream: &[u8],
+    widths: Widths,
+    vectors: &[Vector],
+) -> Option<usize> {
+    let mut widths = widths;
     let mut feed = FrameFeed::new(alloc);
     let mut rest = stream;
     let mut count = 0;
     for _ in 0..stream.len() {
-        let (piece, more) = rest.split_at(width.min(rest.len()));
+        let (piece, more) = rest.split_at(widths.next().min(rest.len()));
         count = count_in(&mut feed, piece, vectors, count)?;
         rest = more;
     }
@@ -102,16 +130,36 @@ fn count_by_width(alloc: Global, stream: &[u8], width: usize, vectors: &[Vector]
     }
 }
 
-// All vectors, one after another, in pieces of many widths.
-#[test]
-fn cut_by_width(rt: HostRuntime) -> Result<(), Fail> {
-    let mut stream = Vec::new(rt.alloc());
+/// Returns all vectors, one after another.
+fn stream_of_all(alloc: Global) -> Result<Vec<u8>, AllocError> {
+    let mut stream = Vec::new(alloc);
     for vector in &VECTORS {
         stream.extend_from_slice(vector.bytes)?;
     }
-    for width in [1, 2, 3, 5, 17, 18, 19, 36, 37, 64, 1_000, 1_000_000] {
-        let count = count_by_width(rt.alloc(), stream.as_slice(), width, &VECTORS);
-        assert_eq!(rt; count, Some(VECTORS.len()), "{width}");
+    Ok(stream)
+}
+
+// All vectors, in pieces of many widths.
+#[test]
+fn cut_by_width(rt: HostRuntime) -> Result<(), Fail> {
+    let stream = stream_of_all(rt.alloc())?;
+    for most in [1, 2, 3, 5, 17, 18, 19, 36, 37, 64, 1_000, 1_000_000] {
+        let widths = Widths { most, seed: 0 };
+        let count = count_by_width(rt.alloc(), stream.as_slice(), widths, &VECTORS);
+        assert_eq!(rt; count, Some(VECTORS.len()), "{most}");
+    }
+    Ok(())
+}
+
+// All vectors, in pieces by chance.
+#[test]
+fn cut_by_chance(rt: HostRuntime) -> Result<(), Fail> {
+    let stream = stream_of_all(rt.alloc())?;
+    for seed in 1..=200u64 {
+        let most = 1 + (seed as usize % 70);
+        let widths = Widths { most, seed };
+        let count = count_by_width(rt.alloc(), stream.as_slice(), widths, &VECTORS);
+        assert_eq!(rt; count, Some(VECTORS.len()), "{seed}");
     }
     Ok(())
 }

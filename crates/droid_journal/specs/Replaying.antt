@@ -4,7 +4,9 @@ use Rattle.droid_frame.specs.Frames.{frame_bytes}
 use Rattle.droid_frame.specs.ReplyFrames.{reply_frame}
 use Rattle.droid_frame.specs.Streams.{IsReadable}
 use Rattle.droid_frame.specs.types.frame.Frame.{Frame}
+use Rattle.droid_frame.specs.types.refusal.Refusal.TheVariants.{Memory}
 use Rattle.droid_frame.specs.types.reply.Reply.{Reply}
+use Rattle.droid_frame.specs.types.reply.Reply.TheVariants.{Refused}
 use Rattle.droid_journal_chain.specs.Chains.{BeginsNoRecord, chain_bytes, check_after}
 use Rattle.droid_journal_chain.specs.Records.{AllFit, Fits, Record}
 use Rattle.droid_journal.specs.Machines.{record_of}
@@ -21,13 +23,14 @@ abbrev pub Gave : (List Record → Frame → Reply → Bool → Type 0) → List
 Gave gives before [] = Unit {0}
 Gave gives before (it ∷ its) = GaveOne gives before it × Gave gives (before ++ it ∷ []) its
 
--- behind these records the request is not accepted, or with another reply
+-- Behind these records the request is not accepted, or with another reply. That memory ran out is none.
 pub record OtherAnswer (gives : List Record → Frame → Reply → Bool → Type 0) (before : List Record) (request reply : List ℕ) : Type 0 where
   pub frame : Frame
   pub answer : Reply
   pub accepted : Bool
   pub spelled : request ≡ frame_bytes frame
   pub gave : gives before frame answer accepted
+  pub no_memory_fault : answer ≢ Refused Memory
   pub other : accepted ≡ true → reply_frame frame.version frame.client frame.number answer ≢ reply
 
 -- no frame that a stream can carry has these bytes

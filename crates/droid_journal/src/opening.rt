@@ -30,6 +30,31 @@ pub struct Opened<M> {
     pub records: u64,
 }
 
+impl<M> Opened<M> {
+    /// Puts another machine in the place of this one, and returns this one too.
+    pub fn with<N>(self, machine: N) -> (M, Opened<N>)
+        ensures old { result.0 ≡ self.machine }
+        ensures new { result.1.machine ≡ machine }
+        ensures start { result.1.start ≡ self.start }
+        ensures check { result.1.check ≡ self.check }
+        ensures records { result.1.records ≡ self.records }
+    {
+        let Opened {
+            machine: old,
+            start,
+            check,
+            records,
+        } = self;
+        let new = Opened {
+            machine,
+            start,
+            check,
+            records,
+        };
+        (old, new)
+    }
+}
+
 /// What a file begins with.
 enum Beginning {
     /// The header.

@@ -1,6 +1,8 @@
 //! Handing a machine the records of a file again.
 
-ghost use Rattle.std.specs.Prelude.{◌≡◌, ◌+◌, ◌<◌, ◌≤◌, ◌^◌, ◌∷◌, ◌++◌, ℕ, Bool, List, [], length, IfErr, IfNone, IfOk, IfSome, IsErrOf, OnOk};
+ghost use Rattle.std.specs.Prelude.{◌≡◌, ◌+◌, ◌<◌, ◌≤◌, ◌^◌, ◌∷◌, ◌++◌, ℕ, Bool, List, [], length, true, IfErr, IfNone, IfOk, IfSome, IsErrOf, OnOk};
+ghost use Rattle.droid_frame.specs.types.refusal.Refusal.TheVariants.{Memory};
+ghost use Rattle.droid_frame.specs.types.reply.Reply.TheVariants.{Refused};
 ghost use Rattle.droid_journal.specs.Faults.{IsOfReading};
 ghost use Rattle.droid_journal.specs.Replaying.{Fails, GaveOne, Refutes, Replays};
 ghost use Rattle.droid_journal_chain.specs.Chains.{BeginsNoRecord, BeginsWith};
@@ -25,7 +27,9 @@ pub(crate) struct Replayed {
 }
 
 /// Whether a reply says that memory ran out.
-fn is_out_of_memory(reply: &Reply) -> bool {
+fn is_out_of_memory(reply: &Reply) -> bool
+    ensures { reply.now ≡ Refused Memory → result ≡ true }
+{
     matches!(reply, Reply::Refused(Refusal::Memory))
 }
 

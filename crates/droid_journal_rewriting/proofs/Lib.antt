@@ -4,6 +4,7 @@ pub mod Passing
 pub mod Wholes
 pub mod Ending
 pub mod Shortening
+pub mod Noting
 pub mod BareSizes
 pub mod Sizes
 pub mod Writing

@@ -6,7 +6,7 @@ use Rattle.droid_journal_chain.specs.Records.{Record, next_check, record_bytes}
 use Rattle.droid_journal_chain.proofs.Chains.{chain_append, check_append, fit_append, none_within}
 use Rattle.droid_journal_chain.proofs.RecordLaws.{length-record}
 use Rattle.droid_journal_rewriting.specs.Taking.{Passes, StandIn, Takes}
-use Rattle.droid_journal_rewriting.specs.declared.place.Place.{Place}
+use Rattle.droid_journal_rewriting.specs.declared.walk.Place.{Place}
 
 chain_empty : (start check : List ℕ) (its : List Record) → length (chain_bytes start check its) ≡ 0 → its ≡ []
 chain_empty start check [] none = refl

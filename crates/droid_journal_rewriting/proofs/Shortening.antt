@@ -44,13 +44,17 @@ once_one_more before (x ∷ its) it =
     once_one_more more its it ∙ ap (λ (xs : List Record). once more its ++ last (has_stamp xs (stamp_in it.request)) it) (append_assoc before (x ∷ []) its) in
     ap (λ (xs : List Record). cond b xs (x ∷ xs)) there ∙ kept_or_not b x (once more its) end
 
+pub once_as_before : (before : List Record) (it : Record) → has_stamp before (stamp_in it.request) ≡ true → once [] (before ++ it ∷ []) ≡ once [] before
+once_as_before before it again = once_one_more [] before it ∙ ap (λ (b : Bool). once [] before ++ last b it) again ∙ append-nil (once [] before)
+
+pub once_with : (before : List Record) (it : Record) → has_stamp before (stamp_in it.request) ≡ false → once [] (before ++ it ∷ []) ≡ once [] before ++ it ∷ []
+once_with before it new = once_one_more [] before it ∙ ap (λ (b : Bool). once [] before ++ last b it) new
+
 pub smaller_as_before : (ended : ℕ → Bool) (before : List Record) (it : Record) → has_stamp before (stamp_in it.request) ≡ true → smaller_by ended (before ++ it ∷ []) ≡ smaller_by ended before
-smaller_as_before ended before it again =
-    ap (map (smaller ended)) (once_one_more [] before it ∙ ap (λ (b : Bool). once [] before ++ last b it) again ∙ append-nil (once [] before))
+smaller_as_before ended before it again = ap (map (smaller ended)) (once_as_before before it again)
 
 pub smaller_one_more : (ended : ℕ → Bool) (before : List Record) (it : Record) → has_stamp before (stamp_in it.request) ≡ false → smaller_by ended (before ++ it ∷ []) ≡ smaller_by ended before ++ smaller ended it ∷ []
-smaller_one_more ended before it new =
-    ap (map (smaller ended)) (once_one_more [] before it ∙ ap (λ (b : Bool). once [] before ++ last b it) new) ∙ map-append (smaller ended) (once [] before) (it ∷ [])
+smaller_one_more ended before it new = ap (map (smaller ended)) (once_with before it new) ∙ map-append (smaller ended) (once [] before) (it ∷ [])
 
 -- ---- requests
 

@@ -34,9 +34,9 @@ once_size f before (it ∷ its) =
     let kept : List Record = once (before ++ it ∷ []) its in
     subst (λ (n : ℕ). sum_by f (cond again kept (it ∷ kept)) ≤ n) (sym (sum_by-cons f it its)) (kept_size f again it kept (sum_by f its) (once_size f (before ++ it ∷ []) its))
 
-pub total_size : (header : List ℕ) (its : List Record) → length (journal_bytes header (shortened its)) ≤ length header + sum_by (λ it. size_of (smaller (has_ended its) it)) its
+pub total_size : (header : List ℕ) (its : List Record) → length (journal_bytes header (shortened its)) ≤ length header + sum_by (λ it. size_of (smaller (has_ended (once [] its)) it)) its
 total_size header its =
-    let change : Record → Record = smaller (has_ended its) in
+    let change : Record → Record = smaller (has_ended (once [] its)) in
     omega (
       arith,
       length-append header (chain_bytes (first_check header) (first_check header) (shortened its)),

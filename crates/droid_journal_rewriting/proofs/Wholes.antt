@@ -9,7 +9,7 @@ use Rattle.droid_journal_chain.proofs.Fronts.{fronts_same}
 use Rattle.droid_journal_chain.proofs.RecordLaws.{length-record}
 use Rattle.droid_journal_rewriting.specs.Shortening.{HasBehind, IsWhole}
 use Rattle.droid_journal_rewriting.specs.Taking.{Passes, StandThere}
-use Rattle.droid_journal_rewriting.specs.declared.place.Place.{Place}
+use Rattle.droid_journal_rewriting.specs.declared.walk.Place.{Place}
 
 -- ---- the header
 
@@ -63,8 +63,11 @@ whole_chain header s its whole = record {
     long : (it : Record) (rest : List ℕ) → 1 ≤ length (record_bytes (first_check header) (last_check header its) it ++ rest)
     long it rest = omega (arith, length-append (record_bytes (first_check header) (last_check header its) it) rest, length-record (first_check header) (last_check header its) it)
 
+pub read_is_whole : (header s : List ℕ) (its read : List Record) (rest : List ℕ) → IsWhole header s its → Chain header s read rest → read ≡ its
+read_is_whole header s its read rest whole chain =
+    let one = synced_is_read header its s read rest whole.fit ([], whole.file_is ∙ sym (append-nil (journal_bytes header its))) chain in
+    let other = synced_is_read header read s its [] chain.fit (rest, chain.joined) (whole_chain header s its whole) in
+    fronts_same its read one other
+
 pub same_records : (header s : List ℕ) (xs ys : List Record) → IsWhole header s xs → IsWhole header s ys → ys ≡ xs
-same_records header s xs ys p q =
-    let one = synced_is_read header xs s ys [] p.fit ([], p.file_is ∙ sym (append-nil (journal_bytes header xs))) (whole_chain header s ys q) in
-    let other = synced_is_read header ys s xs [] q.fit ([], q.file_is ∙ sym (append-nil (journal_bytes header ys))) (whole_chain header s xs p) in
-    fronts_same xs ys one other
+same_records header s xs ys p q = read_is_whole header s xs ys [] p (whole_chain header s ys q)

@@ -3,6 +3,7 @@ pub mod Fields
 pub mod Shortening
 pub mod Sizes
 pub mod Numbers
+pub mod Noting
 pub mod Faults
 pub mod Taking
 pub mod Aims

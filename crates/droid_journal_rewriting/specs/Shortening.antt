@@ -37,10 +37,10 @@ once before (it ∷ its) = if has_stamp before (stamp_in it.request) then once (
 abbrev pub smaller_by : (ℕ → Bool) → List Record → List Record
 smaller_by ended its = map (smaller ended) (once [] its)
 
--- The records of the smaller journal: a request that came again is left out, and those of a file that one of them ends are
--- bare.
+-- The records of the smaller journal: a request that came again is left out, and those of a file that one of the others ends
+-- are bare.
 abbrev pub shortened : List Record → List Record
-shortened its = smaller_by (has_ended its) its
+shortened its = smaller_by (has_ended (once [] its)) its
 
 -- the file is a journal of these records, and nothing else
 pub record IsWhole (header file : List ℕ) (its : List Record) : Type 0 where

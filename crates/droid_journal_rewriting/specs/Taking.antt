@@ -2,7 +2,7 @@
 use Rattle.std.specs.Prelude.{◌≡◌, ℕ, ◌+◌, List, ◌++◌, length, drop}
 use Rattle.droid_journal_chain.specs.Chains.{BeginsNoRecord, chain_bytes, check_after}
 use Rattle.droid_journal_chain.specs.Records.{AllFit, Record}
-use Rattle.droid_journal_rewriting.specs.declared.place.Place.{Place}
+use Rattle.droid_journal_rewriting.specs.declared.walk.Place.{Place}
 
 -- The bytes begin with records, and behind them none follows; all were taken. They are counted on from a number.
 pub record Takes {S T : Type 0} (took : S → T → List Record → Type 0) (start check bytes : List ℕ) (from : ℕ) (old : T) (used : ℕ) (after : List ℕ) (to : ℕ) (new : T) : Type 0 where

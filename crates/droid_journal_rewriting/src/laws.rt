@@ -1,11 +1,11 @@
 //! Laws of smaller journals. Each is the contract of a function that does nothing, and is proved with it.
 
-ghost use Rattle.std.specs.Prelude.{◌≡◌, ◌+◌, ◌*◌, ◌≤◌, ℕ, Bool, List, false, length, true};
+ghost use Rattle.std.specs.Prelude.{◌≡◌, ◌+◌, ◌*◌, ◌≤◌, ℕ, [], Bool, List, false, length, true};
 ghost use Rattle.std.specs.List.{sum_by};
 ghost use Rattle.droid_journal_chain.specs.Chains.{journal_bytes};
 ghost use Rattle.droid_journal_chain.specs.Records.{Record, record_bytes};
 ghost use Rattle.droid_journal_rewriting.specs.Fields.{file_in, is_about};
-ghost use Rattle.droid_journal_rewriting.specs.Shortening.{has_ended, shortened, smaller};
+ghost use Rattle.droid_journal_rewriting.specs.Shortening.{has_ended, once, shortened, smaller};
 ghost use Rattle.droid_journal_rewriting.specs.Sizes.{size_of};
 
 /// A smaller journal has at most the bytes of its header and of one smaller record for each record of the journal. A piece of
@@ -13,7 +13,7 @@ ghost use Rattle.droid_journal_rewriting.specs.Sizes.{size_of};
 /// becomes longer than it was.
 pub fn a_smaller_journal_is_small()
     ensures record { (start check : List ℕ) (it : Record) → length (record_bytes start check it) ≡ size_of it }
-    ensures total { (header : List ℕ) (its : List Record) → length (journal_bytes header (shortened its)) ≤ length header + sum_by (λ it. size_of (smaller (has_ended its) it)) its }
+    ensures total { (header : List ℕ) (its : List Record) → length (journal_bytes header (shortened its)) ≤ length header + sum_by (λ it. size_of (smaller (has_ended (once [] its)) it)) its }
     ensures piece { (ended : ℕ → Bool) (it : Record) → is_about 4 it.request it.reply ≡ true → ended (file_in it.request) ≡ true → length it.reply ≡ 22
         → size_of (smaller ended it) ≡ 85 }
     ensures finish { (ended : ℕ → Bool) (it : Record) → is_about 4 it.request it.reply ≡ false → is_about 5 it.request it.reply ≡ true → ended (file_in it.request) ≡ true

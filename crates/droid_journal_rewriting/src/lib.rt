@@ -5,19 +5,18 @@
 //! new file in the place of the old one.
 #![tactic(auto)]
 
-mod compacting;
-mod ended;
+mod compaction;
+mod ended_files;
 mod fault;
 mod fields;
 pub mod laws;
+mod new_file;
 mod numbers;
-mod place;
 mod rewriter;
-mod rewriting;
 mod taker;
-mod taking;
+mod walk;
 mod whole;
 
-pub use compacting::compact;
+pub use compaction::compact;
 pub use fault::RewriteFault;
-pub use rewriting::rewrite;
+pub use new_file::rewrite;

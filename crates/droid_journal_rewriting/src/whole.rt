@@ -7,9 +7,8 @@ ghost use Rattle.droid_journal_rewriting.specs.Faults.{IsOfReading};
 ghost use Rattle.droid_journal_rewriting.specs.Shortening.{HasBehind, IsWhole};
 
 use crate::fault::RewriteFault;
-use crate::place::Place;
 use crate::taker::Taker;
-use crate::taking::take_all;
+use crate::walk::{Place, take_all};
 use droid_journal::LogFile;
 use droid_journal_chain::start_of;
 use std::alloc::Global;

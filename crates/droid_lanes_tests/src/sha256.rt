@@ -1,7 +1,8 @@
-//! SHA-256 in lanes: the messages of FIPS 180-4's examples and the empty one, each in every lane beside every other, and
-//! every length up to 300 and schedules by chance against the kit's `sha2`.
+//! SHA-256 in lanes: the messages of FIPS 180-4's examples and the empty one, each in every lane beside every other, a long
+//! message in every lane, and every length up to 300 and schedules by chance against the kit's `sha2`.
 
 use crate::chance::{Span, below, filled, next, piece_len};
+use crate::vectors::letters;
 use droid_lanes::Sha256Lanes;
 use sha2::{Digest, Sha256};
 
@@ -120,5 +121,29 @@ fn any_schedule(rt: HostRuntime) {
         );
         seed = next(seed);
         spans[lane] = Span::at(below(seed, 1000));
+    }
+}
+
+/// The SHA-256 of a million letters `a`, which is an example of FIPS 180-2.
+const OF_A_MILLION: [u8; 32] = [
+    0xcd, 0xc7, 0x6e, 0x5c, 0x99, 0x14, 0xfb, 0x92, 0x81, 0xa1, 0xc7, 0xe2, 0x84, 0xd7, 0x3e, 0x67,
+    0xf1, 0x80, 0x9a, 0x48, 0xa4, 0x97, 0x20, 0x0e, 0x04, 0x6d, 0x39, 0xcc, 0xc7, 0x11, 0x2c, 0xd0,
+];
+
+#[test]
+fn a_million_letters_in_every_lane(rt: HostRuntime) {
+    let mut lanes = Sha256Lanes::new();
+    for turn in 0..1003 {
+        lanes.update([
+            letters(0, turn),
+            letters(1, turn),
+            letters(2, turn),
+            letters(3, turn),
+        ]);
+        for lane in 0..4 {
+            if turn == lane + 999 {
+                assert_eq!(rt; lanes.end(lane), OF_A_MILLION, "lane {lane}");
+            }
+        }
     }
 }

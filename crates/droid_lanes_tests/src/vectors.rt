@@ -1,4 +1,4 @@
-//! The test suite of RFC 1321 (A.5): each message in every lane, beside every other.
+//! The test suite of RFC 1321 (A.5): each message in every lane, beside every other; and a long message in every lane.
 
 use droid_lanes::Md5Lanes;
 
@@ -75,6 +75,44 @@ fn every_message_in_every_lane(rt: HostRuntime) {
                 digest(turn + lane),
                 "lane {lane}, turn {turn}"
             );
+        }
+    }
+}
+
+/// The MD5 of a million letters `a`.
+const OF_A_MILLION: [u8; 16] = [
+    0x77, 0x07, 0xd6, 0xae, 0x4e, 0x02, 0x7c, 0x70, 0xee, 0xa2, 0xa9, 0x35, 0xc2, 0x29, 0x6f, 0x21,
+];
+
+const LETTERS: [u8; 1000] = [b'a'; 1000];
+
+/// The letters that a lane takes in a turn: each lane takes a thousand times a thousand, and begins a turn after the one
+/// before it.
+pub(crate) fn letters(lane: usize, turn: usize) -> &'static [u8] {
+    if turn < lane || turn - lane >= 1000 {
+        return &LETTERS[..0];
+    }
+    &LETTERS
+}
+
+#[test]
+fn a_million_letters_in_every_lane(rt: HostRuntime) {
+    let mut lanes = Md5Lanes::new();
+    for turn in 0..1007 {
+        lanes.update([
+            letters(0, turn),
+            letters(1, turn),
+            letters(2, turn),
+            letters(3, turn),
+            letters(4, turn),
+            letters(5, turn),
+            letters(6, turn),
+            letters(7, turn),
+        ]);
+        for lane in 0..8 {
+            if turn == lane + 999 {
+                assert_eq!(rt; lanes.end(lane), OF_A_MILLION, "lane {lane}");
+            }
         }
     }
 }

@@ -4,12 +4,13 @@ use Rattle.std.specs.List.{fold}
 use Rattle.droid_report.specs.declared.classes.By.{By}
 use Rattle.droid_report.specs.declared.classes.By.TheVariants as by
 use Rattle.droid_report_page.specs.Seen.{Amount, Bar, Seen, Words, share_of}
+use Rattle.droid_report_page.specs.declared.texts.TheConstants as texts
 
 -- the units of sizes, each 1,024 of the one before
 abbrev pub unit_of : ℕ → List ℕ
 unit_of n =
-    if n == 0 then codes "bytes" else if n == 1 then codes "KiB" else if n == 2 then codes "MiB" else if n == 3 then codes "GiB"
-    else if n == 4 then codes "TiB" else if n == 5 then codes "PiB" else codes "EiB"
+    if n == 0 then texts.BYTES.now else if n == 1 then texts.KIB.now else if n == 2 then texts.MIB.now else if n == 3 then texts.GIB.now
+    else if n == 4 then texts.TIB.now else if n == 5 then texts.PIB.now else texts.EIB.now
 
 -- the powers of four below 1,024
 abbrev pub power_of_four : ℕ → ℕ
@@ -19,9 +20,9 @@ power_of_four n = if n == 0 then 1 else if n == 1 then 4 else if n == 2 then 16 
 unfoldable pub class_name : By → ℕ → List ℕ
 class_name by.Year class = decimal class
 class_name by.Size class =
-    if class == 0 then codes "no bytes"
-    else codes "from " ++ (decimal (power_of_four ((class - 1) % 5)) ++ (codes " " ++ unit_of ((class - 1) / 5)))
-class_name by.Depth class = if class == 64 then codes "64 or more" else decimal class
+    if class == 0 then texts.NO_BYTES.now
+    else texts.FROM.now ++ (decimal (power_of_four ((class - 1) % 5)) ++ (codes " " ++ unit_of ((class - 1) / 5)))
+class_name by.Depth class = if class == 64 then texts.MOST_SLASHES.now else decimal class
 
 -- the greatest of these
 abbrev pub greatest : List ℕ → ℕ

@@ -1,4 +1,5 @@
--- Pictures of formats: a bar for each of the twelve largest, and one for all others.
+-- Pictures of formats: a bar for each of the twelve largest, and one for all others. Where lists have no row, since names are
+-- too long for that, there is one bar for all.
 use Rattle.std.specs.Prelude.{ℕ, ◌==◌, max, List, [], ◌∷◌, ◌++◌, drop, length, map, take, if◌then◌else◌}
 use Rattle.droid_report.specs.Ranks.{together}
 use Rattle.droid_report.specs.declared.ranks.Group.{Group}
@@ -33,5 +34,12 @@ rest_rows measure most rest =
 abbrev pub cut_rows : Measure → List Group → List Group → List (List Seen)
 cut_rows measure first rest = map (picture_row measure (most_of measure first rest)) first ++ rest_rows measure (most_of measure first rest) rest
 
-abbrev pub picture_rows : Measure → List Group → List (List Seen)
-picture_rows measure groups = cut_rows measure (take 12 groups) (drop 12 groups)
+-- how many groups have a bar of their own, where lists have at most this many rows
+abbrev pub most_named : ℕ → ℕ
+most_named limit = if limit == 0 then 0 else 12
+
+abbrev pub picture_note : ℕ → List ℕ
+picture_note limit = if limit == 0 then texts.TOGETHER.now else texts.TWELVE.now
+
+abbrev pub picture_rows : Measure → ℕ → List Group → List (List Seen)
+picture_rows measure limit groups = cut_rows measure (take (most_named limit) groups) (drop (most_named limit) groups)

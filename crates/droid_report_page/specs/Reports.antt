@@ -12,7 +12,7 @@ use Rattle.droid_report_page.specs.declared.orders.Orders.{Orders}
 -- the tables of a report, with at most this many rows in each list
 abbrev pub all_tables : Counts → Orders → ℕ → List Shown
 all_tables counts orders limit =
-    (((overview counts.totals orders ++ class_tables counts.classes limit) ++ group_tables orders limit)
+    (((overview counts.totals orders limit ++ class_tables counts.classes limit) ++ group_tables orders limit)
     ++ list_tables counts.totals counts.lists limit) ++ extreme_tables counts.totals counts.lists limit
 
 -- a text is that of the page with exactly these tables

@@ -12,7 +12,7 @@ use Rattle.droid_report.specs.declared.ranks.Group.{Group}
 use Rattle.droid_report.specs.declared.row.Row.{Row}
 use Rattle.droid_report.specs.declared.totals.Totals.{Totals}
 use Rattle.droid_report_page.specs.Classes.{class_rows}
-use Rattle.droid_report_page.specs.Pictures.{picture_rows}
+use Rattle.droid_report_page.specs.Pictures.{picture_note, picture_rows}
 use Rattle.droid_report_page.specs.Seen.{Amount, Link, Seen, Shown, Words}
 use Rattle.droid_report_page.specs.declared.orders.Orders.{Orders}
 use Rattle.droid_report_page.specs.declared.picture.Measure.{Measure}
@@ -21,7 +21,7 @@ use Rattle.droid_report_page.specs.declared.texts.TheConstants as texts
 
 -- how many rows more there are, and where to find them
 unfoldable pub more_text : ℕ → List ℕ → List ℕ
-more_text more elsewhere = if more == 0 then [] else decimal more ++ (codes " more: " ++ elsewhere)
+more_text more elsewhere = if more == 0 then [] else decimal more ++ (texts.MORE.now ++ elsewhere)
 
 -- ---- totals
 
@@ -55,17 +55,18 @@ totals_table totals orders = record { title = texts.TOTALS.now; note = texts.NO_
 
 -- ---- pictures
 
-abbrev pub picture : List ℕ → List ℕ → List Group → Measure → Shown
-picture title unit groups measure = record { title = title; note = texts.TWELVE.now; heads = texts.FORMAT.now ∷ unit ∷ texts.SHARE.now ∷ []; rows = picture_rows measure groups }
+abbrev pub picture : List ℕ → List ℕ → List Group → Measure → ℕ → Shown
+picture title unit groups measure limit =
+    record { title = title; note = picture_note limit; heads = texts.FORMAT.now ∷ unit ∷ texts.SHARE.now ∷ []; rows = picture_rows measure limit groups }
 
-abbrev pub pictures : Orders → List Shown
-pictures orders =
-    picture texts.FORMATS_BY_FILES.now texts.FILES.now orders.by_count.items measures.Files
-    ∷ picture texts.FORMATS_BY_BYTES.now texts.BYTES.now orders.by_bytes.items measures.Bytes
+abbrev pub pictures : Orders → ℕ → List Shown
+pictures orders limit =
+    picture texts.FORMATS_BY_FILES.now texts.FILES.now orders.by_count.items measures.Files limit
+    ∷ picture texts.FORMATS_BY_BYTES.now texts.BYTES.now orders.by_bytes.items measures.Bytes limit
     ∷ []
 
-abbrev pub overview : Totals → Orders → List Shown
-overview totals orders = totals_table totals orders ∷ pictures orders
+abbrev pub overview : Totals → Orders → ℕ → List Shown
+overview totals orders limit = totals_table totals orders ∷ pictures orders limit
 
 abbrev pub class_table : List ℕ → List ℕ → List ℕ → By → List ℕ → ℕ → Shown
 class_table title note head by counts limit = record { title = title; note = note; heads = head ∷ texts.FILES.now ∷ texts.SHARE.now ∷ []; rows = take limit (class_rows by counts) }

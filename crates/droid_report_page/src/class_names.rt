@@ -3,6 +3,7 @@
 ghost use Rattle.std.specs.Prelude.{◌≡◌, Some};
 ghost use Rattle.droid_report_page.specs.Classes.{class_name, power_of_four, unit_of};
 
+use crate::texts;
 use droid_report::By;
 use std::fmt::{self, Display, Formatter, Write};
 
@@ -25,19 +26,20 @@ impl Display for ClassName {
             By::Year => write!(f, "{class}"),
             By::Size => {
                 if class == 0 {
-                    return f.write_str("no bytes");
+                    return f.write_str(texts::NO_BYTES);
                 }
                 let lower = class - 1;
                 write!(
                     f,
-                    "from {} {}",
+                    "{}{} {}",
+                    texts::FROM,
                     power_of_four(lower % 5),
                     unit_of(lower / 5)
                 )
             }
             By::Depth => {
                 if class == 64 {
-                    return f.write_str("64 or more");
+                    return f.write_str(texts::MOST_SLASHES);
                 }
                 write!(f, "{class}")
             }
@@ -66,18 +68,18 @@ fn unit_of(n: usize) -> &'static str
     ensures { result.now ≡ unit_of n }
 {
     if n == 0 {
-        "bytes"
+        texts::BYTES
     } else if n == 1 {
-        "KiB"
+        texts::KIB
     } else if n == 2 {
-        "MiB"
+        texts::MIB
     } else if n == 3 {
-        "GiB"
+        texts::GIB
     } else if n == 4 {
-        "TiB"
+        texts::TIB
     } else if n == 5 {
-        "PiB"
+        texts::PIB
     } else {
-        "EiB"
+        texts::EIB
     }
 }

@@ -13,6 +13,6 @@ mod picture;
 mod rows;
 mod table;
 mod tables;
-mod texts;
+pub mod texts;
 
 pub use page::report_page;

@@ -3,6 +3,7 @@
 ghost use Rattle.std.specs.Prelude.{◌≡◌, ◌-◌, IfOk, Some, string_bytes};
 ghost use Rattle.droid_report_page.specs.Tables.{more_text};
 
+use crate::texts;
 use std::alloc::{AllocError, Global};
 use std::fmt::{self, Display, Formatter, Write};
 
@@ -35,6 +36,6 @@ impl Display for More<'_> {
         if self.more == 0 {
             return Ok(());
         }
-        write!(f, "{} more: {}", self.more, self.elsewhere)
+        write!(f, "{}{}{}", self.more, texts::MORE, self.elsewhere)
     }
 }

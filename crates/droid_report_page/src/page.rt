@@ -17,14 +17,14 @@ use droid_page::{Body, Page, Table};
 use droid_report::Counts;
 use std::alloc::{AllocError, Global};
 
-/// How many rows a list has: as many of these as a page of 300,000 bytes holds, else none.
+/// How many rows a list has: as many of these as a page of 300,000 bytes holds, else none. Then no name of a format is shown.
 const LIMITS: [usize; 5] = [200, 100, 50, 20, 5];
 
 /// How many bytes a page has at most.
 const MOST_BYTES: usize = 300_000;
 
 /// Makes the page of a report with this title. `about` says of which CSV it is, and when it was made. The page has at most
-/// 300,000 bytes, unless it is larger without any row of a list.
+/// 300,000 bytes, unless its title is too long for that.
 pub fn report_page(
     alloc: Global,
     title: &str,
@@ -113,7 +113,7 @@ fn report_tables(
     ensures { IfOk result (λ tables. tables_seen tables.items ≡ all_tables counts.now orders.now limit) }
 {
     let mut tables = Vec::new(alloc);
-    add_overview(&mut tables, alloc, counts.totals, orders)?;
+    add_overview(&mut tables, alloc, counts.totals, orders, limit)?;
     add_classes(&mut tables, alloc, &counts.classes, limit)?;
     add_groups(&mut tables, alloc, orders, limit)?;
     add_lists(&mut tables, alloc, counts.totals, &counts.lists, limit)?;

@@ -1,7 +1,7 @@
 //! Pictures of formats: a bar for each of the twelve largest, and one for all others.
 
 ghost use Rattle.std.specs.Prelude.{◌≡◌, ◌++◌, IfOk, OnOk, map};
-ghost use Rattle.droid_report_page.specs.Pictures.{measure_of, most_of, picture_row, picture_rows, rest_of, rest_rows};
+ghost use Rattle.droid_report_page.specs.Pictures.{measure_of, most_named, most_of, picture_note, picture_row, picture_rows, rest_of, rest_rows};
 ghost use Rattle.droid_report_page.specs.Seen.{row_seen, rows_seen};
 
 use crate::cells::{bar_row, share_of};
@@ -20,22 +20,39 @@ pub(crate) enum Measure {
     Bytes,
 }
 
-/// How many groups a picture shows beside all others.
-const MOST_SHOWN: usize = 12;
-
-/// Makes a row for each of the first groups, and one for all others together: a name, a number and a bar.
+/// Makes a row for each of the first groups, and one for all others together: a name, a number and a bar. `limit` is how many
+/// rows a list has at most.
 pub(crate) fn picture_rows(
     alloc: Global,
     groups: &[Group<'_>],
     measure: Measure,
+    limit: usize,
 ) -> Result<Vec<Vec<Cell>>, AllocError>
-    ensures { IfOk result (λ lines. rows_seen lines.items ≡ picture_rows measure groups.now) }
+    ensures { IfOk result (λ lines. rows_seen lines.items ≡ picture_rows measure limit groups.now) }
 {
-    let (first, rest) = cut(groups, MOST_SHOWN);
+    let (first, rest) = cut(groups, most_named(limit));
     let most = most_of(first, rest, measure);
     let mut lines = group_rows(alloc, first, measure, most)?;
     add_rest(&mut lines, alloc, rest, measure, most)?;
     Ok(lines)
+}
+
+/// Returns how many groups have a row of their own.
+fn most_named(limit: usize) -> usize
+    ensures { result ≡ most_named limit }
+{
+    if limit == 0 { 0 } else { 12 }
+}
+
+/// Returns what there is to say about a picture.
+pub(crate) fn picture_note(limit: usize) -> &'static str
+    ensures { result.now ≡ picture_note limit }
+{
+    if limit == 0 {
+        texts::TOGETHER
+    } else {
+        texts::TWELVE
+    }
 }
 
 fn group_rows(

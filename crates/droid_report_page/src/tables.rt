@@ -9,7 +9,7 @@ use crate::cut::cut;
 use crate::figures::figures;
 use crate::notes::more_note;
 use crate::orders::Orders;
-use crate::picture::{Measure, picture_rows};
+use crate::picture::{Measure, picture_note, picture_rows};
 use crate::rows::{copy_rows, file_rows, format_rows};
 use crate::table::{add, four_heads, table, three_heads, two_heads};
 use crate::texts;
@@ -26,12 +26,13 @@ pub(crate) fn add_overview(
     alloc: Global,
     totals: Totals,
     orders: &Orders<'_>,
+    limit: usize,
 ) -> Result<(), AllocError>
-    ensures { OnOk result (tables_seen tables.new.items ≡ tables_seen tables.old.items ++ shown.overview totals orders.now) }
+    ensures { OnOk result (tables_seen tables.new.items ≡ tables_seen tables.old.items ++ shown.overview totals orders.now limit) }
 {
     let table = totals_table(alloc, totals, orders)?;
     add(tables, table)?;
-    add_pictures(tables, alloc, orders)?;
+    add_pictures(tables, alloc, orders, limit)?;
     Ok(())
 }
 
@@ -39,8 +40,9 @@ fn add_pictures(
     tables: &mut Vec<Table>,
     alloc: Global,
     orders: &Orders<'_>,
+    limit: usize,
 ) -> Result<(), AllocError>
-    ensures { OnOk result (tables_seen tables.new.items ≡ tables_seen tables.old.items ++ shown.pictures orders.now) }
+    ensures { OnOk result (tables_seen tables.new.items ≡ tables_seen tables.old.items ++ shown.pictures orders.now limit) }
 {
     let table = picture(
         alloc,
@@ -48,6 +50,7 @@ fn add_pictures(
         texts::FILES,
         orders.by_count.as_slice(),
         Measure::Files,
+        limit,
     )?;
     add(tables, table)?;
     let table = picture(
@@ -56,6 +59,7 @@ fn add_pictures(
         texts::BYTES,
         orders.by_bytes.as_slice(),
         Measure::Bytes,
+        limit,
     )?;
     add(tables, table)?;
     Ok(())
@@ -77,12 +81,13 @@ fn picture(
     unit: &str,
     groups: &[Group<'_>],
     measure: Measure,
+    limit: usize,
 ) -> Result<Table, AllocError>
-    ensures { IfOk result (λ table. table_seen table ≡ shown.picture title.now unit.now groups.now measure) }
+    ensures { IfOk result (λ table. table_seen table ≡ shown.picture title.now unit.now groups.now measure limit) }
 {
-    let rows = picture_rows(alloc, groups, measure)?;
+    let rows = picture_rows(alloc, groups, measure, limit)?;
     let heads = three_heads(alloc, texts::FORMAT, unit, texts::SHARE)?;
-    let note = String::from_str(alloc, texts::TWELVE)?;
+    let note = String::from_str(alloc, picture_note(limit))?;
     let table = table(alloc, title, note, heads, rows)?;
     Ok(table)
 }

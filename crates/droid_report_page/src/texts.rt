@@ -1,5 +1,35 @@
 //! All texts of the page.
 
+/// Stands before the name of the CSV.
+pub const MADE_FROM: &str = "Made by droid_desk from ";
+
+/// Stands before the moment at which the page was made.
+pub const MADE_AT: &str = " at ";
+
+/// Stands behind that moment.
+pub const IN_UTC: &str = " (UTC). ";
+
+/// Stands in the place of a moment that is not known.
+pub const UNKNOWN_TIME: &str = "an unknown time";
+
+/// Stands before the registry.
+pub const REGISTRY: &str = "Registry: ";
+
+/// Stands behind the registry.
+pub const REGISTRY_END: &str = ". ";
+
+/// Says that the CSV has no hashes.
+pub const NO_HASHES: &str = "It has no hashes.";
+
+/// Says which hashes it has.
+pub const MD5_HASHES: &str = "Its hashes are MD5.";
+
+/// Says which hashes it has.
+pub const SHA256_HASHES: &str = "Its hashes are SHA-256.";
+
+/// Says how files are counted.
+pub const COUNTED_ONCE: &str = " A file with several formats counts once.";
+
 pub(crate) const NO_NOTE: &str = "";
 
 pub(crate) const SHARE: &str = "share";
@@ -40,6 +70,8 @@ pub(crate) const FORMATS_BY_BYTES: &str = "Formats by bytes";
 
 pub(crate) const TWELVE: &str = "The twelve largest, and all others.";
 
+pub(crate) const TOGETHER: &str = "All formats together: there is no room for their names.";
+
 pub(crate) const FORMAT: &str = "format";
 
 pub(crate) const OTHERS: &str = "all others";
@@ -57,11 +89,31 @@ pub(crate) const SIZES_NOTE: &str = "Files by size, from each power of four to t
 
 pub(crate) const SIZE: &str = "size";
 
+pub(crate) const NO_BYTES: &str = "no bytes";
+
+pub(crate) const FROM: &str = "from ";
+
+pub(crate) const KIB: &str = "KiB";
+
+pub(crate) const MIB: &str = "MiB";
+
+pub(crate) const GIB: &str = "GiB";
+
+pub(crate) const TIB: &str = "TiB";
+
+pub(crate) const PIB: &str = "PiB";
+
+pub(crate) const EIB: &str = "EiB";
+
 pub(crate) const DEPTH: &str = "Depth";
 
 pub(crate) const DEPTH_NOTE: &str = "How many slashes the paths of files have.";
 
 pub(crate) const SLASHES: &str = "slashes";
+
+pub(crate) const MOST_SLASHES: &str = "64 or more";
+
+pub(crate) const MORE: &str = " more: ";
 
 pub(crate) const ALL_FORMATS: &str = "All formats";
 

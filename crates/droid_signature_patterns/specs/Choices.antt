@@ -7,6 +7,7 @@ use Rattle.droid_signature_texts.specs.Records.{ByteSequenceRecord}
 use Rattle.droid_signature_texts.specs.Sequences.{StandFor}
 use Rattle.droid_signature_texts.specs.declared.reason.Reason.{Reason}
 use Rattle.droid_signature_texts.specs.declared.reason.Reason.TheVariants as reasons
+use Rattle.droid_signature_texts.specs.Texts.{AreSmall}
 use Rattle.droid_signature_texts.specs.Written.{written_each}
 use Rattle.droid_signature_patterns.specs.Parts.{ReadPart, row_patterns}
 use Rattle.droid_signature_patterns.specs.Reasons.{IsRead, IsReasonOfOne}
@@ -25,6 +26,7 @@ pub record IsTaken (sequence : ByteSequenceRecord) (taken : Choices) : Type 0 wh
   pub rest : List ReadPart
   pub is_read : IsRead sequence taken.offsets first rest
   pub texts : taken.texts ≡ written_each (row_patterns first rest)
+  pub small : AreSmall taken.texts
   pub stand : StandFor sequence taken.offsets (row_patterns first rest)
   pub read : AreReadAs taken.texts (row_patterns first rest)
 

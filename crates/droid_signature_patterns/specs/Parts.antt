@@ -1,6 +1,6 @@
 -- Subsequences whose texts are read, and the patterns that they are written as: a list of patterns for each position of a
 -- fragment, each with each.
-use Rattle.std.specs.Prelude.{◌≡◌, ℕ, zero, suc, ◌≤◌, ◌==◌, max, List, [], ◌∷◌, ◌++◌, map, if◌then◌else◌, ⊤}
+use Rattle.std.specs.Prelude.{◌≡◌, ℕ, zero, suc, ◌≤◌, ◌==◌, max, List, [], ◌∷◌, ◌++◌, length, map, if◌then◌else◌, ⊤}
 use Rattle.droid_signature_texts.specs.Patterns.{Element, OpenGap}
 use Rattle.droid_signature_texts.specs.Records.{SubSequenceRecord}
 use Rattle.droid_signature_texts.specs.record_types.subsequence.Fragment.{Fragment}
@@ -34,8 +34,9 @@ side_of it = record { position = it.position; least = it.least; most = it.most; 
 abbrev pub piece_of : ReadPart → Piece
 piece_of part = record { least = part.least; left = map side_of part.left; patterns = patterns_of part.terms; right = map side_of part.right }
 
--- A text is read as these terms, which it spells and whose patterns match what it stands for.
+-- A text is read as these terms, which it spells and whose patterns match what it stands for. It has at most 65,536 bytes.
 pub record IsReadText (text : List ℕ) (terms : List Term) : Type 0 where
+  pub short : length text ≤ 65536
   pub spelled : SpellsTerms text terms
   pub patterns : ArePatternsOf (TextMatches text) (patterns_of terms)
 

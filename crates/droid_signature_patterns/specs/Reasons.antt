@@ -46,9 +46,11 @@ IsReasonOfPositions fragments reason =
     Any (IsReasonOfPosition reason) fragments
     ⊎ ((position : ℕ) × (reason ≡ reasons.FragmentPositions) × (0 < position) × (position ≤ outermost fragments) × (has_position position fragments ≡ false))
 
--- the text is outside the grammar
+-- the text is too long, or outside the grammar
 abbrev pub IsReasonOfText : List ℕ → Reason → Type 0
-IsReasonOfText text reason = (reason ≡ reasons.Text) × ((terms : List Term) → SpellsTerms text terms → ⊥)
+IsReasonOfText text reason =
+    ((reason ≡ reasons.LongText) × (65536 < length text))
+    ⊎ ((reason ≡ reasons.Text) × ((terms : List Term) → SpellsTerms text terms → ⊥))
 
 abbrev pub IsReasonOfFragment : Reason → Fragment → Type 0
 IsReasonOfFragment reason fragment = IsReasonOfBounds fragment.offsets reason ⊎ IsReasonOfText fragment.text reason

@@ -22,7 +22,8 @@ pub(crate) enum Way {
     Right,
 }
 
-/// Returns the texts of the patterns that stand for a byte sequence: at most 64, each of at most 4,096 bytes.
+/// Returns the texts of the patterns that stand for a byte sequence: at most 64, each of at most 4,096 bytes, with at most
+/// 16,384 bytes in all.
 pub(crate) fn sequence_texts(alloc: Global, read: &ReadSequence) -> Result<PatternTexts, Stop>
     ensures ok { IfOk result (λ texts. texts ≡ written_each (spec.row_patterns read.now.first read.now.further.items)) }
     ensures small { IfOk result AreSmall }

@@ -19,6 +19,9 @@ use droid_signature_texts::{
 };
 use std::alloc::Global;
 
+/// The most bytes of the text of a sequence or a fragment. This limit is the project's own.
+const LONGEST_TEXT: usize = 65_536;
+
 /// Reads a byte sequence.
 pub(crate) fn read_sequence(alloc: Global, sequence: &SequenceRecord) -> Result<ReadSequence, Stop>
     ensures ok { IfOk result (λ read. IsRead sequence.now read.offsets read.first read.further.items) }
@@ -151,11 +154,14 @@ fn read_fragment(alloc: Global, fragment: &Fragment) -> Result<ReadFragment, Sto
     Ok(ReadFragment::new(fragment.position, bounds.0, bounds.1, terms))
 }
 
-/// Reads a text.
+/// Reads a text, if it is not too long.
 fn read_terms(alloc: Global, text: &str) -> Result<Vec<TextTerm>, Stop>
     ensures ok { IfOk result (λ terms. IsReadText text.now (map term_of terms.items)) }
     ensures err { IfLeftOut result (IsReasonOfText text.now) }
 {
+    if text.len() > LONGEST_TEXT {
+        return Err(Stop::LeftOut(Reason::LongText));
+    }
     match read_text(alloc, text) {
         Ok(terms) => Ok(terms),
         Err(TextFault::BadText) => Err(Stop::LeftOut(Reason::Text)),

@@ -57,6 +57,11 @@ joined_all_more xs i d below = ap joined_all (take_more xs i d below) ∙ joined
 pub last_grows : (texts : List (List ℕ)) (last more : List ℕ) → joined texts ((last ++ more) ∷ []) ≡ joined (joined texts (last ∷ [])) (more ∷ [])
 last_grows texts last more = sym (joined_assoc texts (last ∷ []) (more ∷ []))
 
+-- the first of them is too long if what stands behind it is
+pub long_behind : (texts : List (List ℕ)) (last : List ℕ) → (length texts ≡ 0 → ⊥) → 4096 < length last → Any (λ text. 4096 < length text) (joined texts (last ∷ []))
+long_behind [] last some long = absurd (some refl)
+long_behind (x ∷ texts) last some long = let whole = length-append x last in (0, x ++ last, omega arith, refl, omega (arith, whole))
+
 -- how many there are
 pub length_joined : (xs ys : List (List ℕ)) → length (joined xs ys) ≡ length xs * length ys
 length_joined [] ys = omega arith

@@ -5,6 +5,7 @@ pub use Rattle.droid_signature_parser.proofs.SequenceChoices
 pub use Rattle.droid_signature_parser.proofs.Flags
 pub mod Exits
 pub mod Joined
+pub mod Totals
 pub mod TermLevels
 pub mod RangeTexts
 pub mod Runs

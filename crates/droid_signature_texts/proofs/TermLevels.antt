@@ -18,7 +18,7 @@ use Rattle.droid_signature_texts.specs.Texts.{joined, joined_all}
 use Rattle.droid_signature_texts.specs.Written.{pair, written, written_all, written_each, one_text, is_run, marked}
 use Rattle.droid_signature_texts.specs.Outcomes.{AreTooMuch, HasMany, IsTooMuch, IsReasonOfAtom, IsReasonOfAtoms, IsReasonOfTerm, IsReasonOfTerms}
 use Rattle.droid_signature_texts.specs.declared.reason.Reason.{Reason}
-use Rattle.droid_signature_texts.proofs.Joined.{written_joined}
+use Rattle.droid_signature_texts.proofs.Joined.{joined_all_more, written_joined}
 
 abbrev pub term_level : Term → List (List ℕ)
 term_level t = written_each (patterns_of_term t)
@@ -33,6 +33,25 @@ terms_levels (t ∷ ts) = ap (joined (term_level t)) (terms_levels ts) ∙ sym (
 pub atoms_levels : (atoms : List Atom) → joined_all (map atom_level atoms) ≡ written_each (patterns_of_atoms atoms)
 atoms_levels [] = refl
 atoms_levels (a ∷ atoms) = ap (joined (atom_level a)) (atoms_levels atoms) ∙ sym (written_joined (patterns_of_atom a) (patterns_of_atoms atoms))
+
+-- one more of the lists that terms or items are written as
+pub levels_more : {X Y : Type 0} (g : Y → List (List ℕ)) (f : X → Y) (xs : List X) (i : ℕ) (x : X) (done new level : List (List ℕ)) → i < length xs → x ≡ get_or xs i x
+    → done ≡ joined_all (take i (map g (map f xs))) → level ≡ g (f x) → new ≡ joined done level → new ≡ joined_all (take (i + 1) (map g (map f xs)))
+levels_more g f xs i x done new level below is so_far made grown =
+    let long : i < length (map f xs) = omega (arith, length-map xs f) in
+    let longer : i < length (map g (map f xs)) = omega (arith, length-map xs f, length-map (map f xs) g) in
+    let there : get_or (map f xs) i (f x) ≡ f x = get_or-map f xs i x (f x) below ∙ ap f (sym is) in
+    let here : get_or (map g (map f xs)) i (g (f x)) ≡ g (f x) = get_or-map g (map f xs) i (f x) (g (f x)) long ∙ ap g there in
+    grown
+    ∙ ap (λ l. joined l level) so_far
+    ∙ ap (joined (joined_all (take i (map g (map f xs))))) (made ∙ sym here)
+    ∙ sym (joined_all_more (map g (map f xs)) i (g (f x)) longer)
+
+-- what the first of the lists give is too much, or what these and one more do
+pub exceed : (levels : List (List (List ℕ))) (i : ℕ) (done more : List (List ℕ)) (reason : Reason) → done ≡ joined_all (take i levels) → more ≡ joined_all (take (i + 1) levels)
+    → IsTooMuch done reason ⊎ IsTooMuch more reason → AreTooMuch levels reason
+exceed levels i done more reason so_far grown (inl h) = let P : List (List ℕ) → Type 0 = λ texts. IsTooMuch texts reason in record { count = i; exceeds = subst P so_far h }
+exceed levels i done more reason so_far grown (inr h) = let P : List (List ℕ) → Type 0 = λ texts. IsTooMuch texts reason in record { count = i + 1; exceeds = subst P grown h }
 
 -- what the first of them are written as is too much
 pub terms_exceed : (ts : List Term) (reason : Reason) → AreTooMuch (map term_level ts) reason → IsReasonOfTerms ts reason

@@ -4,7 +4,7 @@ use Rattle.std.specs.List.{Any}
 use Rattle.droid_signature_parser.specs.Terms.{Atom, Plain, Outside, Between, Quoted, Term, One, OneOf}
 use Rattle.droid_signature_parser.specs.Expansions.{patterns_of, patterns_of_atoms, patterns_of_each}
 use Rattle.droid_signature_texts.specs.Written.{written_each}
-use Rattle.droid_signature_texts.specs.Texts.{joined_all}
+use Rattle.droid_signature_texts.specs.Texts.{joined_all, total}
 use Rattle.droid_signature_texts.specs.declared.reason.Stop.{Stop}
 use Rattle.droid_signature_texts.specs.declared.reason.Stop.TheVariants as stops
 use Rattle.droid_signature_texts.specs.declared.reason.Reason.{Reason}
@@ -27,9 +27,13 @@ HasMany texts reason = (reason ≡ reasons.ManyAlternatives) × (64 < length tex
 abbrev pub HasLong : List (List ℕ) → Reason → Type 0
 HasLong texts reason = (reason ≡ reasons.LongPattern) × Any (λ text. 4096 < length text) texts
 
--- a registry cannot hold these texts
+-- the texts have more than 16,384 bytes in all
+abbrev pub HasMuch : List (List ℕ) → Reason → Type 0
+HasMuch texts reason = (reason ≡ reasons.LongPatterns) × (16384 < total texts)
+
+-- these texts are not taken
 abbrev pub IsTooMuch : List (List ℕ) → Reason → Type 0
-IsTooMuch texts reason = HasMany texts reason ⊎ HasLong texts reason
+IsTooMuch texts reason = HasMany texts reason ⊎ HasLong texts reason ⊎ HasMuch texts reason
 
 -- a registry cannot hold what the first of these lists, one behind the other, give
 pub record AreTooMuch (levels : List (List (List ℕ))) (reason : Reason) : Type 0 where

@@ -1,5 +1,5 @@
 -- Texts of patterns, any of which has to match.
-use Rattle.std.specs.Prelude.{◌≡◌, ℕ, ◌≤◌, ◌<◌, List, [], ◌∷◌, ◌++◌, length, map}
+use Rattle.std.specs.Prelude.{◌≡◌, ℕ, ◌+◌, ◌≤◌, ◌<◌, List, [], ◌∷◌, ◌++◌, length, map}
 use Rattle.std.specs.List.{AllByRecursion}
 use Rattle.droid_signature_texts.specs.declared.reason.Reason.{Reason}
 use Rattle.droid_signature_texts.specs.declared.reason.Reason.TheVariants as reasons
@@ -22,10 +22,16 @@ joined_all (level ∷ levels) = joined level (joined_all levels)
 abbrev pub AreShort : List (List ℕ) → Type 0
 AreShort texts = AllByRecursion (λ text. length text ≤ 4096) texts
 
--- what a registry takes for a signature: at most 64 texts of at most 4,096 bytes each
+-- how many bytes they have in all
+abbrev pub total : List (List ℕ) → ℕ
+total [] = 0
+total (text ∷ texts) = length text + total texts
+
+-- what is taken for a byte sequence: at most 64 texts of at most 4,096 bytes each, with at most 16,384 bytes in all
 pub record AreSmall (texts : List (List ℕ)) : Type 0 where
   pub few : length texts ≤ 64
   pub short : AreShort texts
+  pub bounded : total texts ≤ 16384
 
 -- a text has more than 4,096 bytes
 abbrev pub IsLong : List ℕ → Reason → Type 0

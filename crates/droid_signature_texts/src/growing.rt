@@ -1,16 +1,18 @@
 //! Texts that grow by one list of texts after another.
 
-ghost use Rattle.std.specs.Prelude.{◌≡◌, ◌⊎◌, ◌∷◌, [], IfOk, OnOk};
-ghost use Rattle.droid_signature_texts.specs.Outcomes.{AreTooMuch, IfLeftOut, IsTooMuch};
+ghost use Rattle.std.specs.Prelude.{◌≡◌, ◌⊎◌, ◌<◌, ◌∷◌, [], IsTrue, IfOk, OnOk, length};
+ghost use Rattle.std.specs.List.{Any};
+ghost use Rattle.droid_signature_texts.specs.Outcomes.{AreTooMuch, HasLong, IfLeftOut, IsTooMuch};
 ghost use Rattle.droid_signature_texts.specs.Texts.{AreSmall};
 ghost use Rattle.droid_signature_texts.specs.Texts as spec;
 
-use crate::pattern_texts::PatternTexts;
-use crate::reason::Stop;
+use crate::pattern_texts::{MOST_BYTES, PatternTexts};
+use crate::reason::{Reason, Stop};
 use std::alloc::{AllocError, Global};
 use std::marker::Model;
 
-/// Returns the texts of several lists, one behind the other, each with each: at most 64 texts of at most 4,096 bytes.
+/// Returns the texts of several lists, one behind the other, each with each: at most 64 texts of at most 4,096 bytes, with at
+/// most 16,384 bytes in all.
 pub fn expanded(alloc: Global, levels: &[PatternTexts]) -> Result<PatternTexts, Stop>
     ensures ok { IfOk result (λ texts. texts ≡ spec.joined_all levels.now) }
     ensures small { IfOk result AreSmall }
@@ -26,7 +28,7 @@ pub fn expanded(alloc: Global, levels: &[PatternTexts]) -> Result<PatternTexts, 
 
 /// Texts, and a text that stands behind each of them. It grows in place where one text follows.
 #[derive(Drop)]
-struct Growing {
+pub(crate) struct Growing {
     texts: PatternTexts,
     last: Vec<u8>,
 }
@@ -42,7 +44,7 @@ impl Model for Growing {
 
 impl Growing {
     /// One empty text.
-    fn new(alloc: Global) -> Result<Growing, AllocError>
+    pub(crate) fn new(alloc: Global) -> Result<Growing, AllocError>
         ensures { IfOk result (λ growing. growing ≡ [] ∷ []) }
     {
         let texts = PatternTexts::one(alloc, Vec::new(alloc))?;
@@ -52,14 +54,13 @@ impl Growing {
         })
     }
 
-    /// Appends each of the texts to each text.
-    fn push(&mut self, alloc: Global, level: &PatternTexts) -> Result<(), Stop>
+    /// Appends each of the texts to each text. Stops early if that is too much for a registry: the rest need not be written.
+    pub(crate) fn push(&mut self, alloc: Global, level: &PatternTexts) -> Result<(), Stop>
         ensures ok { OnOk result (self.new ≡ spec.joined self.old level.now) }
         ensures err { IfLeftOut result (λ reason. IsTooMuch self.old reason ⊎ IsTooMuch (spec.joined self.old level.now) reason) }
     {
         if level.len() == 1 {
-            self.last.extend_from_slice(level.get(0))?;
-            return Ok(());
+            return self.push_one(level.get(0));
         }
         let texts = self.texts(alloc)?;
         self.texts = texts.joined(alloc, level)?;
@@ -67,8 +68,27 @@ impl Growing {
         Ok(())
     }
 
+    /// Appends a text to each text.
+    fn push_one(&mut self, text: &[u8]) -> Result<(), Stop>
+        ensures ok { OnOk result (self.new ≡ spec.joined self.old (text.now ∷ [])) }
+        ensures err { IfLeftOut result (HasLong (spec.joined self.old (text.now ∷ []))) }
+    {
+        self.last.extend_from_slice(text)?;
+        if self.is_long() {
+            return Err(Stop::LeftOut(Reason::LongPattern));
+        }
+        Ok(())
+    }
+
+    /// Returns whether there are texts, and what stands behind each is too long alone.
+    fn is_long(&self) -> bool
+        ensures { IsTrue result → Any (λ text. 4096 < length text) self.now }
+    {
+        !self.texts.is_empty() && self.last.len() > MOST_BYTES
+    }
+
     /// Returns the texts.
-    fn texts(&self, alloc: Global) -> Result<PatternTexts, Stop>
+    pub(crate) fn texts(&self, alloc: Global) -> Result<PatternTexts, Stop>
         ensures ok { IfOk result (λ texts. texts ≡ self.now) }
         ensures small { IfOk result AreSmall }
         ensures err { IfLeftOut result (IsTooMuch self.now) }

@@ -1,9 +1,9 @@
 //! Texts of patterns, any of which has to match.
 
-ghost use Rattle.std.specs.Prelude.{◌≡◌, ◌<◌, ◌≤◌, ◌+◌, ◌*◌, ◌++◌, ◌∷◌, [], ◌==◌, ◌↔◌, IsTrue, length, slice_index_or, IfOk, OnOk};
+ghost use Rattle.std.specs.Prelude.{◌≡◌, ◌⊎◌, ◌<◌, ◌≤◌, ◌+◌, ◌*◌, ◌++◌, ◌∷◌, [], ◌==◌, ◌↔◌, IsTrue, length, slice_index_or, IfOk, OnOk};
 ghost use Rattle.droid_signature_texts.specs.Texts as spec;
 ghost use Rattle.droid_signature_texts.specs.Texts.{AreShort, AreSmall};
-ghost use Rattle.droid_signature_texts.specs.Outcomes.{HasLong, HasMany, IfLeftOut, IsTooMuch};
+ghost use Rattle.droid_signature_texts.specs.Outcomes.{HasLong, HasMany, HasMuch, IfLeftOut, IsTooMuch};
 
 use crate::pattern_text::PatternText;
 use crate::reason::{Reason, Stop};
@@ -14,7 +14,10 @@ use std::marker::Model;
 const MOST_PATTERNS: usize = 64;
 
 /// The most bytes of a pattern's text, as in a registry.
-const MOST_BYTES: usize = 4096;
+pub(crate) const MOST_BYTES: usize = 4096;
+
+/// The most bytes of all patterns that may stand for a byte sequence. This limit is the project's own.
+const MOST_BYTES_IN_ALL: usize = 16_384;
 
 /// Texts of patterns, any of which has to match. In contracts it is the list of them.
 #[derive(Drop)]
@@ -106,7 +109,8 @@ impl PatternTexts {
         Ok(())
     }
 
-    /// Returns each text with each of the others behind it: at most 64 texts of at most 4,096 bytes.
+    /// Returns each text with each of the others behind it: at most 64 texts of at most 4,096 bytes, with at most 16,384
+    /// bytes in all.
     pub(crate) fn joined(&self, alloc: Global, others: &PatternTexts) -> Result<PatternTexts, Stop>
         ensures ok { IfOk result (λ texts. texts ≡ spec.joined self.now others.now) }
         ensures small { IfOk result AreSmall }
@@ -120,7 +124,7 @@ impl PatternTexts {
     }
 }
 
-/// Returns each text with each of the others behind it, if all have at most 4,096 bytes.
+/// Returns each text with each of the others behind it, if each has at most 4,096 bytes, and all at most 16,384.
 fn join(
     alloc: Global,
     firsts: &[PatternText],
@@ -128,13 +132,32 @@ fn join(
 ) -> Result<PatternTexts, Stop>
     ensures ok { IfOk result (λ texts. texts ≡ spec.joined firsts.now seconds.now) }
     ensures short { IfOk result AreShort }
-    ensures err { IfLeftOut result (HasLong (spec.joined firsts.now seconds.now)) }
+    ensures bounded { IfOk result (λ texts. spec.total texts ≤ 16384) }
+    ensures err { IfLeftOut result (λ reason. HasLong (spec.joined firsts.now seconds.now) reason ⊎ HasMuch (spec.joined firsts.now seconds.now) reason) }
 {
     let mut texts = PatternTexts::new(alloc);
     for first in firsts {
         add_behind(alloc, &mut texts, first.as_slice(), seconds)?;
+        if are_long(texts.as_slice()) {
+            return Err(Stop::LeftOut(Reason::LongPatterns));
+        }
     }
     Ok(texts)
+}
+
+/// Returns whether the texts have more than 16,384 bytes in all.
+fn are_long(texts: &[PatternText]) -> bool
+    ensures { IsTrue result ↔ (16384 < spec.total texts.now) }
+{
+    let mut left = MOST_BYTES_IN_ALL;
+    for text in texts {
+        let len = text.as_slice().len();
+        if len > left {
+            return true;
+        }
+        left -= len;
+    }
+    false
 }
 
 /// Adds each of the other texts behind a text.

@@ -32,12 +32,16 @@ pub enum Reason {
     LargePosition,
     /// The text of a sequence or a fragment is outside the grammar, as one with a bit mask is.
     Text,
+    /// The text of a sequence or a fragment has more than 65,536 bytes.
+    LongText,
     /// A range is one of more than 16 bytes.
     LongRange,
     /// More than 64 alternatives would have to be written out.
     ManyAlternatives,
     /// A pattern is over 4,096 bytes.
     LongPattern,
+    /// The patterns of a byte sequence have more than 16,384 bytes in all.
+    LongPatterns,
     /// A pattern has no byte, or ends in a gap.
     GapAtEnd,
 }

@@ -13,7 +13,7 @@ ghost use Rattle.droid_signature_texts.specs.Written as spec;
 ghost use Rattle.droid_signature_texts.specs.Written.{marked, one_text, pair, written, written_each};
 
 use crate::element_texts::{push_byte, push_bytes, push_except, push_gap, push_range};
-use crate::growing::expanded;
+use crate::growing::Growing;
 use crate::pattern_texts::PatternTexts;
 use crate::range_texts::range_texts;
 use crate::reason::{Reason, Stop};
@@ -23,18 +23,18 @@ use std::alloc::{AllocError, Global};
 /// The most bytes of the bounds of a range. This limit is the project's own.
 const MOST_RANGE_BYTES: usize = 16;
 
-/// Returns the texts of the patterns that stand for terms: at most 64, each of at most 4,096 bytes.
+/// Returns the texts of the patterns that stand for terms: at most 64, each of at most 4,096 bytes, with at most 16,384 in all.
 pub fn texts_of(alloc: Global, terms: &[TextTerm]) -> Result<PatternTexts, Stop>
     ensures ok { IfOk result (λ texts. texts ≡ written_each (patterns_of (map term_of terms.now))) }
     ensures small { IfOk result AreSmall }
     ensures err { IfLeftOut result (IsReasonOfTerms (map term_of terms.now)) }
 {
-    let mut levels = Vec::new(alloc);
+    let mut growing = Growing::new(alloc)?;
     for term in terms {
         let level = term_texts(alloc, term)?;
-        levels.push(level)?;
+        growing.push(alloc, &level)?;
     }
-    let texts = expanded(alloc, levels.as_slice())?;
+    let texts = growing.texts(alloc)?;
     Ok(texts)
 }
 
@@ -215,11 +215,11 @@ fn items_texts(alloc: Global, items: &[TextItem]) -> Result<PatternTexts, Stop>
     ensures ok { IfOk result (λ texts. texts ≡ written_each (patterns_of_atoms (map atom_of items.now))) }
     ensures err { IfLeftOut result (λ reason. IsReasonOfAtoms reason (map atom_of items.now)) }
 {
-    let mut levels = Vec::new(alloc);
+    let mut growing = Growing::new(alloc)?;
     for item in items {
         let level = item_texts(alloc, item)?;
-        levels.push(level)?;
+        growing.push(alloc, &level)?;
     }
-    let texts = expanded(alloc, levels.as_slice())?;
+    let texts = growing.texts(alloc)?;
     Ok(texts)
 }

@@ -38,7 +38,7 @@ pub fn frames_of(alloc: Global, client: u32, count: u64) -> Result<Vec<u8>, Allo
 }
 
 /// A hall of clients that each send so many frames and then end so.
-fn hall_of(
+pub fn hall_of(
     alloc: Global,
     seed: u64,
     width: usize,
@@ -87,7 +87,7 @@ fn is_of(frame: &Frame, client: u32, place: u64) -> bool {
 }
 
 /// Whether each connection got its replies and was closed for this reason, and no frame was handled twice.
-fn are_served(alloc: Global, hall: &PaperHall, count: u64, why: Departure) -> bool {
+pub fn are_served(alloc: Global, hall: &PaperHall, count: u64, why: Departure) -> bool {
     let mut sum = 0u64;
     let mut client = 0u32;
     for wire in &hall.wires {

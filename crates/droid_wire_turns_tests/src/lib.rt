@@ -8,6 +8,14 @@ mod counting_handler;
 #[cfg(test)]
 mod failures;
 #[cfg(test)]
+mod lasting_hall;
+#[cfg(test)]
+mod lasting_orders;
+#[cfg(test)]
+mod lengths;
+#[cfg(test)]
+mod memory;
+#[cfg(test)]
 mod ordered_hall;
 #[cfg(test)]
 mod orders;

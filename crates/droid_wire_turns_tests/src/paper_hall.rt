@@ -48,6 +48,8 @@ pub struct PaperHall {
     pub clock: u64,
     /// The most bytes that are given or taken at once.
     pub width: usize,
+    /// If it isn't 0, exactly `width` bytes are given at once, if there are as many, and so many are taken.
+    pub exact: usize,
     /// One in so many reads and writes does nothing. 0: none.
     pub rests: u64,
     /// How many waits there are before waiting fails.
@@ -64,6 +66,7 @@ impl PaperHall {
             seed,
             clock: 0,
             width,
+            exact: 0,
             rests,
             waits: 100_000,
         }
@@ -96,8 +99,11 @@ impl PaperHall {
         (self.seed >> 33) % below.max(1)
     }
 
-    /// Returns how many bytes go now, or `None` if none do.
-    fn portion(&mut self) -> Option<usize> {
+    /// Returns how many bytes go now, or `None` if none do. `exact` is that number if it isn't by chance.
+    fn portion(&mut self, exact: usize) -> Option<usize> {
+        if self.exact != 0 {
+            return Some(exact);
+        }
         if self.rests != 0 && self.roll(self.rests) == 0 {
             return None;
         }
@@ -135,7 +141,7 @@ impl Connections for PaperHall {
     }
 
     fn read(&mut self, id: u64, buffer: &mut [u8]) -> Came {
-        let Some(portion) = self.portion() else {
+        let Some(portion) = self.portion(self.width) else {
             return Came::Nothing;
         };
         let Some(wire) = self.wires.get_mut(id as usize) else {
@@ -146,7 +152,7 @@ impl Connections for PaperHall {
     }
 
     fn write(&mut self, id: u64, bytes: &[u8]) -> Took {
-        let Some(portion) = self.portion() else {
+        let Some(portion) = self.portion(self.exact) else {
             return Took::Nothing;
         };
         let Some(wire) = self.wires.get_mut(id as usize) else {

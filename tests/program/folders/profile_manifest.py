@@ -8,7 +8,7 @@ import unittest
 from lib.trees import NAME, SKIPPED, InFolder, lines, profile, read, status_of, walk
 
 # names that the tools have to escape, or that look like options or like parts of a line
-ODD = [b"back\\slash", b"two\nlines", b"carriage\rreturn", b"-dash", b"--help", b" leading and trailing ", b"*star", b"#hash", b"tab\there", b'"quoted"', "déjà vu".encode(), b"\\n", b"\x01\x7f"]
+ODD = [b"-", b"*", b" ", b"~", b"\\", b"ends in \\", b"back\\slash", b"two\nlines", b"\n", b"MD5 (a) = b", b"carriage\rreturn", b"-dash", b"--help", b" leading and trailing ", b"*star", b"#hash", b"tab\there", b'"quoted"', "déjà vu".encode(), b"\\n", b"\x01\x7f", b"d41d8cd98f00b204e9800998ecf8427e  a", b"%41%0A", b"x" * 255]
 
 
 class Manifest(InFolder):

@@ -1,4 +1,5 @@
-"""More folders and files than a service holds in a profile, and memory that doesn't grow with them."""
+"""More folders and files than a service holds in a profile, memory that doesn't grow with them, and what `verify` takes for
+each."""
 import csv
 import io
 import os
@@ -14,6 +15,9 @@ FEW, MANY = 20_001, 100_001
 IN_FOLDER = 1_000
 # so much memory may a profile of MANY take beside one of FEW: less than 26 bytes a file
 MORE = 2 << 20
+# so much memory may `verify` take at all, and for a row of the list and the file that it names: twice 150 bytes and the
+# path of 11
+AT_ALL, EACH = 6 << 20, 2 * (150 + 11)
 
 
 class Many(InFolder):
@@ -25,19 +29,24 @@ class Many(InFolder):
                 os.mkdir(folder)
             os.mknod(folder + b"/%06d" % number)
 
-    def run_over(self, *words):
-        """Profiles the folder: its status, the CSV, and its largest resident memory, which is read every five
+    def watched(self, command, *words):
+        """Runs a command over the folder: its status, and its largest resident memory, which is read every five
         milliseconds: a run has to be long enough for many looks. (What the system says of an ended child has the memory of
         this process in it.)"""
-        out = self.work + b"/out.csv"
         most = 0
-        with subprocess.Popen([PROGRAM, "profile", self.top, "--quiet", "--output", out, *words], stderr=subprocess.DEVNULL) as run:
+        with subprocess.Popen([PROGRAM, command, self.top, "--quiet", *words], stdout=subprocess.DEVNULL, stderr=subprocess.DEVNULL) as run:
             while run.poll() is None:
                 most = max(most, most_resident(run) or 0)
                 time.sleep(0.005)
         self.assertGreater(most, 0)
+        return run.returncode, most
+
+    def run_over(self, *words):
+        """Profiles the folder: its status, the CSV, and its largest resident memory."""
+        out = self.work + b"/out.csv"
+        status, most = self.watched("profile", "--output", out, *words)
         with open(out, encoding="utf-8", newline="") as file:
-            return run.returncode, file.read(), most
+            return status, file.read(), most
 
     def due(self, count):
         """Yields the number, the parent's and the path of each row: first the folders, and then their files."""
@@ -52,12 +61,15 @@ class Many(InFolder):
         few = self.run_over()
         self.make(FEW, MANY)
         many = self.run_over("--manifest", self.work + b"/list")
+        verified, memory = self.watched("verify", "--against", self.work + b"/out.csv")
         for (status, text, _), count in ((few, FEW), (many, MANY)):
             self.assertEqual(status, 0)
             rows = csv.DictReader(io.StringIO(text, newline=""), strict=True)
             found = [(row["ID"], row["PARENT_ID"], row["FILE_PATH"]) for row in rows]
             self.assertTrue(found == list(self.due(count)), count)
         self.assertLess(many[2] - few[2], MORE)
+        self.assertEqual(verified, 0)
+        self.assertLess(memory, AT_ALL + MANY * EACH)
         with open(self.work + b"/list", "rb") as file:
             self.assertEqual(file.read().count(b"\n"), MANY)
 

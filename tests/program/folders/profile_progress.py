@@ -94,6 +94,26 @@ class Progress(InFolder):
         self.assertNotIn(b"\x1b", err)
         self.assertNotIn(b"\r", err)
 
+    def test_clock(self):
+        """While calls come fast, the clock is read at one in sixteen, and a few times more in each millisecond: that costs less
+        than a thousandth of what the files cost. A file makes two: for its read and for itself. With `--quiet` the clock is
+        read only at the beginning."""
+        files = 20_000
+        calls = 2 * files
+        for number in range(files):
+            if number % 1_000 == 0:
+                self.folder(b"/%d" % (number // 1_000))
+            os.mknod(self.top + b"/%d/%d" % divmod(number, 1_000))
+        for quiet, least, most in ([], calls // 16, calls // 16 + 10), (["--quiet"], 0, 2):
+            counted = self.work + b"/clock"
+            begun = time.monotonic()
+            status = profile(self.top, *quiet, env={**os.environ, "LD_PRELOAD": os.environ["PRELOAD_CLOCK"], "CLOCK_FILE": os.fsdecode(counted)})[0]
+            milliseconds = (time.monotonic() - begun) * 1_000
+            with open(counted, encoding="ascii") as file:
+                count = int(file.read())
+            self.assertEqual(status, 0)
+            self.assertTrue(least <= count <= most + (0 if quiet else 5 * milliseconds), (quiet, count, milliseconds))
+
     def test_summary(self):
         # a registry of twelve formats, of which the ten most frequent are listed
         registry = self.work + b"/registry.csv"

@@ -41,8 +41,8 @@ class Reads(InFolder):
             self.skipped(path, PREAD_OF=path[1:], PREAD_INTERRUPTIONS="65")
 
     def test_failed(self):
-        # the first read and the last one of a file of four pieces, and the only one of the others
-        for number, path in ((1, b"/a.bin"), (4, b"/a.bin"), (1, b"/b.txt"), (1, b"/c.txt")):
+        # each read of a file of four pieces, and the only one of the others
+        for number, path in (*((number, b"/a.bin") for number in range(1, 5)), (1, b"/b.txt"), (1, b"/c.txt")):
             self.skipped(path, PREAD_OF=path[1:], PREAD_FAILS=str(number))
 
 

@@ -42,8 +42,9 @@ class Page(InFolder):
         done = subprocess.run([PROGRAM, "report", csv_path, b"--title=" + title], capture_output=True, timeout=120, check=True)
         return MADE.sub(b"", done.stdout)
 
-    def check(self, text, name, registry=None):
-        """Checks a page of the CSV with this text and name, or of a folder's name, against the one that `report` makes."""
+    def check(self, text, name, registry=None, title=b"tree"):
+        """Checks a page of the CSV with this text and name, or of a folder's name, against the one that `report` makes. Its
+        title is the folder's name."""
         kept = self.work + b"/kept"
         os.makedirs(kept, exist_ok=True)
         path = kept + b"/" + name
@@ -52,7 +53,7 @@ class Page(InFolder):
         page = self.content(self.page)
         due = registry_of(registry)
         self.assertEqual(page.count(b"Registry: " + escaped(due) + b". "), 1, page[:3000])
-        self.assertEqual(MADE.sub(b"", page.replace(b"Registry: " + escaped(due) + b". ", b"")), self.reported(path, name))
+        self.assertEqual(MADE.sub(b"", page.replace(b"Registry: " + escaped(due) + b". ", b"")), self.reported(path, title))
         os.remove(path)
         os.rmdir(kept)
 
@@ -68,15 +69,15 @@ class Page(InFolder):
             self.assertEqual([line for line in os.listdir(self.work) if b"unfinished" in line], [])
 
     def test_odd_names(self):
-        """The page shows the folder's last name, whatever it is called by, and the CSV's."""
+        """The page's title is the folder's last name, whatever it is called by, and the page names the CSV."""
         odd = self.work + b'/a "<b>&\xc3\xa9'
         os.rename(self.top, odd)
         for path in (odd, odd + b"/", odd + b"/in/.."):
             out = profile(path, "--report", self.page)[1]
-            self.check(out, b'a "<b>&\xc3\xa9')
+            self.check(out, os.path.basename(odd), title=os.path.basename(odd))
         for name in (b"<i>.csv", b"a & b"):
             self.assertEqual(profile(odd, "--output", self.work + b"/" + name, "--report", self.page)[0], 0)
-            self.check(self.content(self.work + b"/" + name), name)
+            self.check(self.content(self.work + b"/" + name), name, title=os.path.basename(odd))
 
     def test_registry(self):
         """The path is as it was given, the MD5 is hashlib's of the file's bytes, and it stands on standard error too."""

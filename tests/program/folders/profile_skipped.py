@@ -1,12 +1,10 @@
 """Entries that can't be profiled are reported with their path and the cause, and the rest is profiled."""
 import os
 import re
-import shutil
 import socket
 import subprocess
 import unittest
 
-from lib.program import PROGRAM
 from lib.trees import ALL_SKIPPED, CHANGED, KIND, LINK, LINKS, SKIPPED, UNREAD, InFolder, lines, profile, read, read_skipped, status_of, walk
 
 REASON = re.compile(rb"(.*?): ((?:it |neither |its |same name: |the profile ).*)")
@@ -134,23 +132,10 @@ class Skipped(InFolder):
         for path, mode in ((b"/a", 0o755), (b"/secret.txt", 0), (b"/sealed", 0o111), (b"/unsearched", 0o444)):
             os.chmod(self.top + path, mode)
             self.addCleanup(os.chmod, self.top + path, 0o700)
-        status, out, err = self.as_nobody()
+        status, out, err = self.as_nobody("profile")
         self.assertEqual(status, 5)
         self.assertEqual([row["FILE_PATH"] for row in read(out)], ["/a", "/kept.txt", "/unsearched", "/a/kept.txt"])
         self.assertEqual(self.reported(err), {b"/sealed": UNREAD, b"/secret.txt": UNREAD, b"/unsearched/inside.txt": KIND})
-
-    def as_nobody(self):
-        """Runs a copy of the program over the folder as a user who is not root: its status, its standard output and its
-        standard error."""
-        if os.geteuid():
-            return profile(self.top)
-        for path in (self.work, self.top):
-            os.chmod(path, 0o755)
-        copy = self.work + b"/program"
-        shutil.copy(PROGRAM, copy)
-        os.chmod(copy, 0o755)
-        run = subprocess.run([copy, "profile", self.top], capture_output=True, timeout=120, user=65534, group=65534, extra_groups=[], cwd="/", check=False)
-        return run.returncode, run.stdout, run.stderr
 
     def test_file_that_grows(self):
         # a file to which another process writes all the time is skipped, or has the bytes of one moment

@@ -3,13 +3,19 @@ and over random pairs of trees."""
 import csv
 import hashlib
 import io
+import itertools
 import os
 import random
+import re
+import shutil
+import stat
 import subprocess
 import unittest
+from concurrent.futures import ProcessPoolExecutor
 
-from lib.program import PROGRAM, SAMPLE
-from lib.trees import CHANGED, UNREAD, InChangingFolder, InFolder, profile
+from lib.program import PROGRAM, SAMPLE, Serve
+from lib.submissions import submit
+from lib.trees import CHANGED, KIND, UNREAD, InChangingFolder, InFolder, profile
 
 COLUMNS = ["difference", "path", "size", "hash", "formats", "found_path", "found_size", "found_hash", "found_formats", "reason"]
 # names of files and folders that a list has to quote or escape
@@ -43,14 +49,27 @@ def bytes_of(path):
 
 
 def contents(top):
-    """Walks a folder: for each path below it None, if it is a folder, or else the bytes of the file. Links are left out."""
+    """Walks a folder: for each path below it None, if it is a folder, or else the bytes of the file. Links and pipes are
+    left out."""
     found = {}
     for folder, folders, files in os.walk(top):
         for name in folders + files:
             path = os.path.join(folder, name)
-            if not os.path.islink(path):
-                found[path[len(top) :]] = None if os.path.isdir(path) else bytes_of(path)
+            if os.path.isdir(path) and not os.path.islink(path):
+                found[path[len(top) :]] = None
+            elif stat.S_ISREG(os.lstat(path).st_mode):
+                found[path[len(top) :]] = bytes_of(path)
     return found
+
+
+def moments(top):
+    """The moment of each file and folder below a folder."""
+    return {path: os.lstat(top + path).st_mtime_ns // 10**9 for path in contents(top)}
+
+
+def files_of(items):
+    """The files among these, as a list of checksums has them."""
+    return {path: content for path, content in items.items() if content is not None}
 
 
 def escaped(path):
@@ -75,26 +94,41 @@ def bag(items, name):
     return b"".join(HASHES[name](content).hexdigest().encode() + b"  data" + encode(path) + b"\n" for path, content in items.items() if content is not None)
 
 
-def expected(listed, found, name, with_sizes=True):
+def expected(listed, found, name, with_sizes=True, unreadable=None, when=None):
     """The report by the definition: for each path of either side what differs; a missing file moved where it and a new file
-    are the only ones with their hash, and their sizes are not known to differ."""
+    are the only ones with their hash, and their sizes are not known to differ. An unreadable path (with its reason) is
+    reported as that, and nothing else is of it and of what lies below it. By `--quick` the moments of both sides
+    (`when`) are compared in the place of hashes, if there are sizes, and no file moves."""
+    unreadable = unreadable or {}
+    readable = lambda items: {p: items[p] for p in items if not any(p == u or p.startswith(u + b"/") for u in unreadable)}
+    listed, found = readable(listed), readable(found)
     digest = lambda content: b"" if content is None or name == "none" else HASHES[name](content).hexdigest().encode()
     size = lambda content: b"" if content is None else str(len(content)).encode()
     old = lambda content: (size(content) if with_sizes else b"", digest(content))
-    new = lambda content: (size(content), digest(content))
+    new = lambda content: (size(content), b"" if when else digest(content))
+
+    def differ(path, a, b):
+        if (a is None) != (b is None):
+            return True
+        if when:
+            return a is not None and with_sizes and (len(a) != len(b) or when[0][path] != when[1][path])
+        return a is not None and (digest(a) != digest(b) or (with_sizes and len(a) != len(b)))
+
     missing = [path for path in listed if path not in found]
     added = [path for path in found if path not in listed]
     by = lambda paths, items: {d: [p for p in paths if digest(items[p]) == d] for d in {digest(items[p]) for p in paths} if d}
     lost, came = by(missing, listed), by(added, found)
     moves = {}
     for d, paths in lost.items():
-        if len(paths) == 1 and len(came.get(d, [])) == 1:
+        if len(paths) == 1 and len(came.get(d, [])) == 1 and not when:
             moves[paths[0]] = came[d][0]
     rows = []
-    for path in sorted({*listed, *found}):
-        if path in listed and path in found:
+    for path in sorted({*listed, *found, *unreadable}):
+        if path in unreadable:
+            rows.append((b"unreadable", path, b"", b"", b"", b"", b"", unreadable[path]))
+        elif path in listed and path in found:
             a, b = listed[path], found[path]
-            if (a is None) != (b is None) or (a is not None and (digest(a) != digest(b) or (with_sizes and len(a) != len(b)))):
+            if differ(path, a, b):
                 rows.append((b"changed", path, *old(a), path, *new(b), b""))
         elif path in moves:
             rows.append((b"moved", path, *old(listed[path]), moves[path], *new(found[moves[path]]), b""))
@@ -120,6 +154,12 @@ def fields_of(text):
     return records
 
 
+# the forms of a list: a profile's CSV, a list of checksums, and the manifest of a bag
+FORMS = [("csv", "none"), *itertools.product(("csv", "list", "bag"), HASHES)]
+# so many random pairs of trees are compared, by a fixed seed
+SEED, PAIRS, WORKERS = 54, 2_000, 4
+
+
 class InLists(InFolder):
     def write(self, name, text):
         path = self.work + b"/" + name
@@ -130,35 +170,59 @@ class InLists(InFolder):
 
 class Lists(InLists):
 
-    def checked(self, top, against, rows):
+    def checked(self, top, against, rows, *words, **more):
         """Checks the report of `verify`, its status and that standard error counts what it has."""
-        status, out, said = verify(top, "--against", against)
+        status, out, said = verify(top, "--against", against, *words, **more)
         self.assertEqual((rows_in(out), status), (rows, 5 if rows else 0), said)
         for kind in [b"changed", b"missing", b"new", b"moved", b"unreadable"]:
             self.assertIn(b"\n" + kind + b": %d\n" % sum(row[0] == kind for row in rows), said)
 
-    def by_each_form(self, change):
-        """Makes the lists of the tree, changes the tree, and compares it with each list."""
-        listed = contents(self.top)
-        files = {path: content for path, content in listed.items() if content is not None}
-        lists = []
-        for name in ["none", *HASHES]:
-            path = self.work + b"/" + name.encode() + b".csv"
+    def listed_as(self, form, name):
+        """Makes a list of the tree: what `verify` is to compare, the list's path, and whether it has folders and sizes."""
+        path = self.work + f"/{name}.{form}".encode()
+        if form == "csv":
             self.assertEqual(profile(self.top, "--hash", name, "--output", path, "--quiet")[0], 0)
-            lists.append((path, listed, name, True))
-            if name != "none":
-                lists.append((self.write(b"list." + name.encode(), sums(listed, name)), files, name, False))
-        change()
-        found = contents(self.top)
-        for path, items, name, with_sizes in lists:
-            seen = found if with_sizes else {p: content for p, content in found.items() if content is not None}
-            self.checked(self.top, path, expected(items, seen, name, with_sizes))
+            return self.top, path, True
+        if form == "list":
+            self.write(os.path.basename(path), sums(contents(self.top), name))
+            return self.top, path, False
+        folder = self.work + b"/bag"
+        if not os.path.isdir(folder):
+            os.mkdir(folder)
+            self.write(b"bag/bagit.txt", b"BagIt-Version: 1.0\nTag-File-Character-Encoding: UTF-8\n")
+            os.symlink(self.top, folder + b"/data")
+        self.write(os.path.basename(path), bag(contents(self.top), name))
+        return folder, path, False
+
+    def by_each_form(self, change, forms=FORMS, quick=False, **more):
+        """Makes the lists of the tree, changes the tree, and compares it with each list. The change returns what is
+        unreadable after it, if anything is."""
+        listed, before = contents(self.top), moments(self.top)
+        lists = [(name, *self.listed_as(form, name)) for form, name in forms]
+        unreadable = change()
+        found, after = contents(self.top), moments(self.top)
+        for name, top, path, with_sizes in lists:
+            both = (listed, found) if with_sizes else (files_of(listed), files_of(found))
+            rows = expected(*both, name, with_sizes, unreadable, (before, after) if quick else None)
+            self.checked(top, path, rows, *["--quick"] * quick, **more)
 
     def tree(self):
-        self.folder(b"/in")
+        for folder in (b"/in", b"/out"):
+            self.folder(folder)
         for at, name in enumerate(NAMES):
             self.file(b"/" + name, b"top %d" % at)
             self.file(b"/in/" + name, b"in %d" % at)
+        self.file(b"/out/file", b"out")
+        self.file(b"/out/unread", b"unread")
+
+    def in_place_of(self, path, make):
+        """Puts something in the place of what is at a path."""
+        full = self.top + path
+        if os.path.isdir(full):
+            shutil.rmtree(full)
+        else:
+            os.remove(full)
+        make(full)
 
     def test_nothing_differs(self):
         self.tree()
@@ -167,20 +231,30 @@ class Lists(InLists):
     def test_each_difference_alone_and_in_pairs(self):
         steps = {
             "changed": lambda: self.file(b"/a", b"TOP 0"),
-            "longer": lambda: self.file(b"/c.txt", b"longer than before"),
-            "missing": lambda: os.remove(self.top + b"/in/b"),
-            "new": lambda: self.file(b"/in/newer", b"new"),
-            "moved": lambda: os.rename(self.top + b"/in/line\nfeed", self.top + b"/line2"),
-            "folder": lambda: (os.remove(self.top + b"/b"), self.folder(b"/b")),
             "copied": lambda: self.file(b"/copy of a", b"top 0"),
+            "file": lambda: self.in_place_of(b"/in", lambda path: self.file(b"/in", b"of a folder")),
+            "folder": lambda: self.in_place_of(b"/b", os.mkdir),
+            "link": lambda: self.in_place_of(b"/back\\slash", lambda path: os.symlink(b"a", path)),
+            "longer": lambda: self.file(b"/c.txt", b"longer than before"),
+            "missing": lambda: os.remove(self.top + b"/-"),
+            "moved": lambda: os.rename(self.top + b"/line\nfeed", self.top + b"/out/line2"),
+            "new": lambda: self.file(b"/out/newer", b"new"),
+            "pipe": lambda: self.in_place_of(b"/comma,", os.mkfifo),
+            "unread": lambda: None,
         }
-        for one in steps:
-            for other in steps:
-                with self.subTest(one=one, other=other):
-                    subprocess.run(["rm", "-rf", self.top], check=True)
-                    self.folder(b"")
-                    self.tree()
-                    self.by_each_form(lambda: [steps[step]() for step in sorted({one, other})])
+        reasons = {"pipe": (b"/comma,", KIND), "unread": (b"/out/unread", UNREAD)}
+        reads = {"LD_PRELOAD": os.environ["PRELOAD_READS"], "PREAD_OF": "unread", "PREAD_FAILS": "1"}
+        for pair in itertools.combinations_with_replacement(steps, 2):
+            with self.subTest(pair=pair):
+                shutil.rmtree(self.top)
+                self.tree()
+
+                def change():
+                    for step in sorted({*pair}):
+                        steps[step]()
+                    return dict(reasons[step] for step in pair if step in reasons)
+
+                self.by_each_form(change, env=os.environ | (reads if "unread" in pair else {}))
 
     def test_moment_alone(self):
         self.file(b"/a", b"a")
@@ -189,14 +263,21 @@ class Lists(InLists):
     def test_two_files_of_one_hash_do_not_move(self):
         self.file(b"/a", b"same")
         self.file(b"/b", b"same")
-        self.by_each_form(lambda: [os.rename(self.top + b"/" + name, self.top + b"/new " + name) for name in (b"a", b"b")])
+
+        def change():
+            for name in (b"a", b"b"):
+                os.rename(self.top + b"/" + name, self.top + b"/new " + name)
+
+        self.by_each_form(change)
 
     def test_lists_of_coreutils(self):
         self.tree()
-        for name in HASHES:
-            made = subprocess.run(f"find . -type f -exec {name}sum {{}} +", shell=True, cwd=self.top, capture_output=True, check=True).stdout
+        for name, mark in itertools.product(HASHES, ("--text", "--binary")):
+            made = subprocess.run(f"find . -type f -exec {name}sum {mark} {{}} +", shell=True, cwd=self.top, capture_output=True, check=True).stdout
             self.checked(self.top, self.write(b"list", made), [])
             self.checked(self.top, self.write(b"list", made.replace(b"\n", b"\r\n")), [])
+            digests = re.compile(rb"^\\?[0-9a-f]+ ", re.MULTILINE)
+            self.checked(self.top, self.write(b"list", digests.sub(lambda found: found[0].upper(), made)), [])
 
     def test_bag(self):
         self.folder(b"/data")
@@ -204,11 +285,11 @@ class Lists(InLists):
         for at, name in enumerate(NAMES):
             self.file(b"/data/" + name, b"%d" % at)
         for name in HASHES:
-            listed = {path: content for path, content in contents(self.top + b"/data").items() if content is not None}
+            listed = files_of(contents(self.top + b"/data"))
             manifest = self.write(b"manifest", bag(listed, name))
             self.checked(self.top, manifest, [])
             self.file(b"/data/a", b"another")
-            found = {path: content for path, content in contents(self.top + b"/data").items() if content is not None}
+            found = files_of(contents(self.top + b"/data"))
             self.checked(self.top, manifest, expected(listed, found, name, False))
             self.file(b"/data/a", b"0")
 
@@ -223,18 +304,22 @@ class Lists(InLists):
         self.checked(self.top, self.write(b"other.csv", text.getvalue().encode()), [])
 
     def test_unreadable_files_are_not_missing(self):
-        self.file(b"/a", b"a")
-        self.folder(b"/in")
-        self.file(b"/in/b", b"b")
-        path = self.work + b"/list.csv"
-        profile(self.top, "--output", path, "--quiet")
-        os.chmod(self.top + b"/a", 0)
-        os.chmod(self.top + b"/in", 0)
-        self.addCleanup(os.chmod, self.top + b"/in", 0o700)
-        if os.access(self.top + b"/a", os.R_OK):
-            self.skipTest("this user reads all")
-        rows = [(b"unreadable", b"/a", b"", b"", b"", b"", b"", UNREAD), (b"unreadable", b"/in", b"", b"", b"", b"", b"", UNREAD)]
-        self.checked(self.top, path, rows)
+        """What lies in a folder that cannot be listed is neither missing nor moved. Root reads all, so another user does."""
+        for path in (b"/a", b"/in/b", b"/in/deep/c", b"/d"):
+            self.folder(os.path.dirname(path))
+            self.file(path, path)
+        lists = [(name, *self.listed_as(form, name)) for form, name in FORMS if form != "bag"]
+        listed = contents(self.top)
+        self.file(b"/copy of b", b"/in/b")
+        os.remove(self.top + b"/d")
+        found = contents(self.top)
+        for path in (b"/a", b"/in"):
+            os.chmod(self.top + path, 0)
+            self.addCleanup(os.chmod, self.top + path, 0o700)
+        for name, _, path, with_sizes in lists:
+            both = (listed, found) if with_sizes else (files_of(listed), files_of(found))
+            status, out, said = self.as_nobody("verify", "--against", path)
+            self.assertEqual((rows_in(out), status), (expected(*both, name, with_sizes, {b"/a": UNREAD, b"/in": UNREAD}), 5), said)
 
     def test_links_are_no_part(self):
         self.file(b"/a", b"a")
@@ -322,17 +407,17 @@ class Lists(InLists):
         self.assertEqual((status, out, said.startswith(b"fault: Folder\n")), (4, b"", True))
 
     def test_lists_cut_at_each_byte(self):
+        """What is left of a list is malformed, or is all but its last rows. The path of a list of checksums may be cut too."""
         self.file(b"/a", b"a")
-        self.file(b"/b", b"b")
-        path = self.work + b"/list.csv"
-        profile(self.top, "--output", path, "--quiet")
-        whole = bytes_of(path)
-        for end in range(len(whole)):
-            status, out, said = verify(self.top, "--against", self.write(b"cut", whole[:end]), "--quiet")
-            # what is left of the list is malformed, or is all but its last rows
-            self.assertIn(status, [3, 5] if end < len(whole) - 3 else [0], (end, said))
-            if status == 5:
-                self.assertTrue({row[0] for row in rows_in(out)} <= {b"new"}, (end, out))
+        self.file("/\u00e9, \"b\"\nc".encode(), b"b")
+        for form, name in (*FORMS[:3], ("list", "md5")):
+            whole = bytes_of(self.listed_as(form, name)[1])
+            kinds, enough = ({b"new"}, 3) if form == "csv" else ({b"new", b"moved"}, 1)
+            for end in range(len(whole)):
+                status, out, said = verify(self.top, "--against", self.write(b"cut", whole[:end]), "--quiet")
+                self.assertIn(status, [3, 5] if end < len(whole) - enough else [0], (end, said))
+                if status == 5:
+                    self.assertLessEqual({row[0] for row in rows_in(out)}, kinds, (end, out))
 
     def test_lists_with_a_byte_changed(self):
         """Where a byte of a path, a size or a hash is another, the list is none or something differs."""
@@ -373,14 +458,34 @@ class Lists(InLists):
         status, out, said = verify(self.top, "--against", self.write(b"twice.csv", head + first + second + first))
         self.assertEqual((status, out, said.startswith(b"fault: List\n")), (3, b"", True), said)
 
+    def test_hashes_that_are_missing(self):
+        """A row without a hash is compared by its size alone."""
+        self.file(b"/a", b"a")
+        self.file(b"/b", b"b")
+        path = self.listed_as("csv", "sha256")[1]
+        text = bytes_of(path).replace(hashlib.sha256(b"a").hexdigest().encode(), b"")
+        self.file(b"/a", b"A")
+        self.checked(self.top, self.write(b"other.csv", text), [])
+        self.file(b"/a", b"aa")
+        row = (b"changed", b"/a", b"1", b"", b"/a", b"2", hashlib.sha256(b"aa").hexdigest().encode(), b"")
+        self.checked(self.top, self.write(b"other.csv", text), [row])
+
+    def test_exports_of_a_service(self):
+        self.tree()
+        path = self.work + b"/export.csv"
+        with Serve.lasting() as service:
+            self.assertEqual(submit(self.top, service.port, 7, "--export", path)[0], 0)
+        listed = contents(self.top)
+        self.checked(self.top, path, [])
+        self.file(b"/a", b"TOP 0")
+        os.rename(self.top + b"/c.txt", self.top + b"/out/c.txt")
+        self.checked(self.top, path, expected(listed, contents(self.top), "md5"))
+
     def test_random_pairs(self):
-        chance = random.Random(54)
-        for number in range(int(os.environ.get("PAIRS", "100"))):
-            with self.subTest(number=number):
-                subprocess.run(["rm", "-rf", self.top], check=True)
-                self.folder(b"")
-                self.fill(chance, 12)
-                self.by_each_form(lambda: self.fill(chance, 6))
+        """Each is compared by one form of a list, with --quick or without."""
+        with ProcessPoolExecutor(WORKERS) as pool:
+            wrong = [it for it in pool.map(compare_pair, range(PAIRS)) if it is not None]
+        self.assertEqual(wrong, [])
 
     def fill(self, chance, count):
         """Adds, changes, moves and removes some files."""
@@ -389,13 +494,47 @@ class Lists(InLists):
             path = folder + chance.choice(NAMES)
             full = self.top + path
             what = chance.randrange(6)
-            if what == 0 and os.path.exists(full):
-                subprocess.run(["rm", "-rf", full], check=True)
+            if what == 0 and os.path.isdir(full):
+                shutil.rmtree(full)
+            elif what == 0 and os.path.exists(full):
+                os.remove(full)
             elif what == 1 and os.path.isfile(full):
                 os.rename(full, full + b".moved")
+            elif what == 2 and not os.path.exists(full):
+                self.folder(path)
             elif not os.path.isdir(full):
                 self.folder(folder)
-                self.file(path, b"%d" % chance.randrange(5) * chance.randrange(3))
+                self.file(path, b"%d" % chance.randrange(5) * chance.randrange(3), 1_600_000_000 + chance.randrange(2))
+
+    def spoil(self, chance):
+        """Puts a pipe or a link in the place of a file, or neither: what is unreadable then."""
+        files = sorted(files_of(contents(self.top)))
+        what = chance.randrange(4)
+        if not files or what > 1:
+            return {}
+        path = chance.choice(files)
+        self.in_place_of(path, os.mkfifo if what == 0 else lambda full: os.symlink(b"a", full))
+        return {path: KIND} if what == 0 else {}
+
+
+def compare_pair(number):
+    """Compares the random pair of trees of this number, in a folder of its own: what is wrong, if anything is."""
+    chance = random.Random(f"{SEED} {number}")
+    case = Lists()
+    case.setUp()
+
+    def change():
+        case.fill(chance, 8)
+        return case.spoil(chance)
+
+    try:
+        case.fill(chance, 16)
+        case.by_each_form(change, [chance.choice(FORMS)], chance.randrange(4) == 0)
+    except AssertionError as wrong:
+        return f"pair {number}: {wrong}"
+    finally:
+        case.doCleanups()
+    return None
 
 
 class Formats(InLists):
@@ -411,9 +550,9 @@ class Formats(InLists):
         self.assertEqual(profile(self.top, "--registry", SAMPLE, "--output", self.path, "--quiet")[0], 0)
         self.text = bytes_of(self.path)
 
-    def identified(self, text, formats, others=(), registry=SAMPLE):
+    def identified(self, text, formats, others=(), by=("--registry", SAMPLE)):
         """Checks the rows of formats: by path those of the list and those that are found."""
-        status, out, said = verify(self.top, "--against", self.write(b"changed.csv", text), "--identify", "--registry", registry)
+        status, out, said = verify(self.top, "--against", self.write(b"changed.csv", text), "--identify", *by)
         found = records_in(out)
         self.assertEqual({r["path"]: (r["formats"], r["found_formats"]) for r in found if r["difference"] == b"format"}, formats, said)
         self.assertEqual([(r["difference"], r["path"]) for r in found if r["difference"] != b"format"], list(others), said)
@@ -455,7 +594,32 @@ class Formats(InLists):
 
     def test_another_registry(self):
         registry = self.write(b"other.csv", bytes_of(SAMPLE).replace(b"dev/1,", b"dev/7,"))
-        self.identified(self.text, {b"/in/a.msg": (b"dev/1", b"dev/7")}, registry=registry)
+        self.identified(self.text, {b"/in/a.msg": (b"dev/1", b"dev/7")}, by=("--registry", registry))
+
+    def test_options(self):
+        """A signature that begins at byte 3 is found with a limit of 4 and not with one of 3; a format that has one goes by its
+        extension only with --match-all."""
+        by = "--registry", self.write(b"registry.csv", b"F,dev/1,One,,,\nE,dev/1,one,,,\nS,dev/1,BOF,3,3,61\n")
+        self.file(b"/x.bin", b"...a")
+        self.file(b"/y.one", b"...b")
+        self.assertEqual(profile(self.top, *by, "--output", self.path, "--quiet")[0], 0)
+        text = bytes_of(self.path)
+        self.identified(text, {}, by=by)
+        self.identified(text, {}, by=(*by, "--limit", "4"))
+        self.identified(text, {b"/x.bin": (b"dev/1", b"")}, by=(*by, "--limit", "3"))
+        self.identified(text, {b"/y.one": (b"", b"dev/1")}, by=(*by, "--match-all"))
+
+    def test_everyday_formats(self):
+        """They are those of `profile`, with --everyday and without."""
+        self.file(b"/d.png", b"\x89PNG\r\n\x1a\n\0\0\0\rIHDR")
+        self.assertEqual(profile(self.top, "--output", self.path, "--quiet")[0], 0)
+        text = bytes_of(self.path)
+        [png] = [row["PUID"] for row in csv.DictReader(io.StringIO(text.decode(), newline="")) if row["NAME"] == "d.png"]
+        self.assertTrue(png)
+        for by in ((), ("--everyday",)):
+            self.identified(text, {}, by=by)
+        status, out, said = verify(self.top, "--against", self.path, "--identify", "--registry", SAMPLE)
+        self.assertIn((b"/d.png", png.encode(), b""), [(row["path"], row["formats"], row["found_formats"]) for row in records_in(out)], said)
 
     def test_lists_without_formats(self):
         listed = self.write(b"list", sums({b"/c": b"nothing that is known"}, "md5"))
@@ -474,7 +638,16 @@ class Changes(InChangingFolder):
     """Trees that change, or cannot be read, while they are compared."""
 
     # before which look at the file something else is put in its place, as profile_exchanged has it
-    DUE = {("file", 1): "other", ("file", 2): CHANGED, ("file", 0): CHANGED, ("pipe", 2): UNREAD, ("link", 1): "gone", ("link", 2): UNREAD, ("link", 0): CHANGED}
+    DUE = {
+        ("file", 1): "other",
+        ("file", 2): CHANGED,
+        ("file", 0): CHANGED,
+        ("pipe", 1): KIND,
+        ("pipe", 2): UNREAD,
+        ("link", 1): "gone",
+        ("link", 2): UNREAD,
+        ("link", 0): CHANGED,
+    }
 
     def make(self, kind):
         super().make(kind)
@@ -493,6 +666,28 @@ class Changes(InChangingFolder):
                 self.make(kind)
                 rows = self.seen(LD_PRELOAD=os.environ["PRELOAD_CHANGES"], **self.exchanging(look))
                 self.assertEqual(rows, [kinds.get(due, (b"unreadable", self.PATH, due))])
+
+    def test_removed(self):
+        """A file that is no longer there, or not any more when it is opened, is unreadable: its folder had it."""
+        for look, due in (1, KIND), (2, UNREAD), (0, UNREAD):
+            with self.subTest(look=look):
+                self.make("file")
+                paths = {"EXCHANGED_BY": os.fsdecode(self.top + self.PATH), "EXCHANGED_TO": os.fsdecode(self.work + b"/away")}
+                rows = self.seen(LD_PRELOAD=os.environ["PRELOAD_CHANGES"], **(self.exchanging(look) | paths))
+                self.assertEqual(rows, [(b"unreadable", self.PATH, due)])
+
+    def test_file_that_grows(self):
+        """A file to which another process writes all the time has other bytes, or changed while it was read."""
+        self.make("file")
+        self.file(self.PATH, b"x" * 30_000_000)
+        self.assertEqual(profile(self.top, "--output", self.path, "--quiet")[0], 0)
+        with subprocess.Popen(["sh", "-c", 'while :; do echo more >>"$0"; done', self.top + self.PATH]) as writer:
+            self.addCleanup(writer.kill)
+            while os.path.getsize(self.top + self.PATH) == 30_000_000:
+                pass
+            rows = self.seen()
+            writer.kill()
+        self.assertIn(rows, [[(b"changed", self.PATH, b"")], [(b"unreadable", self.PATH, CHANGED)]])
 
     def test_failed_reads(self):
         self.make("file")

@@ -29,14 +29,19 @@ def smaller_request(request, reply, ended):
     return HEADER.pack(version, kind + BARE, client, number, len(bare)) + bare
 
 
-def shortened(records):
-    ended, seen, kept = ended_files(records), set(), []
+def first_records(records):
+    """The first record of each client and number."""
+    first = {}
     for it in records:
         _, _, client, number, _ = HEADER.unpack_from(it.request)
-        if (client, number) not in seen:
-            seen.add((client, number))
-            kept.append(Record(True, smaller_request(it.request, it.reply, ended), it.reply))
-    return kept
+        first.setdefault((client, number), it)
+    return list(first.values())
+
+
+def shortened(records):
+    kept = first_records(records)
+    ended = ended_files(kept)
+    return [Record(True, smaller_request(it.request, it.reply, ended), it.reply) for it in kept]
 
 
 def journal_bytes(header, records):
@@ -54,7 +59,8 @@ def smaller(header, records):
 
 
 def sample():
-    """Records of three files of which one is finished and one abandoned; a piece came again."""
+    """Records of three files of which one is finished and one abandoned; a piece came again. The last record has the number
+    of a piece of the third file, and abandons that file: it is no first record, so the file goes on."""
 
     def finished(number, puid):
         body = struct.pack(">BBB", 1, 0, frames.MD5) + md5(b"abcdef") + struct.pack(">H", 1) + bytes([len(puid)]) + puid
@@ -79,6 +85,31 @@ def sample():
         pair(frames.folder(5, b"sub", client=2, version=2), frames.reply(frames.NODE, 5, 4, client=2, version=2), True),
         pair(frames.finish(8, 1, version=2), finished(8, b"fmt/1"), True),
         pair(frames.abandon(9, 2, version=2), frames.reply(frames.ABANDONED, 9, version=2), True),
+        pair(frames.abandon(7, 3, version=2), frames.reply(frames.ABANDONED, 7, version=2), True),
+    ]
+
+
+def session():
+    """Records of a file that is finished, one that goes on, and one that is abandoned, by the sample registry."""
+
+    def record(request, kind, *values):
+        number = HEADER.unpack_from(request)[3]
+        return Record(True, request, frames.reply(kind, number, *values))
+
+    found = bytes([1, 0]) + md5(b"message digest") + struct.pack(">H", 2) + b"\5dev/1\5dev/3"
+    return [
+        record(frames.create(1), frames.MADE, 1),
+        record(frames.file(2, b"m.msg", 14, 4), frames.NODE, 1),
+        record(frames.piece(3, 1, 3, b"st"), frames.TAKEN, 1),
+        record(frames.piece(4, 1, 1, b"age "), frames.TAKEN, 2),
+        record(frames.file(5, b"t.txt", 8, 4), frames.NODE, 2),
+        record(frames.piece(6, 2, 1, b"wxyz"), frames.TAKEN, 1),
+        record(frames.piece(7, 1, 0, b"mess"), frames.TAKEN, 3),
+        record(frames.piece(8, 1, 2, b"dige"), frames.TAKEN, 4),
+        Record(True, frames.finish(9, 1), frames.frame(frames.FINISHED, 1, 9, found)),
+        record(frames.file(10, b"a", 4, 4), frames.NODE, 3),
+        record(frames.piece(11, 3, 0, b"aaaa"), frames.TAKEN, 1),
+        record(frames.abandon(12, 3), frames.ABANDONED),
     ]
 
 
@@ -86,3 +117,5 @@ if __name__ == "__main__":
     records = sample()
     print(journal_bytes(b"0123456789", records).hex())
     print(smaller(b"0123456789", records).hex())
+    for it in shortened(session()):
+        print(it.request.hex())

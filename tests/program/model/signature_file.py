@@ -12,6 +12,7 @@ from signature_text import BYTE, LARGEST_NUMBER, NotTaken, gap, in_turn, read_te
 # what one signature may become in a registry
 MOST_WAYS = 64
 LONGEST_PATTERN = 4_096
+MOST_IN_ALL = 16_384
 LARGEST_POSITION = 64
 
 NUMBER = re.compile("[0-9]+")
@@ -168,7 +169,7 @@ class Signature:
         ways = 1
         for it in self.sequences:
             ways *= it.ways
-        self.is_small = ways <= MOST_WAYS and all(it.length <= LONGEST_PATTERN for it in self.sequences)
+        self.is_small = ways <= MOST_WAYS and all(it.length <= LONGEST_PATTERN and it.ways * it.length <= MOST_IN_ALL for it in self.sequences)
 
     def hits(self, content, limit):
         return self.reason is None and all(it.hits(content, limit) for it in self.sequences)

@@ -7,6 +7,7 @@ for a registry stands beside it: how many patterns it becomes at most, how many 
 import re
 
 LARGEST_NUMBER = 65_535
+LONGEST_TEXT = 65_536
 LONGEST_RANGE = 16
 # how a pattern ends
 BYTE, GAP, NOTHING = "byte", "gap", "nothing"
@@ -164,6 +165,8 @@ def alternatives(text):
 
 def read_text(text):
     """Reads the text of a sequence or a fragment: items, and alternatives in parentheses, each of one item or more."""
+    if len(text.encode()) > LONGEST_TEXT:
+        raise NotTaken("a long text")
     parts, place = [], 0
     while place < len(text):
         if text[place] != "(":

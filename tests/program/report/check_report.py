@@ -1,6 +1,7 @@
 """Tests `report` of the built program: every number of the page is computed again from the CSV, which is random or odd.
 check_report.py PROGRAM"""
 
+import datetime
 import os
 import random
 import re
@@ -10,6 +11,7 @@ import subprocess
 import sys
 import tempfile
 import time
+from xml.etree import ElementTree
 
 sys.path.insert(0, os.path.dirname(os.path.abspath(__file__)))
 import numbers_of  # noqa: E402
@@ -63,8 +65,10 @@ def see(text, title, hash_words="Its hashes are MD5"):
     page = page_by(text.encode("utf-8"), title)
     read = Page(page)
     assert read.title == numbers_of.shown(title) and read.heading == numbers_of.shown(title), (read.title, title)
-    about = re.fullmatch(r"Made by droid_desk from p\.csv at \d{4}-\d\d-\d\dT\d\d:\d\d:\d\d \(UTC\)\. (.*)\. A file with several formats counts once\.", read.about)
-    assert about and about.group(1) == hash_words, read.about
+    about = re.fullmatch(r"Made by droid_desk from p\.csv at (\d{4}-\d\d-\d\dT\d\d:\d\d:\d\d) \(UTC\)\. (.*)\. A file with several formats counts once\.", read.about)
+    assert about and about.group(2) == hash_words, read.about
+    made = datetime.datetime.fromisoformat(about.group(1) + "+00:00")
+    assert abs(datetime.datetime.now(datetime.timezone.utc) - made) < datetime.timedelta(minutes=10), made
     start, end = page.index("<main>"), page.index("</body>")
     around = len((page[:start] + page[end:]).encode())
     tables, body = numbers_of.fitting(numbers_of.Numbers(text), title, read.about, around)
@@ -88,7 +92,8 @@ def random_profiles():
 
 
 def odd_profiles():
-    """An empty profile, one whose names fill more than a page, one of many years, one whose sums end at 2^64 - 1."""
+    """An empty profile, one whose names fill more than a page, one of many years, one whose sums end at 2^64 - 1, and those
+    whose formats' names fill a page."""
     see(written([]), "empty")
     see(written([["1", "", "file:/a/", "/a", "a", "", "Done", "", "Folder", "", "", "false", "", "", "", "", "", ""]]), "a folder")
     see(written(row(n, "/" + '"' * 3000 + str(n)) for n in range(300)), "long names")
@@ -96,7 +101,22 @@ def odd_profiles():
     see(written(row(n, f"/{n}", moment=f"{n:04}-01-01T00:00:00") for n in range(10000)), "ten thousand years")
     see(written(row(n, f"/{n}", size=2**63) for n in range(5)), "large files")
     see(written(row(n, f"/{n}", method="Extension", puid=f"fmt/{n}") for n in range(1000)), "many formats")
+    for size in (500, 5_000, 50_000):
+        see(written(named_rows(20, '"' * size)), "long names of formats")
+    # the largest page without a format's name: each size and depth, and numbers of twenty digits
+    see(written(row(n, "/" * (n % 70 + 1) + "a", size=min(4 ** (n % 35), 2**64 - 1)) for n in range(700)) + "\n".join(lines_of(named_rows(20, "&" * 50_000))), "x" * 10_000)
     print("odd profiles: passed")
+
+
+def named_rows(count, name):
+    """Returns rows of files whose formats have this name, and a number behind it."""
+    rows = [row(n, f"/{n}", method="Extension", puid=f"fmt/{n}") for n in range(1_000, 1_000 + count)]
+    return [[*one[:16], name + str(place), ""] for place, one in enumerate(rows)]
+
+
+def lines_of(rows):
+    """Returns the lines of rows in a CSV, without its header."""
+    return written(rows).split("\n")[1:]
 
 
 def each_byte_changed():
@@ -184,11 +204,17 @@ def many_rows():
 
 
 def pictures(page):
-    """Each SVG by xmllint, where it is installed."""
+    """Each SVG as XML: by Python, and by xmllint, where it is installed."""
+    found = re.findall(r"<svg .*?</svg>", page)
+    for svg in found:
+        picture = ElementTree.fromstring(svg)
+        (bar,) = picture
+        assert (picture.tag, bar.tag, len(bar)) == ("svg", "rect", 0), svg
+        assert picture.attrib["viewbox"] == "0 0 1000 20" and 0 <= int(bar.attrib["width"]) <= 1000, svg
+    print(f"{len(found)} pictures as XML: passed")
     if not shutil.which("xmllint"):
         print("pictures: skipped, xmllint is not installed")
         return
-    found = re.findall(r"<svg .*?</svg>", page)
     whole = "<all>" + "".join(found) + "</all>"
     done = subprocess.run(["xmllint", "--noout", "-"], input=whole.encode(), capture_output=True, timeout=60)
     assert done.returncode == 0 and found, done.stderr

@@ -130,14 +130,17 @@ def classes(title, note, head, files, class_of, name_of, limit):
     return title, note, [head, "files", "share"], rows[:limit]
 
 
-def picture(title, unit, ranked, number_of):
-    first, rest = ranked[:12], ranked[12:]
+def picture(title, unit, ranked, number_of, limit):
+    """Returns a picture. Where lists have no row, it has none for a format alone."""
+    named = 12 if limit else 0
+    first, rest = ranked[:named], ranked[named:]
     numbers = [(group.label, number_of(group)) for group in first]
     if rest:
         numbers.append(("all others", together(rest, number_of)))
     most = max((number for _, number in numbers), default=0)
     rows = [[words(name), amount(number), bar(share(number, most))] for name, number in numbers]
-    return title, "The twelve largest, and all others.", ["format", unit, "share"], rows
+    note = "The twelve largest, and all others." if limit else "All formats together: there is no room for their names."
+    return title, note, ["format", unit, "share"], rows
 
 
 def listed(title, note, files, limit):
@@ -194,8 +197,8 @@ class Numbers:
         formats, equal = self.by_files, self.equal
         return [
             ("Totals", "", ["what", "number"], [[words(name), amount(number)] for name, number in self.totals()]),
-            picture("Formats by number of files", "files", formats, lambda group: group.count),
-            picture("Formats by bytes", "bytes", self.by_bytes, lambda group: group.bytes),
+            picture("Formats by number of files", "files", formats, lambda group: group.count, limit),
+            picture("Formats by bytes", "bytes", self.by_bytes, lambda group: group.bytes, limit),
             classes(
                 "Years", "When files were last changed. Files without a date are not in it.", "year", self.files,
                 lambda row: min(int(row["LAST_MODIFIED"][:4]), 9999) if row["LAST_MODIFIED"] else None, str, limit,

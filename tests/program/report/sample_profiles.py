@@ -59,5 +59,5 @@ def many(chance):
 
 
 def all_of(chance):
-    """Returns profiles by their names."""
-    return {"empty": written([]), "odd": profile(chance, 700), "many": many(chance)}
+    """Returns profiles by their names. One has a name that no line holds."""
+    return {"empty": written([]), "odd": profile(chance, 700), "many": many(chance), "n" * 245: profile(chance, 30)}

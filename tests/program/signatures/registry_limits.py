@@ -18,9 +18,11 @@ LARGE_OFFSET = "an offset is over 65,535"
 FRAGMENT_POSITIONS = "the positions of its fragments leave one out"
 LARGE_POSITION = "a fragment has a position over 64"
 TEXT = "a text that a registry has no pattern for, as a bit mask"
+LONG_TEXT = "a text of more than 65,536 bytes"
 LONG_RANGE = "a range of more than 16 bytes"
 MANY_ALTERNATIVES = "more than 64 alternatives"
 LONG_PATTERN = "a pattern of more than 4,096 bytes"
+LONG_PATTERNS = "patterns of more than 16,384 bytes in all"
 GAP_AT_END = "a gap at the end of a pattern"
 # why the rest is not in the registry
 NONE_LEFT = "all its signatures, so that only its extensions find it"
@@ -94,6 +96,7 @@ TAKEN = [
     (byte_sequence(part("61"), part("62", position=2, most=0)), b"a..b"),
     (byte_sequence(part(bytes_of(2_048))), b"a" * 2_048),
     (byte_sequence(part("{65535}61")), bytes(65_535) + b"a"),
+    (byte_sequence(part(bytes_of(2_047) + "(??|??|??|??)")), b"a" * 2_047 + b"."),
     (byte_sequence(part("61")).replace(" SubSeqMinOffset='0'", ""), b"a"),
     (byte_sequence(part("61", fragment("Right", "62").replace(" MinOffset='0'", ""))), b"ab"),
 ]
@@ -126,7 +129,12 @@ NOT_TAKEN = [
     (byte_sequence(part("~61")), TEXT),
     (byte_sequence(part("6")), TEXT),
     (byte_sequence(part("{65536}61")), TEXT),
+    (byte_sequence(part("~" * 65_536)), TEXT),
+    (byte_sequence(part("~" * 65_537)), LONG_TEXT),
+    (byte_sequence(part("61", fragment("Left", bytes_of(32_768)))), LONG_PATTERN),
+    (byte_sequence(part("61", fragment("Left", bytes_of(32_768) + "*"))), LONG_TEXT),
     (byte_sequence(part(bytes_of(2_049))), LONG_PATTERN),
+    (byte_sequence(part("61*" + bytes_of(1_636) + "(??|??|??|??|??)")), LONG_PATTERNS),
     (byte_sequence(part("61{4}")), GAP_AT_END),
     (byte_sequence(part("61*")), GAP_AT_END),
     (byte_sequence(part("")), GAP_AT_END),

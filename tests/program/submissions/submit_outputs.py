@@ -69,16 +69,17 @@ class Written(Outputs):
         self.assertEqual(self.beside(), [b"skipped.csv"])
 
     def test_report(self):
-        """The page is the one that `report` makes of the export. It names no registry, which only the service knows."""
+        """The page is the one that `report` makes of the export, with the folder's name as its title. It names no registry,
+        which only the service knows."""
         page, made = self.work + b"/page.html", self.work + b"/made.html"
         with Serve.lasting() as service:
-            for words, title in ((["--export", self.export], b"export.csv"), ([], b"tree")):
+            for words, name in ((["--export", self.export], b"export.csv"), ([], b"tree")):
                 self.assertEqual(submit(self.top, service.port, 7, *words, "--report", page), (0, b""))
-                named = self.work + b"/in/" + title
+                named = self.work + b"/in/" + name
                 os.makedirs(self.work + b"/in", exist_ok=True)
                 with open(named, "wb") as file:
                     file.write(self.exported())
-                subprocess.run([PROGRAM, "report", named, "--output", made], check=True, timeout=120)
+                subprocess.run([PROGRAM, "report", named, "--title", "tree", "--output", made], check=True, timeout=120)
                 self.assertEqual(page_in(page), page_in(made))
                 self.assertNotIn(b"Registry: ", page_in(page))
 

@@ -4,7 +4,6 @@ import random
 import select
 import socket
 import struct
-import subprocess
 import threading
 import time
 import unittest
@@ -12,7 +11,7 @@ import unittest
 from lib.connections import HOST, SECONDS, connect, read_exactly, read_frame, read_until_reset, reset
 from lib.frames import ADD_FOLDER, CAUSES, CREATE_PROFILE, MADE, NODE, REFUSED, STATUS
 from lib.frames import folder_body, frame, profile_body, refusal, status
-from lib.program import PROGRAM, Serve
+from lib.program import Serve
 from run_command import REQUESTS, SESSION, session_in
 
 # a Status of a profile that nobody has made, and its reply: NoSuchProfile
@@ -24,8 +23,8 @@ def at_once(seats, *options, connections=None):
     return Serve(connections, ["--at-once", str(seats), *options])
 
 
-def lasting(seats, *options):
-    return Serve(None, ["--at-once", str(seats), "--forever", *options], killed=True)
+def lasting(seats, *options, env=None):
+    return Serve(None, ["--at-once", str(seats), "--forever", *options], env=env, killed=True)
 
 
 def is_closed(stream, seconds=SECONDS):
@@ -116,6 +115,22 @@ class ServeAtOnce(unittest.TestCase):
                 self.assertTrue(is_closed(stream, 2))
                 stream.close()
             self.assertLess(time.monotonic() - begun, 2)
+
+    def test_one_that_takes_nothing(self):
+        """A desk that reads no reply and sends nothing more is closed after two seconds, and not before: then the next one
+        has its seat. The service has read all that it sent."""
+        asked = 350_000
+        with lasting(1, "--idle", "2", "--verbose") as service, slow_reader(service.port) as deaf, connect(service.port) as waits:
+            waits.sendall(NOTHING)
+            deaf.sendall(NOTHING * (asked - 1))
+            begun = time.monotonic()
+            deaf.sendall(NOTHING)
+            self.assertEqual(read_frame(waits)[0], REFUSED)
+            self.assertGreaterEqual(time.monotonic() - begun, 1.8)
+            line = service.process.stderr.readline()
+            while not line.startswith(b"connection "):
+                line = service.process.stderr.readline()
+            self.assertRegex(line.decode(), rf": {asked} frames, {asked * len(NOTHING)} bytes in, \d+ bytes out, idle\n$")
 
     def test_a_byte_a_second(self):
         """A desk that sends a byte a second is not idle; one that takes a byte a second gets all replies; and neither
@@ -223,26 +238,6 @@ class ServeAtOnce(unittest.TestCase):
             with connect(service.port) as stream:
                 stream.sendall(NOTHING)
                 self.assertEqual(read_frame(stream)[0], REFUSED)
-
-    def test_what_is_printed(self):
-        with lasting(2, "--verbose") as service:
-            with connect(service.port) as stream:
-                stream.sendall(NOTHING * 2)
-                for _ in range(2):
-                    read_frame(stream)
-                name = "%s:%d" % stream.getsockname()
-            line = service.process.stderr.readline()
-            while not line.startswith(b"connection "):
-                line = service.process.stderr.readline()
-            size = len(NOTHING)
-            self.assertEqual(line.decode(), f"connection {name}: 2 frames, {2 * size} bytes in, 38 bytes out, closed\n")
-
-    def test_without_at_once(self):
-        for options in (["--idle", "5"], ["--forever"], ["--verbose"], ["--forever", "--connections", "2", "--at-once", "2"]):
-            with self.subTest(options=options):
-                ended = subprocess.run([PROGRAM, "serve", "--port", "4711", *options], capture_output=True, timeout=SECONDS)
-                self.assertEqual(ended.returncode, 2)
-                self.assertIn(b"--forever", ended.stderr)
 
 
 if __name__ == "__main__":

@@ -2,12 +2,13 @@
 
 import contextlib
 import os
+import socket
 import subprocess
 import tempfile
 import unittest
 
-from lib.connections import SECONDS, exchange, free_port
-from lib.frames import LIMITS, in_version, refusal
+from lib.connections import SECONDS, connect, exchange, free_port, read_until_reset
+from lib.frames import HEADER, LIMITS, in_version, refusal
 from lib.program import PROGRAM, faults, preloaded
 from run_command import REPLIES, SESSION, session_in
 
@@ -24,7 +25,41 @@ SHORT = {b"".join(ANSWERS[:at] + [refusal(NUMBERS[at], 18)] + ANSWERS[at + 1 :])
 WITHOUT_PROFILE = refusal(1, 18) + refusal(2, 3) * 3
 
 
-def served(requests, options=(), **variables):
+def requests_in(version):
+    return [in_version(version, request) for request, _ in SESSION]
+
+
+def one_by_one(port, session):
+    """Sends a session on one connection after the other, and yields what comes on each."""
+    for _ in range(CONNECTIONS):
+        yield exchange(port, b"".join(session), len(REPLIES) + 1)
+
+
+def together(port, session):
+    """Sends a session on connections that are open at once, a request on each in turn once the one before has its reply, and
+    returns what comes on each."""
+    with contextlib.ExitStack() as opened:
+        streams = [opened.enter_context(connect(port)) for _ in range(CONNECTIONS)]
+        came = [b"" for _ in streams]
+        for request in session:
+            for place, stream in enumerate(streams):
+                with contextlib.suppress(OSError):
+                    stream.sendall(request)
+                came[place] += reply_on(stream)
+        for place, stream in enumerate(streams):
+            with contextlib.suppress(OSError):
+                stream.shutdown(socket.SHUT_WR)
+            came[place] += read_until_reset(stream, 1)
+        return came
+
+
+def reply_on(stream):
+    """Reads a reply, or nothing where the connection has ended."""
+    header = read_until_reset(stream, HEADER.size)
+    return header + read_until_reset(stream, HEADER.unpack(header)[4]) if header else b""
+
+
+def served(session, options=(), way=one_by_one, **variables):
     """Runs `serve` over connections with these requests: its status, its standard error, and what came on each
     connection; no connection is made where the program ended before."""
     port = free_port()
@@ -36,17 +71,18 @@ def served(requests, options=(), **variables):
         came = []
         # (with --at-once it may run out of memory once it listens)
         with contextlib.suppress(ConnectionError):
-            while is_there and len(came) < CONNECTIONS:
-                came.append(exchange(port, requests, len(REPLIES) + 1))
+            if is_there:
+                for replies in way(port, session):
+                    came.append(replies)
         _, said = service.communicate(timeout=SECONDS)
     return service.returncode, faults(said), came
 
 
 class ServeMemory(unittest.TestCase):
-    def allocations(self, requests, replies, options=()):
+    def allocations(self, session, replies, options=(), way=one_by_one):
         with tempfile.TemporaryDirectory() as folder:
             path = os.path.join(folder, "count")
-            self.assertEqual(served(requests, options, ALLOCATIONS=path), (0, b"", [replies] * CONNECTIONS))
+            self.assertEqual(served(session, options, way, ALLOCATIONS=path), (0, b"", [replies] * CONNECTIONS))
             with open(path, encoding="ascii") as file:
                 return int(file.read())
 
@@ -56,13 +92,13 @@ class ServeMemory(unittest.TestCase):
 
     def each_allocation_refused(self, version):
         """There is no service, or it goes on: a refused allocation affects one connection alone."""
-        requests, whole = session_in(version)
+        session, whole = requests_in(version), session_in(version)[1]
         fronts, short = ({in_version(version, replies) for replies in rows} for rows in (FRONTS, SHORT))
         without_profile = in_version(version, WITHOUT_PROFILE)
         found = set()
-        for number in range(1, self.allocations(requests, whole) + 1):
+        for number in range(1, self.allocations(session, whole) + 1):
             with self.subTest(version=version, number=number):
-                status, said, came = served(requests, REFUSE=number)
+                status, said, came = served(session, REFUSE=number)
                 found.add((status, *came[:1]))
                 if not came:
                     self.assertEqual(said, MEMORY)
@@ -79,22 +115,41 @@ class ServeMemory(unittest.TestCase):
     def test_each_allocation_refused_at_once(self):
         """With --at-once there may also be no memory for the list of connections."""
         options = ["--at-once", "2"]
-        requests, whole = session_in(2)
-        parts = {in_version(2, replies) for replies in {*FRONTS, *SHORT, WITHOUT_PROFILE}}
+        session, whole = requests_in(2), session_in(2)[1]
         found = set()
-        for number in range(1, self.allocations(requests, whole, options) + 1):
+        for number in range(1, self.allocations(session, whole, options) + 1):
             with self.subTest(number=number):
-                status, said, came = served(requests, options, REFUSE=number)
+                status, said, came = served(session, options, REFUSE=number)
                 found.add((status, *came[:1]))
-                if status:
-                    self.assertIn((status, said), {(3, MEMORY), (6, MEMORY), (4, MEMORY), (4, b"fault: Socket\n")})
-                    self.assertEqual(set(came) - {b""}, set())
-                    continue
-                self.assertEqual((said, len(came)), (b"", CONNECTIONS))
-                others = [replies for replies in came if replies != whole]
-                self.assertLessEqual(len(others), 1, others)
-                self.assertLessEqual(set(others), parts)
+                self.affects_one(2, status, said, came)
         self.assertLessEqual({(3,), (6,), (0, b""), (0, in_version(2, WITHOUT_PROFILE))}, found)
+
+    def affects_one(self, version, status, said, came):
+        """Whether the refused allocation ended the service before it served anyone, or affected one connection alone."""
+        if status:
+            self.assertIn((status, said), {(3, MEMORY), (6, MEMORY), (4, MEMORY), (4, b"fault: Socket\n")})
+            self.assertEqual(set(came) - {b""}, set())
+            return
+        self.assertEqual((said, len(came)), (b"", CONNECTIONS))
+        others = [replies for replies in came if replies != session_in(version)[1]]
+        self.assertLessEqual(len(others), 1, others)
+        self.assertLessEqual(set(others), {in_version(version, replies) for replies in {*FRONTS, *SHORT, WITHOUT_PROFILE}})
+
+    def test_each_allocation_refused_of_connections_at_once(self):
+        """They are open at once, and each is affected by some. Allocations are refused from the last one on, up to some in a
+        row without which nobody is served."""
+        options = ["--at-once", str(CONNECTIONS)]
+        session, whole = requests_in(1), session_in(1)[1]
+        affected, without = set(), 0
+        for number in range(self.allocations(session, whole, options, together), 0, -1):
+            with self.subTest(number=number):
+                status, said, came = served(session, options, together, REFUSE=number)
+                self.affects_one(1, status, said, came)
+                affected |= {place for place, replies in enumerate(came) if replies != whole}
+                without = without + 1 if status else 0
+            if without == 5:
+                break
+        self.assertEqual((affected, without), (set(range(CONNECTIONS)), 5))
 
 
 if __name__ == "__main__":

@@ -1,13 +1,15 @@
 """The memory of `run` and `serve`. A repeat, a refusal or a query leaves nothing; of a file's pieces no more stays than
-docs/SERVICE.md says; a connection leaves nothing."""
+docs/SERVICE.md says; a connection leaves nothing, and of those that are open no more is kept than that page says."""
 
+import contextlib
 import unittest
 
 from lib.connections import connect, read_exactly
-from lib.frames import HEADER, MADE, NODE, PART, PROGRESS, REFUSED, TAKEN
+from lib.frames import HEADER, LIMITS, MADE, NODE, PART, PIECE, PROGRESS, REFUSED, TAKEN
 from lib.frames import create, export, file, folder, frame, piece, refusal, status
 from lib.processes import resident
 from lib.program import Run, Serve
+from serve_at_once import slow_reader
 
 # the replies to some of these are cached, and the rest are read from the database
 KEPT = 600
@@ -101,6 +103,84 @@ class SteadyConnections(unittest.TestCase):
             self.serve_some(service, CONNECTIONS - FIRST_CONNECTIONS - 1)
             self.assertLess(resident(service.process) - before, ROOM_OF_CONNECTIONS)
             self.serve_some(service, 1)
+
+
+class ManyConnections(unittest.TestCase):
+    """Of each connection that is open at once (`--at-once`): twice what came of a frame, 64 KiB for reading, and 9 MiB of
+    replies that wait."""
+
+    SEATS = 64
+    LONG = LIMITS[2].body
+    HEADER_OF_LONG = HEADER.pack(2, PIECE, 1, 1, LONG)
+    BUFFER, WAITING = 65_536, 9 << 20
+    # beside these a connection has some small things, and the allocator its own
+    ROOM = 16_384
+    ASKED, FOLDERS = 60, 400
+
+    def setUp(self):
+        self.open = contextlib.ExitStack()
+        self.addCleanup(self.open.close)
+        self.service = self.open.enter_context(Serve(None, ["--at-once", str(self.SEATS), "--forever"], killed=True))
+        self.asks = self.connected()
+
+    def connected(self, connect_by=connect):
+        """Connects, and returns the stream when the service has accepted it."""
+        stream = self.open.enter_context(connect_by(self.service.port))
+        self.answered(stream)
+        return stream
+
+    def answered(self, stream):
+        stream.sendall(SteadyConnections.REQUEST)
+        reply = SteadyConnections.REPLY
+        self.assertEqual(read_exactly(stream, len(reply)), reply)
+
+    def grown(self, before):
+        """By how much the memory has grown, when all that was sent is read."""
+        for _ in range(3):
+            self.answered(self.asks)
+        return resident(self.service.process) - before
+
+    def test_a_frame_takes_memory_as_it_comes(self):
+        """A header that claims 4 MiB takes none. Closed connections leave nothing."""
+        streams = [self.connected() for _ in range(self.SEATS - 1)]
+        before = resident(self.service.process)
+        for stream in streams:
+            stream.sendall(self.HEADER_OF_LONG)
+        self.assertLess(self.grown(before), len(streams) * 1_024)
+        for sent, size in ((0, 100_000), (100_000, self.LONG - 1)):
+            for stream in streams:
+                stream.sendall(bytes(size - sent))
+            grown = self.grown(before)
+            self.assertGreater(grown, len(streams) * size)
+            self.assertLess(grown, len(streams) * (2 * size + self.ROOM))
+        for stream in streams:
+            stream.close()
+        self.assertLess(self.grown(before), len(streams) * self.ROOM)
+
+    def test_connections_take_a_buffer_each(self):
+        before = resident(self.service.process)
+        streams = [self.connected() for _ in range(self.SEATS - 1)]
+        self.assertLess(self.grown(before), len(streams) * (self.BUFFER + self.ROOM))
+
+    def test_replies_that_wait(self):
+        """Desks that ask for parts of an export, and read none."""
+        self.asks.sendall(create(1) + b"".join(folder(2 + at, b"%0255d" % at) for at in range(self.FOLDERS)))
+        size = HEADER.size + 4
+        self.assertEqual(len(read_exactly(self.asks, size * (1 + self.FOLDERS))), size * (1 + self.FOLDERS))
+        self.asks.sendall(export(1_000))
+        part = read_exactly(self.asks, HEADER.size)
+        _, kind, _, _, length = HEADER.unpack(part)
+        self.assertEqual((kind, len(read_exactly(self.asks, length))), (PART, length))
+        self.assertGreater(length * self.ASKED, 3 * self.WAITING // 2)
+        streams = [self.connected(slow_reader) for _ in range(8)]
+        before = resident(self.service.process)
+        for stream in streams:
+            stream.sendall(export(1_001) * self.ASKED)
+        grown = self.grown(before)
+        while (later := self.grown(before)) > grown:
+            grown = later
+        self.assertGreater(grown, len(streams) * self.WAITING // 2)
+        self.assertLess(grown, len(streams) * (self.WAITING + self.ROOM))
 
 
 if __name__ == "__main__":

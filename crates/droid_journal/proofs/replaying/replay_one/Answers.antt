@@ -27,6 +27,7 @@ returns-then-not-handled-clause-refuted g c = λ other told setting before st.
       accepted = c.handle-handled.result.accepted;
       spelled = found.1;
       gave = c.handle-handled.ensures.gives setting before st;
+      no_memory_fault = λ is. let out : c.is_out_of_memory.result ≡ true = c.is_out_of_memory.ensures is in absurd cc;
       other = λ was. absurd cc;
     })
 
@@ -43,6 +44,7 @@ returns-then-not-is_same-clause-refuted g c = λ other told setting before st.
       accepted = c.handle-handled.result.accepted;
       spelled = found.1;
       gave = c.handle-handled.ensures.gives setting before st;
+      no_memory_fault = λ is. let out : c.is_out_of_memory.result ≡ true = c.is_out_of_memory.ensures is in absurd cc;
       other = λ was same. let is : IsTrue c.is_same.result = c.is_same.ensures.1 (c.deref.ensures.value ∙ c.in_ok-spelled.ensures.bytes ∙ same) in absurd cc;
     })
 

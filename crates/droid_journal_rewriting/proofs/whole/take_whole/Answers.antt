@@ -2,7 +2,7 @@ use Rattle.std.proofs.Common.{rules, ◌≡◌, ◌<◌, [], length, refl, subst
 use Rattle.std.specs.Prelude.{IsTrue}
 use Rattle.droid_journal.specs.Opening.{HasHeader}
 use Rattle.droid_journal_rewriting.specs.Shortening.{HasBehind}
-use Rattle.droid_journal_rewriting.specs.declared.place.Place.{Place}
+use Rattle.droid_journal_rewriting.specs.declared.walk.Place.{Place}
 use Rattle.droid_journal_rewriting.proofs.Wholes.{behind, whole}
 use Rattle.droid_journal_rewriting.proofs.whole.take_whole.Goals as goal
 

@@ -17,4 +17,4 @@ returns-clause-small c =
     let few = few_pairs (length own) (length others) c.len.result c.len-2.result (length (joined own others)) c.are_many.result c.are_many.ensures c.if-are_many.false c.len.ensures c.len-2.ensures (length_joined own others) in
     let all = c.in_ok-texts.ensures.ok ∙ ap (λ l. joined l c.as_slice-2.result.now) c.as_slice.ensures ∙ ap (joined own) c.as_slice-2.ensures in
     let P : List (List ℕ) → Type 0 = λ l. length l ≤ 64 in
-    record { few = subst P (sym all) few; short = c.in_ok-texts.ensures.short }
+    record { few = subst P (sym all) few; short = c.in_ok-texts.ensures.short; bounded = c.in_ok-texts.ensures.bounded }

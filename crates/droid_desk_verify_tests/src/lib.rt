@@ -1,0 +1,21 @@
+//! Tests of the comparison of trees in memory with lists, by `verify_tree` and `verify_listing`.
+#![tactic(auto)]
+
+#[cfg(test)]
+mod asked;
+#[cfg(test)]
+mod lists;
+#[cfg(test)]
+mod memory;
+#[cfg(test)]
+mod pairs;
+#[cfg(test)]
+mod plain;
+#[cfg(test)]
+mod report_lines;
+#[cfg(test)]
+mod rows;
+#[cfg(test)]
+mod runs;
+#[cfg(test)]
+mod table_tree;

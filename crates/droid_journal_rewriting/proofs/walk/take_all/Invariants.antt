@@ -1,0 +1,10 @@
+use Rattle.std.proofs.Common.{◌≡◌, ℕ, List, length}
+use Rattle.droid_journal_chain.specs.Records.{Record}
+use Rattle.droid_journal_rewriting.specs.Taking.{Passes, StandIn}
+use Rattle.droid_journal_rewriting.proofs.walk.take_all.Given as goal
+
+abbrev pub invariant-loop : goal.invariant-loop
+invariant-loop g l = record {
+  window : length l.buffer ≡ 16777216;
+  so_far : (its : List Record) × Passes g.T.Taker.took l.start l.fn.taker l.fn.from l.taker l.place its × ((s : List ℕ) → g.F.LogFile.has l.file s → StandIn l.start s l.fn.from l.place its);
+}

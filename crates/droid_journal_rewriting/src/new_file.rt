@@ -1,0 +1,102 @@
+//! Writing a journal anew into another file.
+
+ghost use Rattle.std.specs.Prelude.{◌≡◌, ℕ, Bool, [], List, IfOk, IsErrOf, length};
+ghost use Rattle.droid_journal.specs.Opening.{HasHeader};
+ghost use Rattle.droid_journal_chain.specs.Chains.{journal_bytes};
+ghost use Rattle.droid_journal_chain.specs.Records.{AllFit, Record};
+ghost use Rattle.droid_journal_rewriting.specs.Numbers.{has_number};
+ghost use Rattle.droid_journal_rewriting.specs.Shortening.{HasBehind, IsShortened, IsWhole, smaller_by};
+
+use crate::ended_files::ended_in;
+use crate::fault::RewriteFault;
+use crate::numbers::Numbers;
+use crate::rewriter::{Rewriter, flush};
+use crate::walk::WINDOW;
+use crate::whole::take_whole;
+use droid_journal::LogFile;
+use droid_journal_chain::start_of;
+use std::alloc::Global;
+
+/// Writes each record of a journal anew into an empty file, and those of these files without their bytes.
+fn write_anew<F: LogFile, N: LogFile + Drop>(
+    alloc: Global,
+    old: &F,
+    header: &[u8],
+    ended: Numbers,
+    new: N,
+    buffer: &mut [u8],
+) -> Result<N, RewriteFault>
+    requires found { F.is_found old.now }
+    requires window { length buffer.old ≡ 16777216 }
+    ensures written { (s : List ℕ) (have_ended : ℕ → Bool) → F.has old.now s → N.has new [] → ((file : ℕ) → has_number ended file ≡ have_ended file)
+        → IfOk result (λ file. (its : List Record) × IsWhole header.now s its × AllFit (smaller_by have_ended its) × N.has file (journal_bytes header.now (smaller_by have_ended its))) }
+    ensures other_header { IsErrOf result RewriteFault.Header → (s : List ℕ) → F.has old.now s → HasHeader header.now s → ⊥ }
+    ensures behind { (n : ℕ) → IsErrOf result (RewriteFault.Behind n) → (s : List ℕ) → F.has old.now s → HasBehind header.now s n }
+{
+    let start = start_of(header);
+    let out = Vec::from_slice(alloc, header)?;
+    let stamps = Numbers::new(alloc);
+    let mut rewriter = Rewriter {
+        alloc,
+        ended,
+        stamps,
+        file: new,
+        out,
+        start,
+        check: start,
+    };
+    match take_whole(alloc, old, &mut rewriter, header, buffer) {
+        Ok(()) => {}
+        Err(fault) => return Err(fault),
+    }
+    match flush(&mut rewriter.file, &mut rewriter.out) {
+        Ok(()) => Ok(rewriter.file),
+        Err(_) => Err(RewriteFault::Write),
+    }
+}
+
+/// Writes a journal anew, by this buffer.
+fn rewrite_by<F: LogFile, N: LogFile + Drop>(
+    alloc: Global,
+    old: &F,
+    header: &[u8],
+    new: N,
+    buffer: &mut [u8],
+) -> Result<N, RewriteFault>
+    requires found { F.is_found old.now }
+    requires window { length buffer.old ≡ 16777216 }
+    ensures rewritten { (s : List ℕ) → F.has old.now s → N.has new [] → IfOk result (λ file. (bytes : List ℕ) × IsShortened header.now s bytes × N.has file bytes) }
+    ensures other_header { IsErrOf result RewriteFault.Header → (s : List ℕ) → F.has old.now s → HasHeader header.now s → ⊥ }
+    ensures behind { (n : ℕ) → IsErrOf result (RewriteFault.Behind n) → (s : List ℕ) → F.has old.now s → HasBehind header.now s n }
+{
+    let ended = match ended_in(alloc, old, header, buffer) {
+        Ok(ended) => ended,
+        Err(fault) => return Err(fault),
+    };
+    match write_anew(alloc, old, header, ended, new, buffer) {
+        Ok(file) => Ok(file),
+        Err(fault) => Err(fault),
+    }
+}
+
+/// Writes a journal anew into an empty file: a request that came again is left out, and the pieces and the Finish of a file
+/// that was finished or abandoned are bare. The old file is only read, 16 MiB at a time. Nothing is synced.
+///
+/// A journal with anything behind its whole records is refused ([`RewriteFault::Behind`]): opening it tells a torn end from
+/// damage, and saves what it cuts off.
+pub fn rewrite<F: LogFile, N: LogFile + Drop>(
+    alloc: Global,
+    old: &F,
+    header: &[u8],
+    new: N,
+) -> Result<N, RewriteFault>
+    requires found { F.is_found old.now }
+    ensures rewritten { (s : List ℕ) → F.has old.now s → N.has new [] → IfOk result (λ file. (bytes : List ℕ) × IsShortened header.now s bytes × N.has file bytes) }
+    // Another header is told only where the file begins with another.
+    ensures other_header { IsErrOf result RewriteFault.Header → (s : List ℕ) → F.has old.now s → HasHeader header.now s → ⊥ }
+    // Bytes behind the records are told only where there are some, and behind how many.
+    ensures behind { (n : ℕ) → IsErrOf result (RewriteFault.Behind n) → (s : List ℕ) → F.has old.now s → HasBehind header.now s n }
+{
+    let mut buffer = vec![in alloc; 0u8; WINDOW]?;
+    rewrite_by(alloc, old, header, new, buffer.as_mut_slice())
+}
