@@ -1,5 +1,6 @@
 """What a journal costs: `submit`, folders by clients that wait for their replies, and a start; beside the same without a
-journal, and beside a loop that writes 300 bytes and calls fdatasync."""
+journal, and beside a loop that writes 300 bytes and calls fdatasync. That is measured once as this disk is, and once where
+each fdatasync, the service's and the loop's, takes two milliseconds (slow_sync.c)."""
 
 import os
 import subprocess
@@ -21,6 +22,8 @@ FOLDERS = int(os.environ.get("FOLDERS", "20000"))
 ALONE = 2_000
 STARTED = int(os.environ.get("STARTED", "1000000"))
 PIECES = int(os.environ.get("PIECES", str(4 << 30)))
+# as long as a sync takes on a common disk that writes before it answers
+SLOW = 2_000
 # a profile has at most this many nodes
 MOST_NODES = 100_000
 REPLY = 22
@@ -29,10 +32,10 @@ REPLY = 22
 class Service:
     """`serve --at-once`, in a `with`."""
 
-    def __init__(self, *options):
+    def __init__(self, *options, env=None):
         self.port = free_port()
         words = [PROGRAM, "serve", "--port", str(self.port), "--at-once", "64", "--forever", *options]
-        self.process = subprocess.Popen(words, stdout=subprocess.PIPE, stderr=subprocess.DEVNULL)
+        self.process = subprocess.Popen(words, env=env, stdout=subprocess.PIPE, stderr=subprocess.DEVNULL)
         assert self.process.stdout.readline() == b"listening %d\n" % self.port
 
     def __enter__(self):
@@ -66,9 +69,9 @@ def ask_folders(port, client, count):
             assert len(read_exactly(stream, REPLY)) == REPLY
 
 
-def folders(clients, each, *options):
+def folders(clients, each, *options, env=None):
     """Seconds that so many clients take for so many folders each, one at a time."""
-    with Service(*options) as service:
+    with Service(*options, env=env) as service:
         with connect(service.port) as stream:
             stream.sendall(create(1, client=1_000))
             read_exactly(stream, REPLY)
@@ -83,19 +86,41 @@ def folders(clients, each, *options):
         return timed(work)
 
 
-def synced(path, count):
-    """Seconds of a loop that writes 300 bytes and calls fdatasync."""
-    made = os.open(path, os.O_WRONLY | os.O_CREAT | os.O_APPEND, 0o600)
+# prints the seconds of a loop that writes 300 bytes and calls fdatasync
+LOOP = """
+import os, sys, time
+made = os.open(sys.argv[1], os.O_WRONLY | os.O_CREAT | os.O_APPEND, 0o600)
+begun = time.monotonic()
+for _ in range(int(sys.argv[2])):
+    os.write(made, bytes(300))
+    os.fdatasync(made)
+print(time.monotonic() - begun)
+"""
 
-    def work():
-        for _ in range(count):
-            os.write(made, bytes(300))
-            os.fdatasync(made)
 
-    seconds = timed(work)
-    os.close(made)
+def synced(path, count, env=None):
+    """Seconds of that loop, in a process of its own."""
+    seconds = float(subprocess.run([sys.executable, "-c", LOOP, path, str(count)], env=env, stdout=subprocess.PIPE, check=True).stdout)
     os.remove(path)
     return seconds
+
+
+def slowed(folder):
+    """The variables with which a program's fdatasync takes as long as that of a common disk."""
+    made, source = os.path.join(folder, "slow_sync.so"), os.path.join(os.path.dirname(os.path.abspath(__file__)), "slow_sync.c")
+    subprocess.run([os.environ.get("CC", "cc"), "-shared", "-fPIC", "-o", made, source, "-ldl"], check=True)
+    return os.environ | {"LD_PRELOAD": made, "SYNC_MICROSECONDS": str(SLOW)}
+
+
+def compare_folders(folder, clients, count, wanted, env=None, where="this disk"):
+    """Prints how many folders a second these clients make, beside the loop."""
+    rates, loops = [], []
+    for turn in range(ROUNDS):
+        loops.append(ALONE / synced(os.path.join(folder, "loop"), ALONE, env))
+        journal = os.path.join(folder, f"{clients}-{turn}-{env is None}")
+        rates.append(count / folders(clients, count // clients, "--journal", journal, env=env))
+    rate, loop = middle(rates), middle(loops)
+    print(f"folders by {clients} clients, {where}: {rate:.0f} a second, the loop {loop:.0f}: {rate / loop:.2f} ({wanted})")
 
 
 def many_folders(count):
@@ -157,16 +182,9 @@ def main():
             kept.append(submit(folder_of_all, top, "--journal", os.path.join(folder_of_all, f"submit{turn}")))
             os.remove(os.path.join(folder_of_all, f"submit{turn}"))
         print(f"submit of 256 MiB: {middle(kept):.2f} s, without a journal {middle(plain):.2f} s: {middle(kept) / middle(plain):.2f} (1.6)")
-        rates, loops = [], []
-        for turn in range(ROUNDS):
-            loops.append(ALONE / synced(os.path.join(folder_of_all, "loop"), ALONE))
-            rates.append(FOLDERS / folders(CLIENTS, FOLDERS // CLIENTS, "--journal", os.path.join(folder_of_all, f"many{turn}")))
-        print(f"folders by {CLIENTS} clients: {middle(rates):.0f} a second, the loop {middle(loops):.0f}: {middle(rates) / middle(loops):.2f} (8)")
-        rates, loops = [], []
-        for turn in range(ROUNDS):
-            loops.append(ALONE / synced(os.path.join(folder_of_all, "loop"), ALONE))
-            rates.append(ALONE / folders(1, ALONE, "--journal", os.path.join(folder_of_all, f"one{turn}")))
-        print(f"folders by one client: {middle(rates):.0f} a second, the loop {middle(loops):.0f}: {middle(rates) / middle(loops):.2f} (0.8)")
+        for env, where in (None, "this disk"), (slowed(folder_of_all), f"{SLOW} microseconds a sync"):
+            compare_folders(folder_of_all, CLIENTS, FOLDERS, 8, env, where)
+            compare_folders(folder_of_all, 1, ALONE, 0.8, env, where)
         for what, frames in (f"{STARTED} folders", many_folders(STARTED)), (f"{PIECES >> 20} MiB of pieces", many_pieces(PIECES)):
             begun, through, written, size = start(folder_of_all, frames)
             print(f"a start over {what}: {begun:.2f} s ({size} bytes), `run` {through:.2f} s: {begun / through:.2f} (1.2); with a journal {written:.2f} s")

@@ -125,9 +125,9 @@ def filled(front, part, back, size=None):
 
 
 def numbered(front, part, back):
-    """The same with a number in each part."""
+    """The same with a number in each part, from 1 on."""
     longest = len(part % 9_999_999)
-    return front + b"".join(part % at for at in range((BYTES - len(front) - len(back)) // longest)) + back
+    return front + b"".join(part % at for at in range(1, (BYTES - len(front) - len(back)) // longest + 1)) + back
 
 
 def around(part, front, back, more=b""):
@@ -241,9 +241,12 @@ HOSTILE = {
     "wide signatures": (lambda: wide_signatures(EXCLUDED, b"??", 64), NOTHING),
     "wide signatures with a gap at the end": (lambda: wide_signatures(EXCLUDED, b"??", 4, b"*"), NOTHING),
     "signatures of long alternatives": (lambda: wide_signatures(b"", EXCLUDED, 64), NOTHING),
+    "signatures of four long alternatives": (lambda: wide_signatures(b"", EXCLUDED, 4), "fault: LongRegistry"),
+    "signatures of five long alternatives": (lambda: wide_signatures(b"", EXCLUDED, 5), NOTHING),
     "signatures of a long byte sequence": (lambda: wide_signatures(b"61" * 2_000, b"??", 64), NOTHING),
     "byte sequences": (lambda: filled(*around(b"<ByteSequence/>", *in_signatures(b"<InternalSignature ID='1'>"), b"</InternalSignature>")), NOTHING),
     "subsequences": (lambda: numbered(*around(SUBSEQUENCE, *around_sequence())), NOTHING),
+    "subsequences of four patterns": (lambda: numbered(*around(LONG_SUBSEQUENCE.replace(b"%b", EXCLUDED + b"(??|??|??|??)"), *around_sequence())), NOTHING),
     "fragments of one position": (lambda: fragments_of(FRAGMENT % b"1"), NOTHING),
     "fragments of many positions": (lambda: fragments_of(b"".join(FRAGMENT % b"%d" % at for at in range(1, 65))), NOTHING),
     "a long sequence": (lambda: text(b"", b"61", b""), NOTHING),

@@ -29,11 +29,11 @@ SHORT = [
 ]
 
 
-def run(*words, given=b"", **variables):
-    """Runs a command, and counts its allocations or refuses one: its status, its standard output and its standard
-    error."""
+def run(*words, given=b"", start=None, **variables):
+    """Runs a command, in the folder `start` if one is given, and counts its allocations or refuses one: its status, its
+    standard output and its standard error."""
     environment = {**os.environ, "LD_PRELOAD": os.environ["REFUSING"], **variables}
-    done = subprocess.run([PROGRAM, *words], input=given, capture_output=True, timeout=60, env=environment)
+    done = subprocess.run([PROGRAM, *words], input=given, capture_output=True, timeout=60, env=environment, cwd=start)
     return done.returncode, done.stdout, faults(done.stderr)
 
 
@@ -66,12 +66,12 @@ class Refused(InFolder):
         self.each_of_a_script(b"".join(b"v2 %s\n" % line for line in hashed))
 
     def made_by(self, *words, beside=(), **variables):
-        """Runs a command with an output file, and others beside it (their options and names): the status, the output with the
-        fault, and the files that are there, by name. A page is without the moment when it was made."""
+        """Runs a command in a new folder with an output file there, and others beside it (their options and names): the status,
+        the output with the fault, and the files that are there, by name. A page is without the moment when it was made."""
         with tempfile.TemporaryDirectory(dir=self.work) as made:
-            for option, name in beside:
-                words += (option, os.path.join(made, name))
-            status, written, said = run(*words, "--output", os.path.join(made, b"output"), **variables)
+            for option_and_name in beside:
+                words += option_and_name
+            status, written, said = run(*words, "--output", b"output", start=made, **variables)
             named = b"".join(line for line in said.splitlines(True) if line.startswith(b"fault: "))
             files = {}
             for name in os.listdir(made):
@@ -93,11 +93,11 @@ class Refused(InFolder):
         self.each_in_turn(lambda **variables: self.made_by(*words, **more, **variables), is_right, statuses, perhaps)
 
     def test_profile(self):
-        """Two folders, a file that is identified and one that isn't."""
+        """Two folders, a file that is identified and one that isn't, by a relative path."""
         self.folder(b"/outer/inner")
         self.file(b"/outer/first.msg", b"message of a file")
         self.file(b"/outer/inner/second", b"nothing that is known")
-        self.each_output(["profile", self.top, "--registry", SAMPLE], [b"output"], 0)
+        self.each_output(["profile", b"../tree", "--registry", SAMPLE], [b"output"], 0)
 
     def test_profile_with_lists(self):
         """By SHA-256, with a link that is skipped: the CSV is the last file that is put in its place."""

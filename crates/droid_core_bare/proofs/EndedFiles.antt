@@ -196,7 +196,7 @@ split : (setting : Setting) (start before later : History) → GoesOn setting st
 split setting start [] later legal = subst (λ (h : History). GoesOn setting h later) (sym (append-nil start)) legal
 split setting start (entry ∷ before) later legal = subst (λ (h : History). GoesOn setting h later) (append_assoc start (entry ∷ []) before) (split setting (start ++ entry ∷ []) before later legal.1)
 
-stays_ended : (setting : Setting) (before later : History) (profile file : ℕ) → GoesOn setting before later → IsEnded (world_of setting before) profile file → IsEnded (world_of setting (before ++ later)) profile file
+pub stays_ended : (setting : Setting) (before later : History) (profile file : ℕ) → GoesOn setting before later → IsEnded (world_of setting before) profile file → IsEnded (world_of setting (before ++ later)) profile file
 stays_ended setting before [] profile file legal is = subst (λ (h : History). IsEnded (world_of setting h) profile file) (sym (append-nil before)) is
 stays_ended setting before (entry ∷ later) profile file legal is =
     let may = legal.0 in

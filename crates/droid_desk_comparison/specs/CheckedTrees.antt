@@ -30,19 +30,20 @@ use Rattle.droid_desk_comparison.specs.declared.tree_check.Checked.{Checked}
 use Rattle.droid_desk_comparison.specs.declared.tree_check.CheckFault.{CheckFault}
 use Rattle.droid_desk_comparison.specs.declared.tree_check.CheckFault.TheVariants as faults
 
--- A symbolic link is no part of a tree. Everything else that was skipped is unreadable.
-abbrev pub is_no_link : Skipped → Bool
-is_no_link reasons.Link = false
-is_no_link reasons.Kind = true
-is_no_link reasons.Name = true
-is_no_link reasons.SameName = true
-is_no_link (reasons.Refused refusal) = true
-is_no_link reasons.Unreadable = true
-is_no_link reasons.Changed = true
-is_no_link reasons.OtherHash = true
+-- A symbolic link is no part of a tree, and of entries with one name the first counts. Everything else that was skipped is
+-- unreadable.
+abbrev pub is_unreadable : Skipped → Bool
+is_unreadable reasons.Link = false
+is_unreadable reasons.Kind = true
+is_unreadable reasons.Name = true
+is_unreadable reasons.SameName = false
+is_unreadable (reasons.Refused refusal) = true
+is_unreadable reasons.Unreadable = true
+is_unreadable reasons.Changed = true
+is_unreadable reasons.OtherHash = true
 
 abbrev pub unreadable_in : List SkippedEntry → List SkippedEntry
-unreadable_in skipped = filter (λ entry. is_no_link entry.why) skipped
+unreadable_in skipped = filter (λ entry. is_unreadable entry.why) skipped
 
 -- whether an item could be read: neither it nor a folder above it is unreadable
 abbrev pub is_readable : List SkippedEntry → Item → Bool

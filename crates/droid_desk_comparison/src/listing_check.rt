@@ -16,7 +16,7 @@ use droid_tree::{Tree, Watcher};
 use std::alloc::{AllocError, Global};
 
 /// Lists a tree as its profile is made, without reading a file, and compares what is known of its files then with a list.
-/// Afterwards the recorder has what is unreadable: all that was skipped, symbolic links aside.
+/// Afterwards the recorder has what is unreadable: all that was skipped, symbolic links and repeated names aside.
 pub fn check_listing<T: Tree, W: Watcher>(
     profiler: &mut Profiler<NotedFiles<T>, Recorder<W>, ItemKeeper>,
     registry: &Registry,

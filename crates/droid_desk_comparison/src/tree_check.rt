@@ -1,7 +1,7 @@
 //! Compares a tree with a list.
 
 ghost use Rattle.std.specs.Prelude.{◌≡◌, ◌≤◌, IfErr, IfOk};
-ghost use Rattle.droid_desk_comparison.specs.CheckedTrees.{ChecksTree, Compares, EndsCheck, IsAfterWalk, fault_of, is_no_link, options_for, readable_in, unreadable_in};
+ghost use Rattle.droid_desk_comparison.specs.CheckedTrees.{ChecksTree, Compares, EndsCheck, IsAfterWalk, fault_of, is_unreadable, options_for, readable_in, unreadable_in};
 ghost use Rattle.droid_fixity_forms.specs.ListForms.{names_files_alone};
 ghost use Rattle.droid_fixity_forms.specs.Reports.{IsReport};
 ghost use Rattle.droid_fixity_forms.specs.Listings.{IsInventory};
@@ -50,8 +50,8 @@ impl From<AllocError> for CheckFault {
 }
 
 /// Reads a tree as its profile is made, and compares it with a list. Each file gets a hash of the list's kind, whatever the
-/// options say. Afterwards the recorder has what is unreadable: all that was skipped, symbolic links aside. With `identify`
-/// the recipient has the formats of the files.
+/// options say. Afterwards the recorder has what is unreadable: all that was skipped, symbolic links and repeated names
+/// aside. With `identify` the recipient has the formats of the files.
 pub fn check_tree<T: Tree, W: Watcher>(
     profiler: &mut Profiler<T, Recorder<W>, ItemKeeper>,
     registry: &Registry,
@@ -125,28 +125,28 @@ pub(crate) fn compare_found<W>(
     if !recorder.has_all {
         return Err(CheckFault::Memory);
     }
-    drop_links(&mut recorder.skipped);
+    keep_unreadable(&mut recorder.skipped);
     match compare_readable(alloc, recorder.skipped.as_slice(), listed, items) {
         Ok(checked) => Ok(checked),
         Err(fault) => Err(fault),
     }
 }
 
-/// Removes the symbolic links from what was skipped.
-fn drop_links(skipped: &mut Vec<SkippedEntry>)
+/// Removes the symbolic links from what was skipped, and the entries with the name of one before them.
+fn keep_unreadable(skipped: &mut Vec<SkippedEntry>)
     ensures { skipped.new.items ≡ unreadable_in skipped.old.items }
 {
-    skipped.retain(|entry| is_no_link(entry.why));
+    skipped.retain(|entry| is_unreadable(entry.why));
 }
 
-fn is_no_link(why: Skipped) -> bool
-    ensures { result ≡ is_no_link why }
+fn is_unreadable(why: Skipped) -> bool
+    ensures { result ≡ is_unreadable why }
 {
     match why {
         Skipped::Link => false,
+        Skipped::SameName => false,
         Skipped::Kind
         | Skipped::Name
-        | Skipped::SameName
         | Skipped::Refused(_)
         | Skipped::Unreadable
         | Skipped::Changed

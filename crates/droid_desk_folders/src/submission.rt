@@ -17,6 +17,7 @@ use droid_tree_remote::{
     Options, RemoteFault, Sender, Streams, SubmissionFault, TransferFault, Upload, options_of,
 };
 use std::alloc::AllocError;
+use std::env::Env;
 use std::fs::{File, Files};
 use std::net::{Net, TcpListener, TcpStream};
 use std::time::Clock;
@@ -35,7 +36,7 @@ type FolderUpload<'a, R> = Upload<
 /// differs, is printed on standard error, and the profile's number on standard output.
 pub fn submit_folder<R>(rt: &R, options: SubmitOptions<'_>, on_terminal: bool) -> SubmissionEnding
 where
-    R: Files<File = File> + Clock + Print + Eprint + AllocGlobal,
+    R: Files<File = File> + Env + Clock + Print + Eprint + AllocGlobal,
     R: Net<Listener = TcpListener, Stream = TcpStream>,
 {
     if !is_folder(rt, options.folder) {
@@ -63,7 +64,7 @@ fn upload_of<'a, R>(
     verbosity: Verbosity,
 ) -> Result<FolderUpload<'a, R>, AllocError>
 where
-    R: Files<File = File> + Clock + Eprint + AllocGlobal,
+    R: Files<File = File> + Env + Clock + Eprint + AllocGlobal,
     R: Net<Listener = TcpListener, Stream = TcpStream>,
 {
     let alloc = rt.alloc();
@@ -91,7 +92,7 @@ fn submit_by<'a, R>(
     absolute: &str,
 ) -> SubmissionEnding
 where
-    R: Files<File = File> + Clock + Print + Eprint + AllocGlobal,
+    R: Files<File = File> + Env + Clock + Print + Eprint + AllocGlobal,
     R: Net<Listener = TcpListener, Stream = TcpStream>,
 {
     let mut upload = upload;

@@ -15,6 +15,7 @@ use droid_frame::{Noted, SteadyWrite};
 use droid_profile_csv::{CsvFault, CsvRecipient, Profiler, Registry};
 use droid_tree_disk::{FileId, Folder, Output, System, is_folder};
 use std::alloc::Global;
+use std::env::Env;
 use std::fs::{File, Files};
 use std::io::{self, Write};
 use std::time::Clock;
@@ -42,7 +43,7 @@ pub fn profile_folder<R>(
     on_terminal: bool,
 ) -> ProfileEnding
 where
-    R: Files<File = File> + Clock + Print + Eprint + AllocGlobal,
+    R: Files<File = File> + Env + Clock + Print + Eprint + AllocGlobal,
 {
     let _ = eprint!(rt; "{}", RegistryLine(registry.name));
     if !is_folder(rt, options.folder) {
@@ -85,7 +86,7 @@ fn tree_of<'a, R>(
     files: &mut OutputFiles<'a, R>,
 ) -> Result<FolderTree<'a, R>, ProfileEnding>
 where
-    R: Files<File = File> + AllocGlobal,
+    R: Files<File = File> + Env + AllocGlobal,
 {
     let own = files.begin(rt.alloc())?;
     match Folder::new(rt.alloc(), System::new(rt), options.folder) {
@@ -106,7 +107,7 @@ fn profile_to_files<'a, R>(
     keeps: bool,
 ) -> (ProfileEnding, Option<Vec<u8>>)
 where
-    R: Files<File = File> + Clock + Print + Eprint + AllocGlobal,
+    R: Files<File = File> + Env + Clock + Print + Eprint + AllocGlobal,
 {
     let OutputFiles {
         csv,
@@ -193,7 +194,7 @@ fn profile_to<'a, R, O: Write + Drop>(
     writers: Writers<'a, R, O>,
 ) -> (ProfileEnding, Writers<'a, R, O>)
 where
-    R: Files<File = File> + Clock + Eprint + AllocGlobal,
+    R: Files<File = File> + Env + Clock + Eprint + AllocGlobal,
 {
     let alloc = rt.alloc();
     let Writers {

@@ -1,5 +1,5 @@
 -- What the bytes of a signature file become (this project's own).
-use Rattle.std.specs.Prelude.{◌≡◌, ◌==◌, ◌&&◌, not, ℕ, Bool, List, length, Result, Ok, Err, ⊤, string_bytes}
+use Rattle.std.specs.Prelude.{◌≡◌, ◌≤◌, ◌==◌, ◌&&◌, not, ℕ, Bool, List, length, Result, Ok, Err, ⊤, string_bytes}
 use Rattle.droid_signature.specs.AllLeftOut.{all_left_out}
 use Rattle.droid_signature.specs.Conversion.{IsConversion, IsTooLong}
 use Rattle.droid_signature.specs.FileOutcomes.{Reads}
@@ -25,6 +25,8 @@ pub record IsConversionOf (quiet : Bool) (bytes : List ℕ) (it : Conversion) : 
   pub left : List LeftOut
   pub taken : Taken
   pub converted : IsConversion file it.csv.items left taken
+  -- it is short enough for a registry, so that one reads it (`converted.made.accepted`)
+  pub short : length it.csv.items ≤ 16777216
   -- the note and the report name the registry by its MD5
   pub note : string_bytes it.note ≡ note_text file (digest_text it.csv.items)
   pub report : string_bytes it.report ≡ report_text quiet file taken (all_left_out file left) (digest_text it.csv.items)

@@ -16,7 +16,7 @@ use std::alloc::{AllocError, Global};
 
 /// The first lines of a journal: what it is, and the limits of the service that wrote it.
 const FIRST_LINES: &str = "\
-droid_desk journal 1
+droid_desk journal 2
 64 profiles, 100000 nodes, 64 unfinished files
 ";
 

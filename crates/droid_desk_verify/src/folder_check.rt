@@ -13,6 +13,7 @@ use droid_desk_comparison::{
 };
 use droid_frame::Noted;
 use std::alloc::{AllocError, Global};
+use std::env::Env;
 use std::fs::{self, File, Files};
 use std::io::{self, ErrorKind};
 use std::time::Clock;
@@ -36,7 +37,7 @@ pub fn verify_folder<R>(
     on_terminal: bool,
 ) -> VerifyEnding
 where
-    R: Files<File = File> + Clock + Print + Eprint + AllocGlobal,
+    R: Files<File = File> + Env + Clock + Print + Eprint + AllocGlobal,
 {
     if let Some(registry) = registry {
         let _ = eprint!(rt; "{}", RegistryLine(registry.name));
@@ -63,7 +64,7 @@ fn verify_without<R>(
     lists: Lists,
 ) -> VerifyEnding
 where
-    R: Files<File = File> + Clock + Print + Eprint + AllocGlobal,
+    R: Files<File = File> + Env + Clock + Print + Eprint + AllocGlobal,
 {
     match Registry::parse(rt.alloc(), b"") {
         Ok(registry) => verify_with(rt, &registry, options, verbosity, lists),
@@ -118,7 +119,7 @@ fn verify_with<R>(
     lists: Lists,
 ) -> VerifyEnding
 where
-    R: Files<File = File> + Clock + Print + Eprint + AllocGlobal,
+    R: Files<File = File> + Env + Clock + Print + Eprint + AllocGlobal,
 {
     match folder_of(rt, options.folder, lists.listed.form) {
         Ok(tree) => {
@@ -139,7 +140,7 @@ fn folder_of<'a, R>(
     form: ListForm,
 ) -> Result<FolderTree<'a, R>, AllocError>
 where
-    R: Files<File = File> + AllocGlobal,
+    R: Files<File = File> + Env + AllocGlobal,
 {
     let path = listed_folder(rt.alloc(), folder, form)?;
     Folder::new(rt.alloc(), System::new(rt), path.as_str())

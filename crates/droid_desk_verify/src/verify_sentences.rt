@@ -29,7 +29,11 @@ impl VerifyEnding {
             VerifyEnding::Numbers => {
                 eprintln!(rt; "{folder}: too large: take its subfolders one by one")
             }
-            VerifyEnding::Twice => { eprintln!(rt; "{folder}: this is a mistake in droid_desk") }
+            VerifyEnding::Twice => {
+                eprintln!(rt;
+                    "{folder}: a name is listed twice: did it change meanwhile? Try again"
+                )
+            }
             VerifyEnding::Unwritten => {
                 eprintln!(rt;
                     "standard output: could not be written: is the disk full, or its reader gone?"

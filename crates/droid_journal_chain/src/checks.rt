@@ -3,8 +3,9 @@
 ghost use Rattle.std.specs.Prelude.{◌≡◌, ◌≤◌, ◌++◌, ◌↔◌, IsTrue, length, take};
 ghost use Rattle.md5.specs.Md5.{md5};
 ghost use Rattle.droid_journal_chain.specs.Chains.{first_check};
-ghost use Rattle.droid_journal_chain.specs.Records.{digest, first_byte, made, mark_in, next_check, sealed};
+ghost use Rattle.droid_journal_chain.specs.Records.{digest, first_byte, made, next_check, sealed};
 
+use crate::checksums::checksum_of;
 use md5::{Digest, Md5};
 
 /// How many bytes the header of a request's frame has.
@@ -22,31 +23,20 @@ pub fn start_of(header: &[u8]) -> [u8; 16]
     hasher.finalize()
 }
 
-/// Computes the mark of a request's frame: the MD5 of its kind and its body.
-fn mark_of(request: &[u8]) -> [u8; 16]
-    requires { 18 ≤ length request.now }
-    ensures { result ≡ mark_in request.now }
-{
-    let mut hasher = Md5::new();
-    hasher.update(&[request[1]]);
-    hasher.update(&request[HEADER..]);
-    hasher.finalize()
-}
-
-/// Computes the MD5 of a record behind one with the check value `check`. The body of the request goes in by its mark
-/// alone.
+/// Computes the MD5 of a record behind one with the check value `check`. The body of the request goes in by its
+/// checksum alone.
 #[tactic(auto, unfolding(crate::specs::Records::digest))]
 fn digest_of(start: &[u8], check: &[u8], first: bool, request: &[u8], reply: &[u8]) -> [u8; 16]
     requires { 18 ≤ length request.now }
     ensures { result ≡ digest start.now check.now (made first request.now reply.now) }
 {
-    let mark = mark_of(request);
+    let sum = checksum_of(request);
     let mut hasher = Md5::new();
     hasher.update(start);
     hasher.update(check);
     hasher.update(&[u8::from(first)]);
     hasher.update(&request[..HEADER]);
-    hasher.update(&mark);
+    hasher.update(&sum);
     hasher.update(reply);
     hasher.finalize()
 }

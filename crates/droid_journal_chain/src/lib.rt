@@ -5,6 +5,7 @@
 #![tactic(auto)]
 
 mod checks;
+mod checksums;
 mod damage;
 pub mod laws;
 mod reading;

@@ -1,15 +1,18 @@
 -- The levels of subsequences, one after the other.
-use Rattle.std.proofs.Common.{◌≡◌, ℕ, suc, ◌+◌, ◌<◌, List, [], ◌∷◌, ◌++◌, length, map, take, get_or, refl, sym, ap, ◌∙◌, arith, append_assoc}
+use Rattle.std.proofs.Common.{◌≡◌, ℕ, suc, ◌+◌, ◌<◌, List, [], ◌∷◌, ◌++◌, length, map, take, drop, get_or, refl, sym, ap, subst, ◌∙◌, arith, append_assoc}
 use Rattle.std.specs.Prelude.{◌==◌, if◌then◌else◌}
-use Rattle.std.proofs.lemmas.List.{append-nil, map-append, take_more}
+use Rattle.std.proofs.lemmas.List.{append-nil, map-append, take-append-drop, take_more}
+use Rattle.std.proofs.Math.Seq.{take-append_seam}
 use Rattle.std.proofs.lemmas.Bool.{eq-eqb, ne_eqb}
 use Rattle.droid_signature_texts.specs.Pieces.{gap_patterns}
 use Rattle.droid_signature_texts.specs.Patterns.{Element, Gap, OpenGap}
 use Rattle.droid_signature_texts.specs.Expansions as spec
 use Rattle.droid_signature_texts.specs.Texts as texts
 use Rattle.droid_signature_texts.specs.Written.{written, written_all, written_each}
-use Rattle.droid_signature_texts.proofs.Joined.{written_joined}
-use Rattle.droid_signature_patterns.specs.Parts.{ReadFragment, ReadPart, further_levels, in_order, joined_all, left_levels, level, outermost_of, part_levels, right_levels, side_patterns}
+use Rattle.droid_signature_texts.specs.Outcomes.{AreTooMuch, IsTooMuch}
+use Rattle.droid_signature_texts.specs.declared.reason.Reason.{Reason}
+use Rattle.droid_signature_texts.proofs.Joined.{joined_all_append, written_joined}
+use Rattle.droid_signature_patterns.specs.Parts.{ReadFragment, ReadPart, further_levels, in_order, joined_all, left_levels, level, next_levels, outermost_of, part_levels, right_levels, row_levels, side_patterns}
 use Rattle.droid_signature_patterns.specs.declared.part_texts.Way.{Way}
 use Rattle.droid_signature_patterns.specs.declared.part_texts.Way.TheVariants as way
 
@@ -85,24 +88,44 @@ further_push (x ∷ parts) part =
     ap (λ l. ((OpenGap x.least ∷ []) ∷ []) ∷ (part_levels x ++ l)) (further_push parts part)
     ∙ ap (λ l. ((OpenGap x.least ∷ []) ∷ []) ∷ l) (sym (append_assoc (part_levels x) (further_levels parts) (((OpenGap part.least ∷ []) ∷ []) ∷ part_levels part)))
 
-pub further_more : (parts : List ReadPart) (i : ℕ) (part : ReadPart) (old before gapped after : List (List (List ℕ))) → i < length parts → part ≡ get_or parts i part
-    → before ≡ old ++ map written_each (further_levels (take i parts)) → gapped ≡ before ++ written_each ((OpenGap part.least ∷ []) ∷ []) ∷ [] → after ≡ gapped ++ map written_each (part_levels part)
-    → after ≡ old ++ map written_each (further_levels (take (i + 1) parts))
-further_more parts i part old before gapped after below is so_far one two =
-    let done = further_levels (take i parts) in
-    let gap = (OpenGap part.least ∷ []) ∷ [] in
-    two
-    ∙ ap (λ l. l ++ map written_each (part_levels part)) (one ∙ ap (λ l. l ++ written_each gap ∷ []) so_far)
-    ∙ append_assoc (old ++ map written_each done) (written_each gap ∷ []) (map written_each (part_levels part))
-    ∙ append_assoc old (map written_each done) (written_each gap ∷ map written_each (part_levels part))
-    ∙ ap (λ l. old ++ l) (sym (map-append written_each done (gap ∷ part_levels part)))
-    ∙ ap (λ l. old ++ map written_each l) (sym (further_push (take i parts) part))
-    ∙ ap (λ l. old ++ map written_each (further_levels l)) (ap (λ y. take i parts ++ y ∷ []) is ∙ sym (take_more parts i part below))
+further_append : (xs ys : List ReadPart) → further_levels (xs ++ ys) ≡ further_levels xs ++ further_levels ys
+further_append [] ys = refl
+further_append (x ∷ xs) ys =
+    ap (λ l. ((OpenGap x.least ∷ []) ∷ []) ∷ (part_levels x ++ l)) (further_append xs ys)
+    ∙ ap (λ l. ((OpenGap x.least ∷ []) ∷ []) ∷ l) (sym (append_assoc (part_levels x) (further_levels xs) (further_levels ys)))
 
--- all levels of a row
-pub row_steps : (first : ReadPart) (rest : List ReadPart) (one two : List (List (List ℕ))) → one ≡ [] ++ map written_each (part_levels first) → two ≡ one ++ map written_each (further_levels rest)
-    → two ≡ map written_each (part_levels first ++ further_levels rest)
-row_steps first rest one two a b = b ∙ ap (λ l. l ++ map written_each (further_levels rest)) a ∙ sym (map-append written_each (part_levels first) (further_levels rest))
+-- the first subsequence alone
+pub row_first : (first : ReadPart) → texts.joined_all (map written_each (part_levels first)) ≡ texts.joined_all (map written_each (row_levels first []))
+row_first first = ap (λ l. texts.joined_all (map written_each l)) (sym (append-nil (part_levels first)))
+
+-- one more subsequence behind the first ones
+pub row_more : (first : ReadPart) (parts : List ReadPart) (i : ℕ) (part : ReadPart) (before level after : List (List ℕ)) → i < length parts → part ≡ get_or parts i part
+    → before ≡ texts.joined_all (map written_each (row_levels first (take i parts))) → level ≡ texts.joined_all (map written_each (next_levels part)) → after ≡ texts.joined before level
+    → after ≡ texts.joined_all (map written_each (row_levels first (take (i + 1) parts)))
+row_more first parts i part before level after below is so_far made grown =
+    let done = row_levels first (take i parts) in
+    grown
+    ∙ ap (λ l. texts.joined l level) so_far
+    ∙ ap (texts.joined (texts.joined_all (map written_each done))) made
+    ∙ sym (joined_all_append (map written_each done) (map written_each (next_levels part)))
+    ∙ ap texts.joined_all (sym (map-append written_each done (next_levels part)))
+    ∙ ap (λ l. texts.joined_all (map written_each l)) (append_assoc (part_levels first) (further_levels (take i parts)) (next_levels part))
+    ∙ ap (λ l. texts.joined_all (map written_each (part_levels first ++ l))) (sym (further_push (take i parts) part))
+    ∙ ap (λ l. texts.joined_all (map written_each (row_levels first l))) (ap (λ y. take i parts ++ y ∷ []) is ∙ sym (take_more parts i part below))
+
+-- what the first subsequences give is what the first of all levels give
+pub row_exceeds : (first : ReadPart) (parts : List ReadPart) (i : ℕ) (done : List (List ℕ)) (reason : Reason) → done ≡ texts.joined_all (map written_each (row_levels first (take i parts)))
+    → IsTooMuch done reason → AreTooMuch (map written_each (row_levels first parts)) reason
+row_exceeds first parts i done reason is h =
+    let front = row_levels first (take i parts) in
+    let back = further_levels (drop i parts) in
+    let whole : row_levels first parts ≡ front ++ back =
+    ap (row_levels first) (sym (take-append-drop i parts)) ∙ ap (λ l. part_levels first ++ l) (further_append (take i parts) (drop i parts)) ∙ sym (append_assoc (part_levels first) (further_levels (take i parts)) back) in
+    let written : map written_each (row_levels first parts) ≡ map written_each front ++ map written_each back = ap (map written_each) whole ∙ map-append written_each front back in
+    let count = length (map written_each front) in
+    let cut : take count (map written_each (row_levels first parts)) ≡ map written_each front = ap (take count) written ∙ take-append_seam (map written_each front) (map written_each back) in
+    let P : List (List ℕ) → Type 0 = λ it. IsTooMuch it reason in
+    record { count = count; exceeds = subst P (is ∙ ap texts.joined_all (sym cut)) h }
 
 -- a gap as texts
 pub gap_none : (least most : ℕ) → most ≡ 0 → written_each (gap_patterns least most) ≡ [] ∷ []

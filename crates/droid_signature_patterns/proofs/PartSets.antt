@@ -8,7 +8,7 @@ use Rattle.droid_signature_texts.specs.record_types.subsequence.Fragment.{Fragme
 use Rattle.droid_signature_texts.specs.Terms.{InTurn}
 use Rattle.droid_signature_texts.specs.Expansions.{MatchesAny, joined, patterns_of}
 use Rattle.droid_signature_texts.specs.Meaning.{PartMatches, RowMatches}
-use Rattle.droid_signature_texts.specs.Pieces.{AreSides, ArePieces, IsPiece, Side, gap_patterns, left_at, left_patterns, outermost_side, piece_patterns, further_patterns, right_at, right_patterns}
+use Rattle.droid_signature_texts.specs.Pieces.{AreSides, ArePieces, IsPiece, gap_patterns, left_at, left_patterns, outermost_side, piece_patterns, further_patterns, right_at, right_patterns}
 use Rattle.droid_signature_texts.specs.Pieces as pieces
 use Rattle.droid_signature_texts.specs.Sequences.{ArePatternsOf}
 use Rattle.droid_signature_texts.proofs.PatternSets.{any_append, any_joined, any_one, both_ways, same_turns}

@@ -106,6 +106,10 @@ outermost_of (it ∷ more) = max it.position (outermost_of more)
 abbrev pub part_levels : ReadPart → List (List (List Element))
 part_levels part = left_levels part.left (outermost_of part.left) ++ (patterns_of part.terms ∷ right_levels part.right (outermost_of part.right))
 
+-- one behind others, with an open gap in front of it
+abbrev pub next_levels : ReadPart → List (List (List Element))
+next_levels part = ((OpenGap part.least ∷ []) ∷ []) ∷ part_levels part
+
 -- further subsequences, each behind an open gap
 abbrev pub further_levels : List ReadPart → List (List (List Element))
 further_levels [] = []

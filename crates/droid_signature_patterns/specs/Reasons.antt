@@ -12,11 +12,11 @@ use Rattle.droid_signature_texts.specs.Terms.{Term}
 use Rattle.droid_signature_texts.specs.TermText.{SpellsTerms}
 use Rattle.droid_signature_texts.specs.Meaning.{lowest, outermost}
 use Rattle.droid_signature_texts.specs.Sequences.{IsAnchorOf}
-use Rattle.droid_signature_texts.specs.Outcomes.{AreTooMuch, HasMany, IsReasonOfTerms}
+use Rattle.droid_signature_texts.specs.Outcomes.{AreTooMuch, IsReasonOfTerms, IsTooMuch}
 use Rattle.droid_signature_texts.specs.Written.{written_all, written_each}
 use Rattle.droid_signature_texts.specs.declared.reason.Reason.{Reason}
 use Rattle.droid_signature_texts.specs.declared.reason.Reason.TheVariants as reasons
-use Rattle.droid_signature_patterns.specs.Parts.{AreReadParts, IsReadPart, ReadFragment, ReadPart, level, row_levels, row_patterns, side_levels}
+use Rattle.droid_signature_patterns.specs.Parts.{AreReadParts, IsReadPart, ReadFragment, ReadPart, level, next_levels, part_levels, row_levels, row_patterns, side_levels}
 use Rattle.droid_signature_patterns.specs.Ends.{ends_in_byte}
 use Rattle.droid_signature_patterns.specs.declared.part_texts.Way.{Way}
 use Rattle.droid_signature_patterns.specs.declared.part_texts.Way.TheVariants as way
@@ -95,15 +95,22 @@ IsReasonOfReadFragment from reason it = IsReasonOfTerms it.terms reason ⊎ AreT
 
 abbrev pub IsReasonOfLevel : Way → ℕ → List ReadFragment → Reason → Type 0
 IsReasonOfLevel from position fragments reason =
-    Any (IsReasonOfReadFragment from reason) fragments ⊎ ((count : ℕ) × HasMany (written_each (level from position (take count fragments))) reason)
+    Any (IsReasonOfReadFragment from reason) fragments ⊎ ((count : ℕ) × IsTooMuch (written_each (level from position (take count fragments))) reason)
 
 abbrev pub IsReasonOfReadPart : Reason → ReadPart → Type 0
 IsReasonOfReadPart reason part =
     ((position : ℕ) × IsReasonOfLevel way.Left position part.left reason) ⊎ IsReasonOfTerms part.terms reason ⊎ ((position : ℕ) × IsReasonOfLevel way.Right position part.right reason)
 
+-- the first subsequence, and one behind others
+abbrev pub IsReasonOfFirstPart : Reason → ReadPart → Type 0
+IsReasonOfFirstPart reason part = IsReasonOfReadPart reason part ⊎ AreTooMuch (map written_each (part_levels part)) reason
+
+abbrev pub IsReasonOfNextPart : Reason → ReadPart → Type 0
+IsReasonOfNextPart reason part = IsReasonOfReadPart reason part ⊎ AreTooMuch (map written_each (next_levels part)) reason
+
 abbrev pub IsReasonOfRow : ReadPart → List ReadPart → Reason → Type 0
 IsReasonOfRow part further reason =
-    IsReasonOfReadPart reason part ⊎ Any (IsReasonOfReadPart reason) further ⊎ AreTooMuch (map written_each (row_levels part further)) reason
+    IsReasonOfFirstPart reason part ⊎ Any (IsReasonOfNextPart reason) further ⊎ AreTooMuch (map written_each (row_levels part further)) reason
 
 -- a pattern has no byte, or ends in a gap
 abbrev pub HasGapAtEnd : List (List Element) → Reason → Type 0

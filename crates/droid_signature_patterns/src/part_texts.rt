@@ -1,18 +1,17 @@
 //! The texts of the patterns that stand for subsequences.
 
 ghost use Rattle.std.specs.Prelude.{◌≡◌, ◌==◌, ◌++◌, ◌∷◌, [], ℕ, IfOk, OnOk, map, if◌then◌else◌};
-ghost use Rattle.std.specs.List.{Any};
 ghost use Rattle.droid_signature_texts.specs.Patterns.{OpenGap};
 ghost use Rattle.droid_signature_texts.specs.Pieces.{gap_patterns};
 ghost use Rattle.droid_signature_texts.specs.Outcomes.{IfLeftOut};
-ghost use Rattle.droid_signature_texts.specs.Texts.{AreSmall};
+ghost use Rattle.droid_signature_texts.specs.Texts.{AreSmall, joined_all};
 ghost use Rattle.droid_signature_texts.specs.Written.{written_each};
 ghost use Rattle.droid_signature_patterns.specs.Parts as spec;
-ghost use Rattle.droid_signature_patterns.specs.Reasons.{IsReasonOfLevel, IsReasonOfReadFragment, IsReasonOfReadPart, IsReasonOfRow};
+ghost use Rattle.droid_signature_patterns.specs.Reasons.{IsReasonOfFirstPart, IsReasonOfLevel, IsReasonOfNextPart, IsReasonOfReadFragment, IsReasonOfReadPart, IsReasonOfRow};
 ghost use Rattle.droid_signature_patterns.specs.declared.part_texts.Way.TheVariants as way;
 
 use crate::read_parts::{ReadFragment, ReadPart, ReadSequence};
-use droid_signature_texts::{PatternTexts, Stop, expanded, push_gap, texts_of};
+use droid_signature_texts::{Growing, PatternTexts, Stop, expanded, push_gap, texts_of};
 use std::alloc::{AllocError, Global};
 
 /// The side of a sequence on which fragments lie.
@@ -29,27 +28,48 @@ pub(crate) fn sequence_texts(alloc: Global, read: &ReadSequence) -> Result<Patte
     ensures small { IfOk result AreSmall }
     ensures err { IfLeftOut result (IsReasonOfRow read.now.first read.now.further.items) }
 {
+    let texts = row_texts(alloc, &read.first, read.further.as_slice())?;
+    Ok(texts)
+}
+
+/// Returns the texts of a subsequence and of those behind it, each behind an open gap. Ends early if the first of them are
+/// too much.
+fn row_texts(alloc: Global, first: &ReadPart, further: &[ReadPart]) -> Result<PatternTexts, Stop>
+    ensures ok { IfOk result (λ texts. texts ≡ written_each (spec.row_patterns first.now further.now)) }
+    ensures small { IfOk result AreSmall }
+    ensures err { IfLeftOut result (IsReasonOfRow first.now further.now) }
+{
+    let texts = part_texts(alloc, first)?;
+    let mut growing = Growing::of(alloc, texts);
+    for part in further {
+        let level = next_texts(alloc, part)?;
+        growing.push(alloc, &level)?;
+    }
+    let texts = growing.texts(alloc)?;
+    Ok(texts)
+}
+
+/// Returns the texts of a subsequence.
+fn part_texts(alloc: Global, part: &ReadPart) -> Result<PatternTexts, Stop>
+    ensures ok { IfOk result (λ texts. texts ≡ joined_all (map written_each (spec.part_levels part.now))) }
+    ensures err { IfLeftOut result (λ reason. IsReasonOfFirstPart reason part.now) }
+{
     let mut levels = Vec::new(alloc);
-    push_part(alloc, &mut levels, &read.first)?;
-    push_further(alloc, &mut levels, read.further.as_slice())?;
+    push_part(alloc, &mut levels, part)?;
     let texts = expanded(alloc, levels.as_slice())?;
     Ok(texts)
 }
 
-/// Appends the levels of further subsequences, each behind an open gap.
-fn push_further(
-    alloc: Global,
-    levels: &mut Vec<PatternTexts>,
-    parts: &[ReadPart],
-) -> Result<(), Stop>
-    ensures ok { OnOk result (levels.new.items ≡ levels.old.items ++ map written_each (spec.further_levels parts.now)) }
-    ensures err { IfLeftOut result (λ reason. Any (IsReasonOfReadPart reason) parts.now) }
+/// Returns the texts of a further subsequence, behind an open gap.
+fn next_texts(alloc: Global, part: &ReadPart) -> Result<PatternTexts, Stop>
+    ensures ok { IfOk result (λ texts. texts ≡ joined_all (map written_each (spec.next_levels part.now))) }
+    ensures err { IfLeftOut result (λ reason. IsReasonOfNextPart reason part.now) }
 {
-    for part in parts {
-        push_open_gap(alloc, levels, part.least())?;
-        push_part(alloc, levels, part)?;
-    }
-    Ok(())
+    let mut levels = Vec::new(alloc);
+    push_open_gap(alloc, &mut levels, part.least())?;
+    push_part(alloc, &mut levels, part)?;
+    let texts = expanded(alloc, levels.as_slice())?;
+    Ok(texts)
 }
 
 /// Appends a level of one open gap.

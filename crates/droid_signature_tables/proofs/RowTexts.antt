@@ -1,11 +1,28 @@
 -- A row of six fields.
-use Rattle.std.proofs.Common.{◌≡◌, ℕ, List, [], ◌∷◌, ◌++◌, refl, sym, ap, ◌∙◌, append_assoc}
-use Rattle.std.specs.List.{flat_map}
+use Rattle.std.proofs.Common.{◌≡◌, Bool, true, false, ℕ, List, [], ◌∷◌, ◌++◌, refl, sym, ap, ◌∙◌, append_assoc}
+use Rattle.std.specs.Prelude.{◌==◌, ◌&&◌, not, if◌then◌else◌}
+use Rattle.std.specs.List.{flat_map, list_all}
+use Rattle.std.proofs.lemmas.Bool.{false≢true}
 use Rattle.droid_signature_rows.specs.Csv.{doubled, joined, line, quoted}
 
 pub quoted_joined : (text field : List ℕ) → ((text ++ 34 ∷ []) ++ flat_map doubled field) ++ 34 ∷ [] ≡ text ++ quoted field
 unfolding quoted
 quoted_joined text field = simp append_assoc
+
+-- bytes without a double quote
+plain_byte : (t : Bool) (b : ℕ) → (b == 34) ≡ t → not t ≡ true → doubled b ≡ b ∷ []
+plain_byte true b test plain = absurd (false≢true plain)
+plain_byte false b test plain = ap (λ t. if t then 34 ∷ 34 ∷ [] else b ∷ []) test
+
+both_true : (a b : Bool) → (a && b) ≡ true → (a ≡ true) × (b ≡ true)
+both_true true b e = (refl, e)
+both_true false b e = absurd (false≢true e)
+
+pub plain_doubled : (field : List ℕ) → list_all (λ c. not (c == 34)) field ≡ true → flat_map doubled field ≡ field
+plain_doubled [] plain = refl
+plain_doubled (b ∷ field) plain =
+    let (here, more) = both_true (not (b == 34)) (list_all (λ c. not (c == 34)) field) plain in
+    ap (λ l. l ++ flat_map doubled field) (plain_byte (b == 34) b refl here) ∙ ap (λ l. b ∷ l) (plain_doubled field more)
 
 -- fields behind a field, and the end of the row
 abbrev after : List (List ℕ) → List ℕ

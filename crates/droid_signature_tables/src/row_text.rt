@@ -1,7 +1,7 @@
 //! The text of a registry file's rows.
 
-ghost use Rattle.std.specs.Prelude.{◌≡◌, ◌++◌, ◌∷◌, [], OnOk};
-ghost use Rattle.std.specs.List.{flat_map};
+ghost use Rattle.std.specs.Prelude.{◌≡◌, ◌++◌, ◌∷◌, [], ◌==◌, not, OnOk};
+ghost use Rattle.std.specs.List.{flat_map, list_all};
 ghost use Rattle.droid_signature_rows.specs.Csv.{doubled, line, quoted};
 
 use std::alloc::AllocError;
@@ -53,10 +53,20 @@ fn push_quoted(text: &mut Vec<u8>, field: &[u8]) -> Result<(), AllocError>
 fn push_doubled(text: &mut Vec<u8>, field: &[u8]) -> Result<(), AllocError>
     ensures { OnOk result (text.new.items ≡ text.old.items ++ flat_map doubled field.now) }
 {
+    if has_no_quote(field) {
+        text.extend_from_slice(field)?;
+        return Ok(());
+    }
     for c in field {
         push_byte(text, *c)?;
     }
     Ok(())
+}
+
+fn has_no_quote(field: &[u8]) -> bool
+    ensures { result ≡ list_all (λ c. not (c == 34)) field.now }
+{
+    field.iter().all(|c| *c != b'"')
 }
 
 /// Appends a byte, a double quote twice.

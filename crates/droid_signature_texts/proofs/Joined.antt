@@ -1,15 +1,15 @@
 -- Texts one behind the other.
-use Rattle.std.proofs.Common.{◌≡◌, ◌↔◌, ◌⊎◌, Bool, true, false, ⊎_elim, ℕ, zero, suc, ◌+◌, ◌*◌, ◌<◌, ◌≤◌, List, [], ◌∷◌, ◌++◌, length, map, take, get_or, refl, sym, ap, subst, ◌∙◌, arith, append_assoc}
+use Rattle.std.proofs.Common.{◌≡◌, ◌↔◌, Bool, true, false, ⊎_elim, ℕ, zero, suc, ◌+◌, ◌*◌, ◌<◌, ◌≤◌, List, [], ◌∷◌, ◌++◌, length, map, take, get_or, refl, sym, ap, subst, ◌∙◌, arith, append_assoc}
 use Rattle.std.specs.Bool.{IsTrue}
-use Rattle.std.specs.List.{Any, flat_map}
+use Rattle.std.specs.List.{Any}
 use Rattle.std.proofs.lemmas.Bool.{cases_lt, false≢true}
 use Rattle.std.proofs.lemmas.List.{append-nil, map-append, map-id, length-append, length-map, take_more}
 use Rattle.std.proofs.lemmas.List.Concat.{flat_map-append}
 use Rattle.droid_signature_parser.specs.Patterns.{Element}
 use Rattle.droid_signature_parser.specs.Expansions as spec
-use Rattle.droid_signature_texts.specs.Texts.{each_behind, joined, joined_all, AreShort}
+use Rattle.droid_signature_texts.specs.Texts.{each_behind, joined, joined_all}
 use Rattle.droid_signature_texts.specs.Written.{written, written_all, written_each}
-use Rattle.droid_signature_texts.proofs.Exits.{any_left, any_right, all_append}
+use Rattle.droid_signature_texts.proofs.Exits.{any_left, any_right}
 
 -- the empty text behind texts, and before them
 pub joined_one : (xs : List (List ℕ)) → joined xs ([] ∷ []) ≡ xs
@@ -44,6 +44,11 @@ joined_assoc (x ∷ xs) ys zs =
     joined_append (each_behind x ys) (joined xs ys) zs
     ∙ ap (λ l. l ++ joined (joined xs ys) zs) (joined_behind x ys zs)
     ∙ ap (λ l. each_behind x (joined ys zs) ++ l) (joined_assoc xs ys zs)
+
+-- lists behind others
+pub joined_all_append : (xs ys : List (List (List ℕ))) → joined_all (xs ++ ys) ≡ joined (joined_all xs) (joined_all ys)
+joined_all_append [] ys = sym (one_joined (joined_all ys))
+joined_all_append (x ∷ xs) ys = ap (joined x) (joined_all_append xs ys) ∙ sym (joined_assoc x (joined_all xs) (joined_all ys))
 
 -- one more list
 pub joined_all_push : (xs : List (List (List ℕ))) (x : List (List ℕ)) → joined_all (xs ++ x ∷ []) ≡ joined (joined_all xs) x

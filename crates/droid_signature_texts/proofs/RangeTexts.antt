@@ -1,10 +1,9 @@
 -- The texts of ranges of several bytes, step by step.
-use Rattle.std.proofs.Common.{◌≡◌, ◌≢◌, ℕ, zero, suc, ◌+◌, ◌-◌, ◌<◌, ◌≤◌, Bool, true, false, List, [], ◌∷◌, ◌++◌, length, map, get_or, drop, refl, sym, ap, ◌∙◌, arith, append_assoc}
+use Rattle.std.proofs.Common.{◌≡◌, ◌≢◌, ℕ, zero, suc, ◌+◌, ◌-◌, ◌<◌, ◌≤◌, Bool, true, false, List, [], ◌∷◌, ◌++◌, length, refl, sym, ap, ◌∙◌, arith, append_assoc}
 use Rattle.std.specs.Prelude.{◌==◌, nat_lt, if◌then◌else◌}
-use Rattle.std.specs.List.{flat_map}
 use Rattle.std.proofs.lemmas.Bool.{ltb-true, ltb-false, eqb-true, eqb-false}
 use Rattle.std.proofs.lemmas.List.{append-nil, map-append}
-use Rattle.droid_signature_parser.specs.Patterns.{Element, Byte, Range}
+use Rattle.droid_signature_parser.specs.Patterns.{Element, Range}
 use Rattle.droid_signature_parser.specs.Expansions.{with_byte, any_bytes, range_before, upward_from, up_to, ranges}
 use Rattle.droid_signature_texts.specs.Written.{pair, written, written_all, written_each, behind}
 

@@ -1,7 +1,7 @@
 -- Items, each behind a mark.
-use Rattle.std.proofs.Common.{◌≡◌, ℕ, zero, suc, ◌+◌, ◌-◌, ◌<◌, ◌≤◌, List, [], ◌∷◌, ◌++◌, length, map, take, get_or, refl, sym, ap, ◌∙◌, arith, append_assoc}
+use Rattle.std.proofs.Common.{◌≡◌, ℕ, zero, suc, ◌+◌, ◌*◌, ◌-◌, ◌<◌, ◌≤◌, List, [], ◌∷◌, ◌++◌, length, map, take, drop, get_or, refl, sym, ap, ◌∙◌, arith, append_assoc}
 use Rattle.std.specs.List.{flat_map}
-use Rattle.std.proofs.lemmas.List.{append-nil, map-append, length-map, length-take-le, take_more}
+use Rattle.std.proofs.lemmas.List.{append-nil, drop_at, length-append, length-take-le, take_at, take_more}
 use Rattle.droid_signature_parser.specs.Expansions.{runs_outside, upward}
 use Rattle.droid_signature_parser.specs.Patterns.{Choice}
 use Rattle.droid_signature_texts.specs.Written.{marked, next_mark, pair, written}
@@ -36,20 +36,48 @@ length_upward : (n count : ℕ) → length (upward n count) ≡ count
 length_upward n zero = refl
 length_upward n (suc count) = ap suc (length_upward (suc n) count)
 
-upward_push : (n count : ℕ) → upward n (suc count) ≡ upward n count ++ (n + count) ∷ []
-upward_push n zero = ap (λ k. k ∷ []) (let e : n ≡ n + 0 = omega arith in e)
-upward_push n (suc count) = ap (λ l. n ∷ l) (upward_push (suc n) count ∙ ap (λ k. upward (suc n) count ++ k ∷ []) (let e : suc n + count ≡ n + suc count = omega arith in e))
+upward_append : (n a b : ℕ) → upward n (a + b) ≡ upward n a ++ upward (n + a) b
+upward_append n zero b = ap (upward n) (let e : 0 + b ≡ b = omega arith in e) ∙ ap (λ k. upward k b) (let e : n ≡ n + 0 = omega arith in e)
+upward_append n (suc a) b =
+    ap (upward n) (let e : suc a + b ≡ suc (a + b) = omega arith in e)
+    ∙ ap (λ l. n ∷ l) (upward_append (suc n) a b ∙ ap (λ k. upward (suc n) a ++ upward k b) (let e : suc n + a ≡ n + suc a = omega arith in e))
 
-pub upward_more : (mark from i b : ℕ) (old before with_mark all : List ℕ) (next : ℕ) → b ≡ from + i → before ≡ old ++ marked pair mark (upward from i) → next ≡ next_mark mark i
-    → with_mark ≡ before ++ next ∷ [] → all ≡ with_mark ++ pair b → all ≡ old ++ marked pair mark (upward from (i + 1))
-upward_more mark from i b old before with_mark all next is so_far mark_is one two =
+bars_length : (xs : List ℕ) → length (marked pair 124 xs) ≡ 3 * length xs
+bars_length [] = refl
+bars_length (x ∷ xs) = let more = bars_length xs in (let whole : suc (suc (suc (length (marked pair 124 xs)))) ≡ 3 * suc (length xs) = omega (arith, more) in whole)
+
+-- a part of the texts of all bytes, with a mark in the place of the first bar
+pub each_cut : (old with_mark all table : List ℕ) (mark from count : ℕ) → from + count ≤ 256 → 0 < count → table ≡ marked pair 124 (upward 0 256) → with_mark ≡ old ++ mark ∷ []
+    → all ≡ with_mark ++ take ((from + count) * 3 - (from * 3 + 1)) (drop (from * 3 + 1) table) → all ≡ old ++ marked pair mark (upward from count)
+each_cut old with_mark all table mark from zero fits some is one two = absurd (omega arith)
+each_cut old with_mark all table mark from (suc k) fits some is one two =
+    let rest = 256 - (from + suc k) in
+    let front = marked pair 124 (upward 0 from) in
+    let here = pair from ++ marked pair 124 (upward (suc from) k) in
+    let back = marked pair 124 (upward (from + suc k) rest) in
+    let sizes : 256 ≡ from + (suc k + rest) = omega arith in
+    let parts = ap (upward 0) sizes ∙ upward_append 0 from (suc k + rest) ∙ ap (λ n. upward 0 from ++ upward n (suc k + rest)) (let e : 0 + from ≡ from = omega arith in e) ∙ ap (λ l. upward 0 from ++ l) (upward_append from (suc k) rest) in
+    let bars : table ≡ front ++ (124 ∷ (here ++ back)) =
+    is ∙ ap (marked pair 124) parts ∙ bars_append pair (upward 0 from) (upward from (suc k) ++ upward (from + suc k) rest) ∙ ap (λ l. front ++ l) (bars_append pair (upward from (suc k)) (upward (from + suc k) rest)) in
+    let before : length (front ++ 124 ∷ []) ≡ from * 3 + 1 = omega (arith, length-append front (124 ∷ []), bars_length (upward 0 from), length_upward 0 from) in
+    let long : length here ≡ (from + suc k) * 3 - (from * 3 + 1) = omega (arith, bars_length (upward (suc from) k), length_upward (suc from) k) in
+    let dropped : drop (from * 3 + 1) table ≡ here ++ back = ap (drop (from * 3 + 1)) (bars ∙ sym (append_assoc front (124 ∷ []) (here ++ back))) ∙ drop_at (front ++ 124 ∷ []) (here ++ back) (from * 3 + 1) before in
     two
-    ∙ ap (λ l. l ++ pair b) (one ∙ ap (λ l. l ++ next ∷ []) so_far)
-    ∙ append_assoc (old ++ marked pair mark (upward from i)) (next ∷ []) (pair b)
-    ∙ append_assoc old (marked pair mark (upward from i)) (next ∷ pair b)
-    ∙ ap (λ n. old ++ (marked pair mark (upward from i) ++ (n ∷ pair b))) (mark_is ∙ ap (next_mark mark) (sym (length_upward from i)))
-    ∙ ap (λ l. old ++ l) (sym (marked_push pair mark (upward from i) b))
-    ∙ ap (λ l. old ++ marked pair mark l) (ap (λ k. upward from i ++ k ∷ []) is ∙ sym (upward_push from i) ∙ ap (upward from) (let e : suc i ≡ i + 1 = omega arith in e))
+    ∙ ap (λ l. l ++ take ((from + suc k) * 3 - (from * 3 + 1)) (drop (from * 3 + 1) table)) one
+    ∙ ap (λ l. (old ++ mark ∷ []) ++ take ((from + suc k) * 3 - (from * 3 + 1)) l) dropped
+    ∙ ap (λ l. (old ++ mark ∷ []) ++ l) (take_at here back ((from + suc k) * 3 - (from * 3 + 1)) long)
+    ∙ append_assoc old (mark ∷ []) here
+
+-- none of them
+pub none_cut : (text : List ℕ) (mark from count : ℕ) → count ≡ 0 → text ≡ text ++ marked pair mark (upward from count)
+none_cut text mark from count none = sym (ap (λ k. text ++ marked pair mark (upward from k)) none ∙ append-nil text)
+
+pub next_none : (mark count : ℕ) → count ≡ 0 → mark ≡ next_mark mark count
+next_none mark count none = sym (ap (next_mark mark) none)
+
+pub next_some : (mark count : ℕ) → 0 < count → 124 ≡ next_mark mark count
+next_some mark zero some = absurd (omega arith)
+next_some mark (suc count) some = refl
 
 -- runs of one byte
 singles : (mark : ℕ) (bs : List ℕ) → marked (flat_map pair) mark (map (λ b. b ∷ []) bs) ≡ marked pair mark bs

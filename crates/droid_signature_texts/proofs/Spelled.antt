@@ -1,5 +1,5 @@
 -- What is written is read: each element's text spells it.
-use Rattle.std.proofs.Common.{◌≡◌, ◌≢◌, ◌⊎◌, ℕ, zero, suc, ◌+◌, ◌*◌, ◌/◌, ◌%◌, ◌^◌, ◌<◌, ◌≤◌, Bool, true, false, List, [], ◌∷◌, ◌++◌, length, map, inl, inr, refl, sym, ap, subst, ◌∙◌, arith, append_assoc, rules}
+use Rattle.std.proofs.Common.{◌≡◌, ℕ, zero, suc, ◌+◌, ◌*◌, ◌/◌, ◌%◌, ◌^◌, ◌<◌, ◌≤◌, Bool, true, false, List, [], ◌∷◌, ◌++◌, length, inl, inr, refl, sym, ap, subst, arith, append_assoc}
 use Rattle.std.specs.Prelude.{◌==◌, decimal, codes, if◌then◌else◌}
 use Rattle.std.specs.Char.{digit_value}
 use Rattle.std.specs.List.{flat_map, All, AllByRecursion}
@@ -8,10 +8,10 @@ use Rattle.std.proofs.lemmas.Fmt.{decimal_by_steps, decimal_nonempty, length-dec
 use Rattle.std.proofs.lemmas.List.{append-nil}
 use Rattle.std.proofs.lemmas.List.Elements.{All-push}
 use Rattle.droid_signature_parser.specs.Patterns.{Element, Byte, AnyByte, Gap, OpenGap, Range, Except, Choice}
-use Rattle.droid_signature_parser.specs.PatternText.{IsPair, IsNumber, SpellsBytes, SpellsGap, SpellsAlternative, SpellsChoice, SpellsElement, SpellsAll, decimal_after}
+use Rattle.droid_signature_parser.specs.PatternText.{IsPair, IsNumber, SpellsBytes, SpellsAlternative, SpellsChoice, SpellsElement, SpellsAll, decimal_after}
 use Rattle.droid_signature_parser.proofs.TextLemmas.{decimal_push}
 use Rattle.droid_signature_parser.specs.Terms.{AreBytes}
-use Rattle.droid_signature_texts.specs.Written.{digit, pair, gap, open_gap, marked, written, written_all, IsWritable, AreWritable}
+use Rattle.droid_signature_texts.specs.Written.{digit, pair, marked, written, written_all, IsWritable, AreWritable}
 
 -- a hexadecimal digit has its value
 value_of_digit : (n : ℕ) → n < 16 → digit_value (digit n) ≡ n

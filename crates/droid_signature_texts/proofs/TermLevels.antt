@@ -1,22 +1,22 @@
 -- What terms and items are written as: a list of texts for each, one behind the other.
-use Rattle.std.proofs.Common.{◌≡◌, ◌⊎◌, ℕ, zero, suc, ◌+◌, ◌<◌, ◌≤◌, Bool, true, false, List, [], ◌∷◌, ◌++◌, length, map, take, get_or, Option, Some, None, refl, sym, ap, ◌∙◌, arith, inl, inr, subst, append_assoc}
+use Rattle.std.proofs.Common.{◌≡◌, ◌⊎◌, ℕ, ◌+◌, ◌<◌, Bool, true, false, List, [], ◌∷◌, ◌++◌, length, map, take, get_or, Option, Some, None, refl, sym, ap, ◌∙◌, arith, inl, inr, subst, append_assoc}
 use Rattle.std.specs.Prelude.{◌&&◌, option_map}
-use Rattle.std.specs.List.{Any, flat_map, list_all}
+use Rattle.std.specs.List.{flat_map, list_all}
 use Rattle.std.specs.declared.vec.Vec.{Vec}
 use Rattle.std.specs.declared.alloc.Global.{Global}
-use Rattle.std.proofs.lemmas.List.{append-nil, get_or-map, map-append, take-map, take_more, length-append, length-map}
+use Rattle.std.proofs.lemmas.List.{append-nil, get_or-map, map-append, take-map, take_more, length-map}
 use Rattle.std.proofs.lemmas.List.Concat.{flat_map-append}
 use Rattle.std.proofs.lemmas.Bool.{false≢true}
-use Rattle.droid_signature_parser.specs.Patterns.{Element, Byte, AnyByte, Gap, OpenGap, Range, Except, Choice}
+use Rattle.droid_signature_parser.specs.Patterns.{Byte, AnyByte, Gap, OpenGap, Range, Except, Choice}
 use Rattle.droid_signature_parser.specs.TermValues.{atom_of, gap_of}
 use Rattle.droid_signature_parser.specs.declared.term.TextItem.{TextItem}
 use Rattle.droid_signature_parser.specs.declared.term.TextItem.TheVariants as text_items
 use Rattle.droid_signature_texts.specs.Items.{items_of}
-use Rattle.droid_signature_parser.specs.Terms.{Atom, Plain, Outside, Between, Quoted, Term, One, OneOf}
+use Rattle.droid_signature_parser.specs.Terms.{Atom, Plain, Outside, Between, Quoted, Term, OneOf}
 use Rattle.droid_signature_parser.specs.Expansions.{patterns_of, patterns_of_atom, patterns_of_atoms, patterns_of_term, patterns_of_each, patterns_of_choice, run_of, runs_of, with_run}
 use Rattle.droid_signature_texts.specs.Texts.{joined, joined_all}
 use Rattle.droid_signature_texts.specs.Written.{pair, written, written_all, written_each, one_text, is_run, marked}
-use Rattle.droid_signature_texts.specs.Outcomes.{AreTooMuch, HasMany, IsTooMuch, IsReasonOfAtom, IsReasonOfAtoms, IsReasonOfTerm, IsReasonOfTerms}
+use Rattle.droid_signature_texts.specs.Outcomes.{AreTooMuch, IsTooMuch, IsReasonOfAtoms, IsReasonOfTerms}
 use Rattle.droid_signature_texts.specs.declared.reason.Reason.{Reason}
 use Rattle.droid_signature_texts.proofs.Joined.{joined_all_more, written_joined}
 

@@ -1,11 +1,11 @@
 -- The patterns of a text can be written.
-use Rattle.std.proofs.Common.{◌≡◌, ◌⊎◌, ℕ, zero, suc, ◌+◌, ◌-◌, ◌<◌, ◌≤◌, Bool, true, false, List, [], ◌∷◌, ◌++◌, length, map, Option, Some, None, inl, inr, ⊎_elim, refl, sym, ap, subst, ◌∙◌, arith}
+use Rattle.std.proofs.Common.{◌≡◌, ℕ, zero, suc, ◌+◌, ◌-◌, ◌<◌, ◌≤◌, Bool, true, false, List, [], ◌∷◌, ◌++◌, length, map, Option, Some, None, inl, inr, refl, ap, subst, arith}
 use Rattle.std.specs.Prelude.{◌==◌, nat_lt, option_map, if◌then◌else◌}
 use Rattle.std.specs.List.{AllByRecursion}
 use Rattle.std.proofs.lemmas.Bool.{ltb-true}
 use Rattle.std.proofs.lemmas.List.{length-append, length-map}
 use Rattle.droid_signature_parser.specs.Patterns.{Element, Byte, AnyByte, Gap, OpenGap, Range, Except, Choice}
-use Rattle.droid_signature_parser.specs.PatternText.{SpellsBytes, SpellsElement}
+use Rattle.droid_signature_parser.specs.PatternText.{SpellsElement}
 use Rattle.droid_signature_parser.specs.Terms.{Atom, Plain, Outside, Between, Quoted, Term, One, OneOf, AreBytes}
 use Rattle.droid_signature_parser.specs.TermText.{IsPlain, IsQuotable, SpellsAtom, SpellsAtoms, SpellsAlternatives, SpellsTerm, SpellsTerms}
 use Rattle.droid_signature_parser.specs.Expansions.{joined, upward, runs_outside, with_byte, any_bytes, range_before, upward_from, up_to, ranges, patterns_of_atom, patterns_of_atoms, patterns_of_each, patterns_of_choice, patterns_of_term, patterns_of, run_of, runs_of, with_run}

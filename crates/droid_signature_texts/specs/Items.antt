@@ -1,5 +1,5 @@
 -- The items of an alternative.
-use Rattle.std.specs.Prelude.{ℕ, List, map}
+use Rattle.std.specs.Prelude.{List, map}
 use Rattle.std.specs.declared.vec.Vec.{Vec}
 use Rattle.std.specs.declared.alloc.Global.{Global}
 use Rattle.droid_signature_parser.specs.TermValues.{atom_of}

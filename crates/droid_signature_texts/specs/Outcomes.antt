@@ -59,7 +59,7 @@ IsReasonOfAtoms reason atoms =
 -- why a registry cannot hold alternatives: one of them, or what the first of them are written as
 abbrev pub IsReasonOfEach : Reason → List (List Atom) → Type 0
 IsReasonOfEach reason alternatives =
-    Any (IsReasonOfAtoms reason) alternatives ⊎ ((count : ℕ) × HasMany (written_each (patterns_of_each (take count alternatives))) reason)
+    Any (IsReasonOfAtoms reason) alternatives ⊎ ((count : ℕ) × IsTooMuch (written_each (patterns_of_each (take count alternatives))) reason)
 
 -- why a registry cannot hold a term
 abbrev pub IsReasonOfTerm : Reason → Term → Type 0

@@ -14,8 +14,7 @@ use std::alloc::AllocError;
 pub(crate) fn push_byte(text: &mut Vec<u8>, byte: u8) -> Result<(), AllocError>
     ensures { OnOk result (text.new.items ≡ text.old.items ++ pair byte) }
 {
-    text.push(digit(byte / 16))?;
-    text.push(digit(byte % 16))?;
+    text.extend_from_slice(&[digit(byte / 16), digit(byte % 16)])?;
     Ok(())
 }
 

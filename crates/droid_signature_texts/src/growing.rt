@@ -28,7 +28,7 @@ pub fn expanded(alloc: Global, levels: &[PatternTexts]) -> Result<PatternTexts, 
 
 /// Texts, and a text that stands behind each of them. It grows in place where one text follows.
 #[derive(Drop)]
-pub(crate) struct Growing {
+pub struct Growing {
     texts: PatternTexts,
     last: Vec<u8>,
 }
@@ -48,14 +48,21 @@ impl Growing {
         ensures { IfOk result (λ growing. growing ≡ [] ∷ []) }
     {
         let texts = PatternTexts::one(alloc, Vec::new(alloc))?;
-        Ok(Growing {
+        Ok(Growing::of(alloc, texts))
+    }
+
+    /// These texts. Allocates nothing.
+    pub fn of(alloc: Global, texts: PatternTexts) -> Growing
+        ensures { result ≡ texts }
+    {
+        Growing {
             texts,
             last: Vec::new(alloc),
-        })
+        }
     }
 
     /// Appends each of the texts to each text. Stops early if that is too much for a registry: the rest need not be written.
-    pub(crate) fn push(&mut self, alloc: Global, level: &PatternTexts) -> Result<(), Stop>
+    pub fn push(&mut self, alloc: Global, level: &PatternTexts) -> Result<(), Stop>
         ensures ok { OnOk result (self.new ≡ spec.joined self.old level.now) }
         ensures err { IfLeftOut result (λ reason. IsTooMuch self.old reason ⊎ IsTooMuch (spec.joined self.old level.now) reason) }
     {
@@ -88,7 +95,7 @@ impl Growing {
     }
 
     /// Returns the texts.
-    pub(crate) fn texts(&self, alloc: Global) -> Result<PatternTexts, Stop>
+    pub fn texts(&self, alloc: Global) -> Result<PatternTexts, Stop>
         ensures ok { IfOk result (λ texts. texts ≡ self.now) }
         ensures small { IfOk result AreSmall }
         ensures err { IfLeftOut result (IsTooMuch self.now) }

@@ -18,7 +18,7 @@ pub use droid_signature_parser::{
     UnknownPart, Wrong, is_puid, read, read_text,
 };
 pub use element_texts::push_gap;
-pub use growing::expanded;
+pub use growing::{Growing, expanded};
 pub use pattern_text::PatternText;
 pub use pattern_texts::PatternTexts;
 pub use reason::{Reason, Stop};

@@ -3,7 +3,7 @@
 ghost use Rattle.std.specs.Prelude.{◌≡◌, ◌⊎◌, ◌<◌, ◌≤◌, ◌+◌, ◌*◌, ◌++◌, ◌∷◌, [], ◌==◌, ◌↔◌, IsTrue, length, slice_index_or, IfOk, OnOk};
 ghost use Rattle.droid_signature_texts.specs.Texts as spec;
 ghost use Rattle.droid_signature_texts.specs.Texts.{AreShort, AreSmall};
-ghost use Rattle.droid_signature_texts.specs.Outcomes.{HasLong, HasMany, HasMuch, IfLeftOut, IsTooMuch};
+ghost use Rattle.droid_signature_texts.specs.Outcomes.{HasLong, HasMuch, IfLeftOut, IsTooMuch};
 
 use crate::pattern_text::PatternText;
 use crate::reason::{Reason, Stop};
@@ -89,15 +89,22 @@ impl PatternTexts {
         Ok(())
     }
 
-    /// Adds the other texts, if there are at most 64 in all.
+    /// Adds the other texts, if there are at most 64 in all, with at most 16,384 bytes in all.
     pub fn add_all(&mut self, others: PatternTexts) -> Result<(), Stop>
         ensures ok { OnOk result (self.new ≡ self.old ++ others) }
-        ensures err { IfLeftOut result (HasMany (self.old ++ others)) }
+        ensures bounded { OnOk result (spec.total self.old ≤ 16384 → spec.total self.new ≤ 16384) }
+        ensures err { IfLeftOut result (IsTooMuch (self.old ++ others)) }
     {
+        if others.is_empty() {
+            return Ok(());
+        }
         if is_over(self.len(), others.len()) {
             return Err(Stop::LeftOut(Reason::ManyAlternatives));
         }
         self.append(others)?;
+        if are_long(self.as_slice()) {
+            return Err(Stop::LeftOut(Reason::LongPatterns));
+        }
         Ok(())
     }
 

@@ -1,6 +1,6 @@
 //! The texts of the patterns that stand for the terms of a sequence's or a fragment's text.
 
-ghost use Rattle.std.specs.Prelude.{◌≡◌, ◌+◌, ◌≤◌, ◌++◌, ◌∷◌, [], IfOk, OnOk, map};
+ghost use Rattle.std.specs.Prelude.{◌≡◌, ◌+◌, ◌≤◌, ◌++◌, ◌∷◌, [], IfOk, OnOk, length, map};
 ghost use Rattle.std.specs.List.{flat_map, list_all};
 ghost use Rattle.droid_signature_parser.specs.Patterns.{Choice};
 ghost use Rattle.droid_signature_parser.specs.TermValues.{atom_of, term_of};
@@ -22,6 +22,17 @@ use std::alloc::{AllocError, Global};
 
 /// The most bytes of the bounds of a range. This limit is the project's own.
 const MOST_RANGE_BYTES: usize = 16;
+
+/// Each byte as two digits, behind a bar.
+const EACH_BYTE: &[u8] = b"\
+    |00|01|02|03|04|05|06|07|08|09|0A|0B|0C|0D|0E|0F|10|11|12|13|14|15|16|17|18|19|1A|1B|1C|1D|1E|1F\
+    |20|21|22|23|24|25|26|27|28|29|2A|2B|2C|2D|2E|2F|30|31|32|33|34|35|36|37|38|39|3A|3B|3C|3D|3E|3F\
+    |40|41|42|43|44|45|46|47|48|49|4A|4B|4C|4D|4E|4F|50|51|52|53|54|55|56|57|58|59|5A|5B|5C|5D|5E|5F\
+    |60|61|62|63|64|65|66|67|68|69|6A|6B|6C|6D|6E|6F|70|71|72|73|74|75|76|77|78|79|7A|7B|7C|7D|7E|7F\
+    |80|81|82|83|84|85|86|87|88|89|8A|8B|8C|8D|8E|8F|90|91|92|93|94|95|96|97|98|99|9A|9B|9C|9D|9E|9F\
+    |A0|A1|A2|A3|A4|A5|A6|A7|A8|A9|AA|AB|AC|AD|AE|AF|B0|B1|B2|B3|B4|B5|B6|B7|B8|B9|BA|BB|BC|BD|BE|BF\
+    |C0|C1|C2|C3|C4|C5|C6|C7|C8|C9|CA|CB|CC|CD|CE|CF|D0|D1|D2|D3|D4|D5|D6|D7|D8|D9|DA|DB|DC|DD|DE|DF\
+    |E0|E1|E2|E3|E4|E5|E6|E7|E8|E9|EA|EB|EC|ED|EE|EF|F0|F1|F2|F3|F4|F5|F6|F7|F8|F9|FA|FB|FC|FD|FE|FF";
 
 /// Returns the texts of the patterns that stand for terms: at most 64, each of at most 4,096 bytes, with at most 16,384 in all.
 pub fn texts_of(alloc: Global, terms: &[TextTerm]) -> Result<PatternTexts, Stop>
@@ -110,26 +121,34 @@ fn push_item(text: &mut Vec<u8>, item: &TextItem) -> Result<(), AllocError>
 fn push_outside(text: &mut Vec<u8>, low: u8, high: u8) -> Result<(), AllocError>
     ensures { OnOk result (text.new.items ≡ text.old.items ++ written (Choice (runs_outside low high))) }
 {
-    let mark = push_each(text, b'(', 0, u16::from(low))?;
-    push_each(text, mark, u16::from(high) + 1, u16::from(255 - high))?;
+    let mark = push_each(text, b'(', 0, usize::from(low))?;
+    push_each(text, mark, usize::from(high) + 1, usize::from(255 - high))?;
     text.push(b')')?;
     Ok(())
 }
 
 /// Appends `count` bytes from one on, each behind a mark: the given one before the first, a bar before each other. Returns the
 /// mark for what follows.
-fn push_each(text: &mut Vec<u8>, mark: u8, from: u16, count: u16) -> Result<u8, AllocError>
+fn push_each(text: &mut Vec<u8>, mark: u8, from: usize, count: usize) -> Result<u8, AllocError>
     requires { from + count ≤ 256 }
     ensures text { OnOk result (text.new.items ≡ text.old.items ++ marked pair mark (upward from count)) }
     ensures mark { IfOk result (λ next. next ≡ spec.next_mark mark count) }
 {
-    let mut next = mark;
-    for place in 0..count {
-        text.push(next)?;
-        push_byte(text, (from + place) as u8)?;
-        next = b'|';
+    if count == 0 {
+        return Ok(mark);
     }
-    Ok(next)
+    let all = each_byte();
+    text.push(mark)?;
+    text.extend_from_slice(&all[from * 3 + 1..(from + count) * 3])?;
+    Ok(b'|')
+}
+
+/// Returns each byte as two digits, behind a bar.
+fn each_byte() -> &'static [u8]
+    ensures text { result.now ≡ marked pair 124 (upward 0 256) }
+    ensures len { length result.now ≡ 768 }
+{
+    EACH_BYTE
 }
 
 /// Returns the texts of the patterns that stand for one of several lists of items.

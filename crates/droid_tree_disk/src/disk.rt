@@ -4,7 +4,7 @@ ghost use Rattle.std.specs.Prelude.{◌≡◌, ◌≢◌, ◌++◌, ℕ, List, I
 
 use droid_frame::{Blob, Text};
 use droid_tree::{EntryKind, TreeFault};
-use std::alloc::Global;
+use std::alloc::{AllocError, Global};
 
 /// What a file system says of a path.
 #[derive(Clone, Copy, Debug, PartialEq, Eq)]
@@ -26,6 +26,7 @@ pub trait Disk {
     ghost use Rattle.droid_tree_disk.specs.Said.{Said, Names, NoNames, FolderOpened, FolderNotOpened, Looked, Opened, NotOpened, GaveNone};
     ghost use Rattle.droid_tree_disk.specs.Given.{Gives};
     ghost use Rattle.droid_tree_disk.specs.declared.disk.FileMetadata.{FileMetadata};
+    ghost use Rattle.droid_tree.specs.Paths.{below};
     ghost use Rattle.droid_tree.specs.declared.fault.TreeFault.TheVariants.{Memory, Unreadable, Changed};
 
     /// A file that is open for reading.
@@ -34,6 +35,9 @@ pub trait Disk {
     /// Relates the state before a call, what the file system said, and the state after it.
     ghost says: { Self → Said → Self → Type 0 };
 
+    /// The process's working folder is the folder that was listed last.
+    ghost is_inside: { Self → Type 0 };
+
     /// The path by which a file was opened.
     ghost path_of: { Self.File → List ℕ };
 
@@ -41,26 +45,44 @@ pub trait Disk {
     ghost metadata_of: { Self.File → FileMetadata };
 
     /// Returns the names in a folder, in any order, without `.` and `..`. Fails for a link to a folder, unless the path
-    /// ends in `/`.
+    /// ends in `/`. That folder may become the process's working folder, until [`Disk::leave`] is called.
     fn names(&mut self, alloc: Global, path: &str) -> Result<Vec<Blob>, TreeFault>
         ensures says { IfOk result (λ names. says self.old (Names path.now names.items) self.new) }
         ensures failed { IfErr result (λ fault. fault ≢ Memory → says self.old (NoNames path.now) self.new) };
 
+    /// Returns the metadata of a name in a folder, or `None` if there are none. Does not follow links. If a path is
+    /// needed, it is put together in `place`, whatever stood there.
+    fn look_in(
+        &mut self,
+        folder: &str,
+        name: &str,
+        place: &mut String,
+    ) -> Result<Option<FileMetadata>, AllocError>
+        ensures { IfOk result (λ found. says self.old (Looked (below folder.now name.now) found) self.new) };
+
+    /// Makes the folder in which the process was started its working folder again.
+    fn leave(&mut self)
+        ensures left { is_inside self.new → ⊥ }
+        ensures unseen { (before : Self) (said : Said) → says before said self.old → says before said self.new };
+
     /// Opens a folder for listing, and closes it again. Fails for a link to a folder, unless the path ends in `/`.
     fn see_folder(&mut self, path: &str) -> Result<(), TreeFault>
         ensures opened { OnOk result (says self.old (FolderOpened path.now) self.new) }
-        ensures failed { IfErr result (λ fault. fault ≢ Memory → says self.old (FolderNotOpened path.now) self.new) };
+        ensures failed { IfErr result (λ fault. fault ≢ Memory → says self.old (FolderNotOpened path.now) self.new) }
+        ensures left { is_inside self.new → ⊥ };
 
     /// Returns the metadata of a path, or `None` if there are none. Does not follow links.
     fn look(&mut self, path: &str) -> Option<FileMetadata>
-        ensures { says self.old (Looked path.now result) self.new };
+        ensures says { says self.old (Looked path.now result) self.new }
+        ensures left { is_inside self.new → ⊥ };
 
     /// Opens a file for reading. Takes the path over.
     fn open(&mut self, path: Text) -> Result<Self::File, TreeFault>
         ensures says { IfOk result (λ file. says self.old (Opened path (metadata_of file)) self.new) }
         ensures path { IfOk result (λ file. path_of file ≡ path) }
         ensures failed { IfErr result (λ fault. fault ≡ Unreadable → says self.old (NotOpened path) self.new) }
-        ensures known { IfErr result (λ fault. fault ≢ Changed) };
+        ensures known { IfErr result (λ fault. fault ≢ Changed) }
+        ensures left { is_inside self.new → ⊥ };
 
     /// Returns the metadata of an open file, taken when it was opened.
     fn metadata(file: &Self::File) -> FileMetadata
@@ -81,5 +103,6 @@ pub trait Disk {
     ) -> Result<(), TreeFault>
         ensures gave { OnOk result (Gives says self.old (path_of file.now) (metadata_of file.now) from wanted bytes.old.items bytes.new.items self.new) }
         ensures failed { IfErr result (λ fault. fault ≡ Unreadable → says self.old (GaveNone (path_of file.now) (metadata_of file.now) from wanted) self.new) }
-        ensures known { IfErr result (λ fault. fault ≢ Changed) };
+        ensures known { IfErr result (λ fault. fault ≢ Changed) }
+        ensures left { is_inside self.new → ⊥ };
 }

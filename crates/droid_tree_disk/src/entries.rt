@@ -11,8 +11,25 @@ use droid_frame::Blob;
 use droid_tree::{EntryKind, FolderEntry, TreeFault};
 use std::alloc::{AllocError, Global};
 
-/// Lists the folder at `path`. The path of an entry is `folder`, `/` and its name.
+/// Lists the folder at `path`. The path of an entry is `folder`, `/` and its name. At the end the process's working
+/// folder is that in which it was started.
 pub(crate) fn list<D: Disk>(
+    alloc: Global,
+    disk: &mut D,
+    path: &str,
+    folder: &str,
+) -> Result<Vec<FolderEntry>, TreeFault>
+    ensures listed { IfOk result (λ entries. ListsAll D.says path.now folder.now entries.items disk.old disk.new) }
+    ensures failed { IfErr result (λ fault. fault ≢ Memory → D.says disk.old (NoNames path.now) disk.new) }
+    ensures left { D.is_inside disk.new → ⊥ }
+{
+    let listed = list_inside(alloc, disk, path, folder);
+    disk.leave();
+    listed
+}
+
+/// Lists the folder. The process may then be in it.
+fn list_inside<D: Disk>(
     alloc: Global,
     disk: &mut D,
     path: &str,
@@ -42,7 +59,7 @@ fn add(entries: &mut Vec<FolderEntry>, entry: FolderEntry) -> Result<(), TreeFau
     }
 }
 
-/// Returns the entry of this name. The path is put together in `place`, whatever stood there.
+/// Returns the entry of this name. If a path is needed, it is put together in `place`, whatever stood there.
 fn entry_of<D: Disk>(
     disk: &mut D,
     folder: &str,
@@ -96,12 +113,11 @@ fn look_below<D: Disk>(
     let Ok(name) = std::str::from_utf8(name.as_slice()) else {
         return Ok(None);
     };
-    put_path(place, folder, name)?;
-    Ok(disk.look(place.as_str()))
+    disk.look_in(folder, name, place)
 }
 
 /// Puts the path of a name in a folder in the place of what stood in `place`.
-fn put_path(place: &mut String, folder: &str, name: &str) -> Result<(), AllocError>
+pub(crate) fn put_path(place: &mut String, folder: &str, name: &str) -> Result<(), AllocError>
     ensures { OnOk result (string_bytes place.new ≡ below folder.now name.now) }
 {
     place.clear();

@@ -39,7 +39,7 @@ impl<D: Disk + Drop> Folder<D> {
 }
 
 impl<D: Disk + Drop> Tree for Folder<D> {
-    ghost observes = { λ old observed new. ObservesBelow D.says old.top old.disk observed new.disk × (new.top ≡ old.top) };
+    ghost observes = { λ old observed new. ObservesBelow D.says old.top old.disk observed new.disk × (new.top ≡ old.top) × (D.is_inside new.disk → ⊥) };
 
     fn entries(&mut self, alloc: Global, path: &str) -> Result<Vec<FolderEntry>, TreeFault> {
         let top = self.top.as_str();
@@ -125,6 +125,7 @@ fn file_at<D: Disk>(
     ensures opened { IfOk result (λ file. OpensAt D.says (top.now ++ path.now) entry.now (D.metadata_of file) disk.old disk.new ⊎ (disk.new ≡ disk.old)) }
     ensures failed { IfErr result (λ fault. fault ≡ Unreadable → OpensNone D.says (top.now ++ path.now) entry.now disk.old disk.new) }
     ensures other { IfErr result (λ fault. fault ≡ Changed → IsExchanged D.says (top.now ++ path.now) entry.now disk.old disk.new) }
+    ensures left { IfErr result (λ fault. fault ≢ Memory → D.is_inside disk.new → ⊥) }
 {
     if let Some(file) = take_open::<D>(files, top, path, entry) {
         return Ok(file);
@@ -143,6 +144,7 @@ fn open_at<D: Disk>(disk: &mut D, path: Text, entry: &FolderEntry) -> Result<D::
     ensures opened { IfOk result (λ file. OpensAt D.says path entry.now (D.metadata_of file) disk.old disk.new) }
     ensures failed { IfErr result (λ fault. fault ≡ Unreadable → OpensNone D.says path entry.now disk.old disk.new) }
     ensures other { IfErr result (λ fault. fault ≡ Changed → IsExchanged D.says path entry.now disk.old disk.new) }
+    ensures left { D.is_inside disk.new → ⊥ }
 {
     let Some(there) = disk.look(path.as_str()) else {
         return Err(TreeFault::Unreadable);

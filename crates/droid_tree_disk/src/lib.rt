@@ -13,6 +13,7 @@ mod names;
 mod open_files;
 mod open_folder;
 mod output;
+mod start_folder;
 mod system;
 mod unfinished_file;
 

@@ -1,11 +1,11 @@
 //! A folder that stays open while its entries are looked at and opened.
 
-ghost use Rattle.std.specs.Prelude.{◌≡◌, IfSome};
+ghost use Rattle.std.specs.Prelude.{◌≡◌, ◌++◌, ◌∷◌, [], IfSome, IsTrue};
 ghost use Rattle.droid_tree_disk.specs.Places.{IsPlaceOf};
 
 use crate::folder::place_of;
 use droid_frame::Text;
-use std::alloc::Global;
+use std::alloc::{AllocError, Global};
 use std::fs::{self, File, Files, Metadata, OpenFile};
 use std::os::fd::AsRawFd;
 use std::os::unix::fs::MetadataExt;
@@ -47,14 +47,13 @@ impl OpenFolder {
         if !is_same_folder(&there, &found) {
             return None;
         }
-        let number = file.as_raw_fd();
-        let Ok(through) = format!(in alloc; "/proc/{process}/fd/{number}/") else {
+        let Ok(through) = path_through(alloc, process, &file) else {
             return None;
         };
         Some(OpenFolder {
             alloc,
             path,
-            through: Text::from(through),
+            through,
             _file: file,
         })
     }
@@ -64,6 +63,16 @@ impl OpenFolder {
         ensures { result.now ≡ self.now.through }
     {
         self.through.as_str()
+    }
+
+    /// Returns whether this is the folder at this path, which has no `/` at its end.
+    pub fn is_at(&self, path: &str) -> bool
+        ensures { IsTrue result → self.now.path ≡ path.now ++ 47 ∷ [] }
+    {
+        match self.path.as_str().strip_prefix(path) {
+            Some(rest) => rest == "/",
+            None => false,
+        }
     }
 
     /// Returns the path of something in the folder through the open folder. Returns `None` if this is no path of
@@ -81,6 +90,17 @@ impl OpenFolder {
     }
 }
 
+/// Returns the path of an open folder below `/proc`, with a `/` at its end.
+pub(crate) fn path_through(
+    alloc: Global,
+    process: &str,
+    folder: &File,
+) -> Result<Text, AllocError> {
+    let number = folder.as_raw_fd();
+    let path = format!(in alloc; "/proc/{process}/fd/{number}/")?;
+    Ok(Text::from(path))
+}
+
 /// Returns the path with a `/` at its end.
 fn with_slash(alloc: Global, path: &str) -> Option<Text> {
     let end = if path.ends_with('/') { "" } else { "/" };
@@ -91,6 +111,6 @@ fn with_slash(alloc: Global, path: &str) -> Option<Text> {
 }
 
 /// Returns whether both are folders, and the same one.
-fn is_same_folder(first: &Metadata, second: &Metadata) -> bool {
+pub(crate) fn is_same_folder(first: &Metadata, second: &Metadata) -> bool {
     first.is_dir() && second.is_dir() && first.dev() == second.dev() && first.ino() == second.ino()
 }

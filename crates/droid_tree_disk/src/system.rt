@@ -1,28 +1,35 @@
 //! The file system of this machine.
 
-ghost use Rattle.std.specs.Prelude.{◌≡◌, ◌≢◌, IfErr, IfOk, IfSome};
+ghost use Rattle.std.specs.Prelude.{◌≡◌, ◌≢◌, ◌++◌, ◌∷◌, [], IfErr, IfOk, IfSome, IsSomeAnd, IsTrue};
 ghost use Rattle.std.specs.Fs.{file_type};
 ghost use Rattle.droid_tree.specs.declared.fault.TreeFault.TheVariants.{Changed};
+ghost use Rattle.droid_tree_disk.specs.declared.start_folder.Stand.TheVariants.{Inside};
 ghost use Rattle.droid_tree_disk.specs.Machine.{IsMetadataOf, IsKindOf, IsOfSome, MaySay};
 
 use crate::disk::{Disk, FileMetadata};
+use crate::entries::put_path;
 use crate::file_bytes::add_bytes;
 use crate::names::read_names;
 use crate::open_folder::OpenFolder;
+use crate::start_folder::{Stand, StartFolder, enter, go_back_to};
 use droid_frame::{Blob, Text};
 use droid_tree::{EntryKind, TreeFault};
-use std::alloc::Global;
+use std::alloc::{AllocError, Global};
+use std::env::Env;
 use std::fs::{self, File, Files, Metadata, OpenFile};
 use std::os::unix::fs::MetadataExt;
 
 /// The file system of this machine. The folder that was listed last stays open, and what lies in it is reached through
-/// it where the machine has `/proc`.
+/// it where the machine has `/proc`. While its entries are looked at, it is the process's working folder.
 #[derive(Drop)]
 pub struct System<'a, R> {
     runtime: &'a R,
     listed: Option<OpenFolder>,
     /// The name of this process below `/proc`, once it is known.
     process: Option<Text>,
+    /// The folder in which the process was started, if the process can go back there.
+    start: Option<StartFolder>,
+    stand: Stand,
 }
 
 /// An open file of this machine.
@@ -40,6 +47,8 @@ impl<'a, R: Files<File = File>> System<'a, R> {
             runtime,
             listed: None,
             process: None,
+            start: None,
+            stand: Stand::Start,
         }
     }
 
@@ -48,6 +57,17 @@ impl<'a, R: Files<File = File>> System<'a, R> {
         match &self.listed {
             Some(folder) => folder.place(path),
             None => None,
+        }
+    }
+
+    /// Returns whether the process's working folder is the folder at this path, which has no `/` at its end.
+    fn is_in(&self, path: &str) -> bool
+        ensures inside { IsTrue result → self.now.stand ≡ Stand.Inside }
+        ensures its { IsTrue result → IsSomeAnd self.now.listed (λ folder. folder.path ≡ path.now ++ 47 ∷ []) }
+    {
+        match &self.listed {
+            Some(folder) => self.stand == Stand::Inside && folder.is_at(path),
+            None => false,
         }
     }
 
@@ -60,30 +80,83 @@ impl<'a, R: Files<File = File>> System<'a, R> {
     }
 }
 
-impl<R: Files<File = File>> Disk for System<'_, R> {
+impl<R: Files<File = File> + Env> System<'_, R> {
+    /// Makes the folder in which the process was started its working folder again. Returns whether it is.
+    fn go_back(&mut self) -> bool
+        ensures left { self.new.stand ≢ Stand.Inside }
+        ensures kept { self.new.runtime ≡ self.old.runtime }
+    {
+        match self.stand {
+            Stand::Start => true,
+            Stand::Lost => false,
+            Stand::Inside => {
+                self.stand = go_back_to(self.runtime, &self.start);
+                self.stand == Stand::Start
+            }
+        }
+    }
+
+    /// Finds out what this process is called below `/proc`, and opens the folder in which it was started.
+    fn begin(&mut self, alloc: Global)
+        ensures kept { self.new.runtime ≡ self.old.runtime }
+    {
+        if self.process.is_some() {
+            return;
+        }
+        self.process = own_process(self.runtime, alloc);
+        if let Some(process) = &self.process {
+            self.start = StartFolder::open(self.runtime, alloc, process.as_str());
+        }
+    }
+}
+
+impl<R: Files<File = File> + Env> Disk for System<'_, R> {
     type File = Opened;
 
     ghost says = { λ old said new. (new.runtime ≡ old.runtime) × MaySay said };
+
+    ghost is_inside = { λ system. system.stand ≡ Inside };
 
     ghost path_of = { λ opened. opened.path };
 
     ghost metadata_of = { λ opened. opened.metadata };
 
     fn names(&mut self, alloc: Global, path: &str) -> Result<Vec<Blob>, TreeFault> {
-        self.listed = None;
-        if self.process.is_none() {
-            self.process = own_process(self.runtime, alloc);
+        if !self.go_back() {
+            return Err(TreeFault::Unreadable);
         }
+        self.listed = None;
+        self.begin(alloc);
         let process = name_of(&self.process);
         let Some((folder, names)) = names_through(self.runtime, alloc, process, path) else {
             return names_at(self.runtime, alloc, path);
         };
+        if !names.is_empty() {
+            self.stand = enter(self.runtime, &self.start, &folder);
+        }
         self.listed = Some(folder);
         Ok(names)
     }
 
+    fn look_in(
+        &mut self,
+        folder: &str,
+        name: &str,
+        place: &mut String,
+    ) -> Result<Option<FileMetadata>, AllocError> {
+        if self.is_in(folder) {
+            return Ok(look_at(self.runtime, name));
+        }
+        put_path(place, folder, name)?;
+        Ok(self.look(place.as_str()))
+    }
+
+    fn leave(&mut self) {
+        let _ = self.go_back();
+    }
+
     fn see_folder(&mut self, path: &str) -> Result<(), TreeFault> {
-        if self.can_list(path) {
+        if self.go_back() && self.can_list(path) {
             Ok(())
         } else {
             Err(TreeFault::Unreadable)
@@ -91,6 +164,9 @@ impl<R: Files<File = File>> Disk for System<'_, R> {
     }
 
     fn look(&mut self, path: &str) -> Option<FileMetadata> {
+        if !self.go_back() {
+            return None;
+        }
         match self.place(path) {
             Some(place) => look_at(self.runtime, place.as_str()),
             None => look_at(self.runtime, path),
@@ -98,6 +174,9 @@ impl<R: Files<File = File>> Disk for System<'_, R> {
     }
 
     fn open(&mut self, path: Text) -> Result<Opened, TreeFault> {
+        if !self.go_back() {
+            return Err(TreeFault::Unreadable);
+        }
         match self.place(path.as_str()) {
             Some(place) => with_metadata(file_by(self.runtime, place.as_str())?, path),
             None => with_metadata(file_by(self.runtime, path.as_str())?, path),
@@ -122,6 +201,9 @@ impl<R: Files<File = File>> Disk for System<'_, R> {
         wanted: u32,
         bytes: &mut Vec<u8>,
     ) -> Result<(), TreeFault> {
+        if !self.go_back() {
+            return Err(TreeFault::Unreadable);
+        }
         add_bytes(&file.file, file.metadata.len, from, wanted, bytes)
     }
 }

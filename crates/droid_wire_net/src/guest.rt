@@ -9,8 +9,8 @@ use mio::net::TcpStream;
 use std::io::{ErrorKind, Read, Write};
 use std::net::SocketAddr;
 
-/// How often a read or a write is tried again that was interrupted.
-const TRIES: u32 = 64;
+/// How often a read or a write is tried: the 65th interruption is a fault.
+const TRIES: u32 = 65;
 
 /// A connection.
 #[derive(Drop)]

@@ -15,7 +15,7 @@ from concurrent.futures import ProcessPoolExecutor
 
 from lib.program import PROGRAM, SAMPLE, Serve
 from lib.submissions import submit
-from lib.trees import CHANGED, KIND, UNREAD, InChangingFolder, InFolder, profile
+from lib.trees import CHANGED, KIND, TWICE, UNREAD, InChangingFolder, InFolder, profile
 
 COLUMNS = ["difference", "path", "size", "hash", "formats", "found_path", "found_size", "found_hash", "found_formats", "reason"]
 # names of files and folders that a list has to quote or escape
@@ -666,6 +666,16 @@ class Changes(InChangingFolder):
                 self.make(kind)
                 rows = self.seen(LD_PRELOAD=os.environ["PRELOAD_CHANGES"], **self.exchanging(look))
                 self.assertEqual(rows, [kinds.get(due, (b"unreadable", self.PATH, due))])
+
+    def test_listed_twice(self):
+        """Of a name that its folder lists twice the first entry counts. With --quick both do, which ends the command."""
+        self.make("file")
+        env = os.environ | {"LD_PRELOAD": os.environ["PRELOAD_CHANGES"], "LISTED_TWICE": "b.txt"}
+        status, out, said = verify(self.top, "--against", self.path, "--quiet", env=env)
+        self.assertEqual((status, rows_in(out)), (0, []), said)
+        self.assertIn(TWICE, said)
+        status, out, said = verify(self.top, "--against", self.path, "--quick", "--quiet", env=env)
+        self.assertEqual((status, out, said.startswith(b"fault: Twice\n")), (4, b"", True), said)
 
     def test_removed(self):
         """A file that is no longer there, or not any more when it is opened, is unreadable: its folder had it."""

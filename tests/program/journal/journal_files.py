@@ -1,13 +1,14 @@
 """`run` and `serve` with a journal: what a start finds, and what is refused."""
 
 import os
+import random
 import socket
 import unittest
 
 from journal_file import header_size, header_text, md5, next_check, read, record_bytes
 from journal_session import REGISTRY, InJournal, contents, run_journal, sample_bytes, serving, store
 from lib.connections import connect, free_port, read_exactly
-from lib.frames import ADD_FOLDER, EXPORT, NODE, create, export_body, file, finish, folder, frame, piece, reply, status
+from lib.frames import ADD_FOLDER, EXPORT, HEADER, NODE, create, export_body, file, finish, folder, frame, piece, reply, status
 from lib.program import EVERYDAY, Serve, faults, preloaded, run_plainly
 from model_frames import answer, service_of_the_sample
 
@@ -108,6 +109,43 @@ class Starts(InJournal):
         self.assertEqual(read(contents(self.path)).records[: len(asked)], records)
 
 
+class LongBodies(InJournal):
+    """A body of 1,024 bytes or more goes into the check value by the MD5s of its eight parts."""
+
+    # the sizes of bodies: the last short one, and long ones whose last part has as many bytes as the others, and fewer
+    SIZES = (1_023, 1_024, 1_025, 1_031, 1_032, 65_548)
+
+    def setUp(self):
+        super().setUp()
+        self.asked = [create(1)]
+        for node, size in enumerate(self.SIZES, 1):
+            # the numbers of profile, file and piece stand in front of the content
+            content = random.Random(size).randbytes(size - 12)
+            self.asked += [file(2 * node, b"%d" % size, size - 12, size - 12), piece(2 * node + 1, node, 0, content)]
+        self.assertEqual(run_journal(self.path, b"".join(self.asked)), (0, by_model(self.asked), b""))
+        self.whole = contents(self.path)
+
+    def test_records(self):
+        found = read(self.whole)
+        self.assertEqual([record.request for record in found.records], self.asked)
+        self.assertEqual((found.end, found.damaged), (len(self.whole), False))
+        self.assertEqual(run_journal(self.path, self.asked[-1]), (0, by_model(self.asked)[-len(found.records[-1].reply) :], b""))
+
+    def test_a_changed_byte_of_each_part(self):
+        """The record is the last one, so that a start takes it for one that was cut off."""
+        kept = read(self.whole[:-1]).end
+        body = self.whole.index(self.asked[-1], kept) + HEADER.size
+        part = -(-self.SIZES[-1] // 8)
+        for place in range(8):
+            for at in (body + place * part, min(body + (place + 1) * part, body + self.SIZES[-1]) - 1):
+                changed = self.whole[:at] + bytes([self.whole[at] ^ 1]) + self.whole[at + 1 :]
+                store(self.path, changed)
+                code, written, said = run_journal(self.path)
+                self.assertEqual((code, written, faults(said.replace(b"journal: ", b"registry: "))), (0, b"", b""))
+                self.assertEqual((contents(self.path), contents(self.path + ".torn")), (changed[:kept], changed[kept:]))
+                os.remove(self.path + ".torn")
+
+
 class Refused(InJournal):
     def refuses(self, status, fault, *more, given=ASKED[1]):
         """The start ends so, and the file is as it was."""
@@ -124,7 +162,7 @@ class Refused(InJournal):
         self.assertEqual(contents(self.path), before)
 
     def test_no_journal(self):
-        for data in (b"x", b"droid_desk journal 2\n", sample_bytes(), bytes(100), header_text(sample_bytes())[:-1] + b"x"):
+        for data in (b"x", b"droid_desk journal 1\n", sample_bytes(), bytes(100), header_text(sample_bytes())[:-1] + b"x"):
             store(self.path, data)
             self.refuses(3, "Journal at 0")
 

@@ -71,6 +71,11 @@ def bytes_of(count, byte="61"):
     return byte * count
 
 
+def long_ways(count):
+    """Five alternatives of so many bytes and any byte, which are patterns of their own."""
+    return "(" + "|".join([bytes_of(count) + "??"] * 5) + ")"
+
+
 def priority(number):
     return f"<HasPriorityOverFileFormatID>{number}</HasPriorityOverFileFormatID>"
 
@@ -97,6 +102,9 @@ TAKEN = [
     (byte_sequence(part(bytes_of(2_048))), b"a" * 2_048),
     (byte_sequence(part("{65535}61")), bytes(65_535) + b"a"),
     (byte_sequence(part(bytes_of(2_047) + "(??|??|??|??)")), b"a" * 2_047 + b"."),
+    (byte_sequence(part(long_ways(1_637))), b"a" * 1_637 + b"."),
+    (byte_sequence(part("61", *[fragment("Right", bytes_of(1_637))] * 5)), b"a" * 1_638),
+    (byte_sequence(part(bytes_of(1_024)), part(bytes_of(1_023), position=2)), b"a" * 2_047),
     (byte_sequence(part("61")).replace(" SubSeqMinOffset='0'", ""), b"a"),
     (byte_sequence(part("61", fragment("Right", "62").replace(" MinOffset='0'", ""))), b"ab"),
 ]
@@ -135,6 +143,9 @@ NOT_TAKEN = [
     (byte_sequence(part("61", fragment("Left", bytes_of(32_768) + "*"))), LONG_TEXT),
     (byte_sequence(part(bytes_of(2_049))), LONG_PATTERN),
     (byte_sequence(part("61*" + bytes_of(1_636) + "(??|??|??|??|??)")), LONG_PATTERNS),
+    (byte_sequence(part(long_ways(1_638))), LONG_PATTERNS),
+    (byte_sequence(part("61", *[fragment("Right", bytes_of(1_639))] * 5)), LONG_PATTERNS),
+    (byte_sequence(part(bytes_of(1_024)), part(bytes_of(1_024), position=2)), LONG_PATTERN),
     (byte_sequence(part("61{4}")), GAP_AT_END),
     (byte_sequence(part("61*")), GAP_AT_END),
     (byte_sequence(part("")), GAP_AT_END),

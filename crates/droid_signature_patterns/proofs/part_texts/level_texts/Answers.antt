@@ -1,7 +1,7 @@
 -- One more fragment, and what a registry cannot hold.
 use Rattle.std.proofs.Common.{◌+◌, ◌++◌, inl, inr, ap, ◌∙◌, arith}
 use Rattle.std.proofs.lemmas.List.{take_all}
-use Rattle.droid_signature_texts.specs.Outcomes.{HasMany}
+use Rattle.droid_signature_texts.specs.Outcomes.{IsTooMuch}
 use Rattle.droid_signature_texts.specs.Written.{written_each}
 use Rattle.droid_signature_texts.proofs.Exits.{any_at, passed_on}
 use Rattle.droid_signature_patterns.specs.Parts.{level}
@@ -16,7 +16,7 @@ returns-in_err-more-clause-err c = passed_on (IsReasonOfLevel c.args.from c.args
 pub returns-in_err-add_all-clause-err : goal.returns-in_err-add_all-clause-err
 returns-in_err-add_all-clause-err c =
     let grown = level_more c.args.from c.args.position c.args.fragments.now c.loop-fragment.fragment-index c.fragment-item.result c.loop-fragment.texts c.in_ok-more.more (omega arith) c.fragment-item.is c.loop-fragment.invariant c.in_ok-more.ensures.ok in
-    passed_on (IsReasonOfLevel c.args.from c.args.position c.args.fragments.now) (HasMany (c.loop-fragment.texts ++ c.in_ok-more.more)) c.from_residual-in_err-add_all.result _ c.from_residual-in_err-add_all.ensures.1
+    passed_on (IsReasonOfLevel c.args.from c.args.position c.args.fragments.now) (IsTooMuch (c.loop-fragment.texts ++ c.in_ok-more.more)) c.from_residual-in_err-add_all.result _ c.from_residual-in_err-add_all.ensures.1
     (λ reason h. inr (c.loop-fragment.fragment-index + 1, rw grown at h)) c.in_err-add_all.ensures.err
 
 pub loop-fragment-preserved : goal.loop-fragment-preserved

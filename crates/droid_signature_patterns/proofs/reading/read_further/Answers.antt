@@ -1,5 +1,5 @@
 -- One more subsequence, one that is not read, and all of them.
-use Rattle.std.proofs.Common.{◌≡◌, ◌++◌, ◌∷◌, [], ◌∙◌, take, arith, ap, subst, sym}
+use Rattle.std.proofs.Common.{◌++◌, ◌∷◌, [], ◌∙◌, take, arith, ap, subst, sym}
 use Rattle.std.proofs.Common.{List}
 use Rattle.std.specs.List.{AllByRecursion, Any}
 use Rattle.std.proofs.lemmas.List.{take_all, take_more}

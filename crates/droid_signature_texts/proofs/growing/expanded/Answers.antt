@@ -1,5 +1,5 @@
 -- One more list of texts, and too many or too long ones.
-use Rattle.std.proofs.Common.{◌≡◌, ◌⊎◌, ◌<◌, ◌+◌, length, take, ⊎_elim, sym, ap, ◌∙◌, arith}
+use Rattle.std.proofs.Common.{◌⊎◌, ◌+◌, take, ⊎_elim, sym, ap, ◌∙◌, arith}
 use Rattle.droid_signature_texts.specs.Outcomes.{AreTooMuch, IsTooMuch}
 use Rattle.droid_signature_texts.specs.Texts.{joined, joined_all}
 use Rattle.droid_signature_texts.proofs.Exits.{passed_on}

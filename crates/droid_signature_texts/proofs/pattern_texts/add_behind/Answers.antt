@@ -1,5 +1,5 @@
 -- A text that is too long.
-use Rattle.std.proofs.Common.{◌≡◌, ℕ, ◌<◌, ◌++◌, List, length, subst, arith}
+use Rattle.std.proofs.Common.{ℕ, ◌<◌, ◌++◌, List, length, subst, arith}
 use Rattle.droid_signature_texts.specs.Outcomes.{HasLong}
 use Rattle.droid_signature_texts.specs.Texts.{IsLong, each_behind}
 use Rattle.droid_signature_texts.proofs.Exits.{any_map, passed_on}

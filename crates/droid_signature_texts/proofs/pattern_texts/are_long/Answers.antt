@@ -1,5 +1,5 @@
 -- More bytes than are left, and a text that fits.
-use Rattle.std.proofs.Common.{◌≡◌, ◌+◌, ◌<◌, length, take, refl, ap, arith}
+use Rattle.std.proofs.Common.{◌+◌, ◌<◌, length, refl, ap, arith}
 use Rattle.droid_signature_texts.specs.Texts.{total}
 use Rattle.droid_signature_texts.proofs.Totals.{total_more, total_take}
 use Rattle.droid_signature_texts.proofs.pattern_texts.are_long.Goals as goal

@@ -1,5 +1,5 @@
 -- One more text, one that is too long, and texts that are so together.
-use Rattle.std.proofs.Common.{◌≡◌, ◌⊎◌, ℕ, ◌<◌, ◌+◌, ◌++◌, List, length, take, inl, inr, refl, sym, ap, ◌∙◌, subst, arith}
+use Rattle.std.proofs.Common.{◌⊎◌, ℕ, ◌<◌, ◌+◌, ◌++◌, List, length, take, inl, inr, refl, sym, ap, ◌∙◌, subst, arith}
 use Rattle.std.specs.List.{Any}
 use Rattle.droid_signature_texts.specs.Outcomes.{HasLong, HasMuch}
 use Rattle.droid_signature_texts.specs.Texts.{each_behind, joined, total}

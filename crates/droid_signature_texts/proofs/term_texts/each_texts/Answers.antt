@@ -1,10 +1,10 @@
 -- One more alternative, and what a registry cannot hold.
-use Rattle.std.proofs.Common.{◌≡◌, ◌+◌, ◌<◌, ◌++◌, length, map, take, inl, inr, sym, ap, ◌∙◌, arith}
+use Rattle.std.proofs.Common.{◌+◌, ◌++◌, map, inl, inr, ap, ◌∙◌, arith}
 use Rattle.std.proofs.lemmas.List.{take_all, length-map}
 use Rattle.droid_signature_parser.specs.Expansions.{patterns_of_atoms, patterns_of_each}
 use Rattle.droid_signature_parser.specs.TermValues.{atom_of}
 use Rattle.droid_signature_texts.specs.Items.{items_of}
-use Rattle.droid_signature_texts.specs.Outcomes.{HasMany, IsReasonOfAtoms, IsReasonOfEach}
+use Rattle.droid_signature_texts.specs.Outcomes.{IsReasonOfAtoms, IsReasonOfEach, IsTooMuch}
 use Rattle.droid_signature_texts.specs.Written.{written_each}
 use Rattle.droid_signature_texts.proofs.Exits.{any_map, passed_on}
 use Rattle.droid_signature_texts.proofs.TermLevels.{each_more}
@@ -20,7 +20,7 @@ returns-in_err-alternative-clause-err c = passed_on (λ reason. IsReasonOfEach r
 pub returns-in_err-add_all-clause-err : goal.returns-in_err-add_all-clause-err
 returns-in_err-add_all-clause-err c =
     let grown = each_more items_of c.args.alternatives.now c.loop-items.items-index c.items-item.result c.loop-items.texts c.in_ok-alternative.alternative (omega arith) c.items-item.is c.loop-items.invariant (c.in_ok-alternative.ensures.ok ∙ ap (λ l. written_each (patterns_of_atoms (map atom_of l))) c.as_slice.ensures.value) in
-    passed_on (λ reason. IsReasonOfEach reason (map items_of c.args.alternatives.now)) (HasMany (c.loop-items.texts ++ c.in_ok-alternative.alternative)) c.from_residual-in_err-add_all.result _ c.from_residual-in_err-add_all.ensures.1
+    passed_on (λ reason. IsReasonOfEach reason (map items_of c.args.alternatives.now)) (IsTooMuch (c.loop-items.texts ++ c.in_ok-alternative.alternative)) c.from_residual-in_err-add_all.result _ c.from_residual-in_err-add_all.ensures.1
     (λ reason h. inr (c.loop-items.items-index + 1, rw grown at h)) c.in_err-add_all.ensures.err
 
 pub returns-clause-ok : goal.returns-clause-ok

@@ -1,11 +1,17 @@
--- One more byte.
-use Rattle.std.proofs.Common.{refl}
-use Rattle.droid_signature_texts.proofs.Runs.{next_more, upward_more}
+-- No bytes, and a part of all.
+use Rattle.std.proofs.Common.{arith}
+use Rattle.droid_signature_texts.proofs.Runs.{each_cut, next_none, next_some, none_cut}
 use Rattle.droid_signature_texts.proofs.term_texts.push_each.Goals as goal
 
-pub loop-place-preserved : goal.loop-place-preserved
-loop-place-preserved c = (
-  upward_more c.args.mark c.args.from c.loop-place.place _ c.args.text.now.items c.loop-place.text.items c.push.new.self.items _ c.loop-place.next refl
-      c.loop-place.invariant.0 c.loop-place.invariant.1 c.in_ok-push.ensures.items c.in_ok-push_byte.ensures,
-  next_more c.args.mark c.loop-place.place,
-)
+pub returns-then-count-eq0-clause-text : goal.returns-then-count-eq0-clause-text
+returns-then-count-eq0-clause-text c = none_cut c.args.text.now.items c.args.mark c.args.from c.args.count c.if-count-eq0.true
+
+pub returns-then-count-eq0-clause-mark : goal.returns-then-count-eq0-clause-mark
+returns-then-count-eq0-clause-mark c = next_none c.args.mark c.args.count c.if-count-eq0.true
+
+pub returns-clause-text : goal.returns-clause-text
+returns-clause-text c =
+    each_cut c.args.text.now.items c.push.new.self.items _ c.each_byte-all.result.now c.args.mark c.args.from c.args.count (omega arith) (omega arith) c.each_byte-all.ensures.text c.in_ok-push.ensures.items c.in_ok-extend_from_slice.ensures.items
+
+pub returns-clause-mark : goal.returns-clause-mark
+returns-clause-mark c = next_some c.args.mark c.args.count (omega arith)

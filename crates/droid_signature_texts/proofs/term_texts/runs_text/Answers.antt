@@ -1,5 +1,5 @@
 -- One more alternative.
-use Rattle.std.proofs.Common.{◌≡◌, ◌<◌, ◌++◌, [], length, map, sym, ap, ◌∙◌, arith}
+use Rattle.std.proofs.Common.{◌<◌, ◌++◌, [], length, map, sym, ap, ◌∙◌, arith}
 use Rattle.std.specs.List.{flat_map}
 use Rattle.std.proofs.lemmas.List.{length-map, get_or-map}
 use Rattle.droid_signature_parser.specs.TermValues.{atom_of}

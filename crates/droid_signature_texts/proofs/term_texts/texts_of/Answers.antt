@@ -1,5 +1,5 @@
 -- One more term, one that a registry cannot hold, and all of them.
-use Rattle.std.proofs.Common.{◌≡◌, ◌⊎◌, ◌<◌, ◌+◌, length, map, take, inl, refl, sym, ap, ◌∙◌, arith}
+use Rattle.std.proofs.Common.{◌⊎◌, map, inl, refl, ap, ◌∙◌, arith}
 use Rattle.std.proofs.lemmas.List.{take_all, length-map}
 use Rattle.droid_signature_parser.specs.TermValues.{term_of}
 use Rattle.droid_signature_texts.specs.Texts.{joined, joined_all}

@@ -1,7 +1,7 @@
-use Rattle.droid_tree_disk.proofs.Looks.{one_more}
+use Rattle.droid_tree_disk.proofs.Looks.{listed_then_left}
 use Rattle.droid_tree_disk.proofs.entries.list.Goals as goal
 
-pub loop-name-preserved : goal.loop-name-preserved
-loop-name-preserved g c =
-    one_more g.D.Disk.says c.args.folder.now c.loop-name.yielded c.in-Some.name c.loop-name.entries.items c.add.new.entries.items c.in_ok-entry.entry
-    c.names.new.self c.loop-name.disk c.entry_of.new.disk c.loop-name.invariant c.in_ok-entry.ensures.name c.in_ok-entry.ensures.looks c.in_ok-add.ensures.added
+pub returns-clause-listed : goal.returns-clause-listed
+returns-clause-listed g c =
+    let inside = c.list_inside-listed in
+    listed_then_left g.D.Disk.says c.args.path.now c.args.folder.now (λ listed. listed.items) c.args.disk.now inside.new.disk c.leave.new.self inside.result inside.ensures.listed c.leave.ensures.unseen

@@ -1,5 +1,5 @@
 -- The first text is too long with what stands behind it.
-use Rattle.std.proofs.Common.{◌≡◌, ◌<◌, length, sym, arith}
+use Rattle.std.proofs.Common.{length, sym, arith}
 use Rattle.std.proofs.lemmas.Bool.{eqb-false, ltb-true}
 use Rattle.droid_signature_texts.proofs.Joined.{long_behind}
 use Rattle.droid_signature_texts.proofs.growing.Growing.is_long.Goals as goal

@@ -1,6 +1,6 @@
 -- One text in place, or several.
-use Rattle.std.proofs.Common.{◌≡◌, ◌∷◌, [], inr, inl, sym, ap, ◌∙◌, arith}
-use Rattle.droid_signature_texts.specs.Outcomes.{HasLong, IsTooMuch}
+use Rattle.std.proofs.Common.{◌∷◌, [], inr, inl, sym, ap, ◌∙◌}
+use Rattle.droid_signature_texts.specs.Outcomes.{HasLong}
 use Rattle.droid_signature_texts.specs.Texts.{joined}
 use Rattle.droid_signature_texts.proofs.Exits.{same_stop}
 use Rattle.droid_signature_texts.proofs.Joined.{joined_one, one_list}

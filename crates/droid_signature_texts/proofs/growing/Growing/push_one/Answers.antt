@@ -1,5 +1,5 @@
 -- The text stands behind each, or it is too much.
-use Rattle.std.proofs.Common.{◌≡◌, ℕ, ◌<◌, List, [], ◌∷◌, length, refl, ap, ◌∙◌, subst}
+use Rattle.std.proofs.Common.{ℕ, ◌<◌, List, [], ◌∷◌, length, refl, ap, ◌∙◌, subst}
 use Rattle.std.specs.List.{Any}
 use Rattle.droid_signature_texts.specs.Texts.{joined}
 use Rattle.droid_signature_texts.proofs.Joined.{last_grows}

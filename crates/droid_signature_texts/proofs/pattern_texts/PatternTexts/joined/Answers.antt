@@ -1,5 +1,5 @@
 -- More than 64 texts, or at most 64.
-use Rattle.std.proofs.Common.{◌≡◌, ℕ, ◌≤◌, List, length, refl, inl, sym, ap, ◌∙◌, subst}
+use Rattle.std.proofs.Common.{ℕ, ◌≤◌, List, length, refl, inl, sym, ap, ◌∙◌, subst}
 use Rattle.droid_signature_texts.specs.Texts.{joined}
 use Rattle.droid_signature_texts.proofs.Joined.{few_pairs, length_joined, many_pairs}
 use Rattle.droid_signature_texts.proofs.pattern_texts.PatternTexts.joined.Goals as goal
