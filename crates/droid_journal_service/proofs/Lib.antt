@@ -1,4 +1,6 @@
-pub use Rattle.droid_core.proofs as core
+pub use Rattle.droid_journal_recovery.proofs.core as core
 pub mod HistoryLaws
 pub mod Accepting
 pub mod Journals
+pub mod SmallHistories
+mod Results

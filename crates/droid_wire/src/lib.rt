@@ -15,7 +15,7 @@ pub use droid_wire_client::{Client, HearFault, Heard, SubmitFault};
 pub use droid_wire_journal::{
     Came, Connections, Departure, DiskFault, DiskLog, Drive, DriveError, Fault, FileDrive,
     FileError, JournalHandler, Limits, LogFile, Pipe, Rules, Served, Service, ServiceJournal,
-    ServiceMachine, Tears, Took, WaitFault, answer_journal, crash_and_reopen, header_for,
+    ServiceMachine, Tears, Took, Unopened, WaitFault, answer_journal, crash_and_reopen, header_for,
     serve_journal,
 };
 pub use ended::Ended;

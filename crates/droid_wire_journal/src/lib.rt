@@ -8,7 +8,7 @@ mod stream;
 
 pub use droid_journal_service::{
     DiskFault, DiskLog, Drive, DriveError, Fault, FileDrive, FileError, Limits, LogFile, Service,
-    ServiceJournal, ServiceMachine, Tears, crash_and_reopen, header_for,
+    ServiceJournal, ServiceMachine, Tears, Unopened, crash_and_reopen, header_for,
 };
 pub use droid_wire_pipe::{
     Came, Connections, Departure, Handler, Pipe, Rules, Served, Took, WaitFault, serve_in_turns,

@@ -1,0 +1,16 @@
+//! Laws of the records of a service's journal. Each is the contract of a function that does nothing, and is proved with it.
+
+ghost use Rattle.std.specs.Prelude.{false, List};
+ghost use Rattle.droid_journal_recovery.specs.core.Histories.{History};
+ghost use Rattle.droid_journal_recovery.specs.core.Setting.{Setting};
+ghost use Rattle.droid_journal_recovery.specs.revival.BareWorlds.{Bare};
+ghost use Rattle.droid_journal_disk.specs.chain.Records.{Record};
+ghost use Rattle.droid_journal_service.specs.Histories.{Base, IsHistoryBehind, IsHistoryOf, LeadTo};
+
+/// The records of a journal lead to the history that its service stands for: so they do when the journal is made small.
+pub fn records_lead_to_their_history()
+    ensures whole { (setting : Setting) (records : List Record) (history : History) → IsHistoryOf setting records history → LeadTo setting (λ profile file. false) records history }
+    // Also those behind a journal that was made small.
+    ensures behind { (setting : Setting) (bare : Bare) (base : Base setting) (records : List Record) (history : History) → LeadTo setting bare base.first base.history
+        → IsHistoryBehind setting base records history → LeadTo setting bare records history }
+{}
