@@ -90,7 +90,7 @@ front_replies history longer frame reply front had = record {
 
 -- ---- records whose requests are whole
 
-bare_kind : (kind : ℕ) → (kind ≡ 68) ⊎ (kind ≡ 69) → nat_lt kind 7 ≡ true → ⊥
+pub bare_kind : (kind : ℕ) → (kind ≡ 68) ⊎ (kind ≡ 69) → nat_lt kind 7 ≡ true → ⊥
 bare_kind kind (inl is) less = false≢true (ap (λ (k : ℕ). nat_lt k 7) (sym is) ∙ less)
 bare_kind kind (inr is) less = false≢true (ap (λ (k : ℕ). nat_lt k 7) (sym is) ∙ less)
 
@@ -128,6 +128,35 @@ noted_then records first frame reply true before bare readable kind noted (inl w
 noted_then records first frame reply true before bare readable kind noted (inr is) = bare_more records (record_of first frame reply) (inr (record { frame = frame; readable = readable; request = refl; kind = kind is.0 }))
 noted_then records first frame reply false before bare readable kind noted (inl was) = noted was
 noted_then records first frame reply false before bare readable kind noted (inr is) = absurd (false≢true is.1)
+
+bare_parts : (its : List Record) (it : Record) → HasBare (its ++ it ∷ []) → HasBare its ⊎ IsBare it
+bare_parts [] it (inl bare) = inr bare
+bare_parts [] it (inr none) = absurd none
+bare_parts (x ∷ its) it (inl bare) = inl (inl bare)
+bare_parts (x ∷ its) it (inr has) =
+    elim (bare_parts its it has) [
+      | inl there ↦ inl (inr there)
+      | inr bare ↦ inr bare
+    ]
+
+kind_of : (first : Bool) (frame : Frame) (reply : Reply) → IsReadable frame → IsBare (record_of first frame reply) → (frame.kind ≡ 68) ⊎ (frame.kind ≡ 69)
+kind_of first frame reply readable bare =
+    let same : bare.frame ≡ frame = (reported_frame bare.frame frame [] [] bare.readable.is_frame readable.is_frame (ap (λ (t : List ℕ). t ++ []) (sym bare.request))).0 in
+    subst (λ (f : Frame). (f.kind ≡ 68) ⊎ (f.kind ≡ 69)) same bare.kind
+
+unset : (before after : Bool) → (before ≡ true → after ≡ true) → after ≡ false → before ≡ false
+unset true after stays isnt = absurd (false≢true (sym isnt ∙ stays refl))
+unset false after stays isnt = refl
+
+-- none of the records so far and not this request
+pub none_then : (records : List Record) (first : Bool) (frame : Frame) (reply : Reply) (accepted before bare after : Bool) → IsReadable frame → ((frame.kind ≡ 68) ⊎ (frame.kind ≡ 69) → bare ≡ true)
+    → (before ≡ false → HasBare records → ⊥) → (before ≡ true → after ≡ true) → (bare ≡ true → accepted ≡ true → after ≡ true) → after ≡ false → HasBare (extended records first frame reply accepted) → ⊥
+none_then records first frame reply true before bare after readable kind none stays comes isnt has =
+    elim (bare_parts records (record_of first frame reply) has) [
+      | inl there ↦ none (unset before after stays isnt) there
+      | inr one ↦ false≢true (sym isnt ∙ comes (kind (kind_of first frame reply readable one)) refl)
+    ]
+none_then records first frame reply false before bare after readable kind none stays comes isnt has = none (unset before after stays isnt) has
 
 -- ---- histories of records, behind another
 

@@ -26,7 +26,7 @@ use Rattle.droid_journal_disk.specs.chain.Records.{Record}
 use Rattle.droid_journal_recovery.specs.BareRecords.{HaveHistory, IsAfter, kept_frame}
 use Rattle.droid_journal_service.specs.Histories.{AreOf, Base, HasBare, IsBetween, IsHistoryBehind, IsHistoryOf, IsOf, LeadTo, no_base}
 use Rattle.droid_journal_service.proofs.Accepting.{contrary, kind_asked}
-use Rattle.droid_journal_service.proofs.HistoryLaws.{bare_front, between, some_history}
+use Rattle.droid_journal_service.proofs.HistoryLaws.{as_behind_nothing, as_history, bare_front, between, some_history}
 
 -- ---- no piece and no Finish of a file that has ended is accepted
 
@@ -188,3 +188,11 @@ module _ (setting : Setting) (bare : Bare) where
 pub whole_lead : (setting : Setting) (records : List Record) (history : History) → IsHistoryOf setting records history → LeadTo setting (λ profile file. false) records history
 whole_lead setting records history its =
     still_lead setting (λ profile file. false) (no_base setting) records history (record { have = refl; ended = λ profile file is. absurd (false≢true is) }) (record { rest = records; parts = refl; behind = its })
+
+-- those of any service
+pub each_leads : (setting : Setting) (base : Base setting) (records : List Record) (history : History) → IsHistoryBehind setting base records history → (bare : Bare) × LeadTo setting bare records history
+each_leads setting base records history its =
+    elim base.came [
+      | inl none ↦ ((λ profile file. false), whole_lead setting records history (as_history setting records history (as_behind_nothing setting base records history none.0 none.1 its)))
+      | inr small ↦ (small.0, still_lead setting small.0 base records history small.1 its)
+    ]

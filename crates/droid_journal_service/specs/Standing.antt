@@ -1,5 +1,5 @@
 -- What a service with a journal stands for (this project's own).
-use Rattle.std.specs.Prelude.{◌≡◌, ◌⊎◌, ℕ, true, List, length}
+use Rattle.std.specs.Prelude.{◌≡◌, ◌⊎◌, ℕ, true, false, List, length}
 use Rattle.droid_journal_recovery.specs.frame.Streams.{IsReadable}
 use Rattle.droid_journal_recovery.specs.frame.types.frame.Frame.{Frame}
 use Rattle.droid_journal_recovery.specs.frame.types.refusal.Refusal.TheVariants.{Malformed, Memory}
@@ -62,7 +62,8 @@ IsNextOr setting history frame after = (after ≡ history) ⊎ (after ≡ next s
 
 -- ---- reading a journal that was made small
 
--- the machine stands for the records, and knows of a record without its bytes
+-- the machine stands for the records, and knows whether one of them lacks its bytes
 pub record ReadsRecords (recovery : Recovery) (reader : SmallReader) (records : List Record) : Type 0 where
   pub recovers : recovering.StandsForRecords recovery reader.machine records
   pub noted : reader.is_small ≡ true → HasBare records
+  pub none : reader.is_small ≡ false → HasBare records → ⊥

@@ -104,6 +104,8 @@ impl<F: LogFile + Drop> ServiceJournal<F> {
         ensures opened { (setting : Setting) (s : List ℕ) → setting.limits ≡ limits_given limits → IsOf registry setting → F.has file s
             → IfOk result (λ o. IfSome o (λ it. (its : List Record) × WasFound header.now s its × HasBare its
             × ((bare : Bare) (history : History) → LeadTo setting bare its history → StandsForHistory F.has F.kept setting header.now it.journal history history))) }
+        ensures whole { (setting : Setting) (s : List ℕ) → setting.limits ≡ limits_given limits → IsOf registry setting → F.has file s
+            → IfOk result (λ o. o ≡ None → (its : List Record) × WasFound header.now s its × (HasBare its → ⊥)) }
         // So it does after it went on and crashed: no more is lost than of a journal that was never made small.
         ensures reopened { (setting : Setting) (s : List ℕ) (synced all : History) → setting.limits ≡ limits_given limits → IsOf registry setting → F.has file s → IsLeft setting header.now s synced all
             → IfOk result (λ o. IfSome o (λ it. (history : History) × StandsForHistory F.has F.kept setting header.now it.journal history history × IsBetween synced history all)) }
@@ -130,6 +132,7 @@ impl<F: LogFile + Drop> ServiceJournal<F> {
         places: NonZeroUsize,
     ) -> Result<Option<ServiceJournal<F>>, Fault>
         ensures small { (recovery : Recovery) (header : List ℕ) (its : List Record) → IsReady F.has F.kept (ReadsRecords recovery) header file opened its → IfOk result (λ o. IsSome o → HasBare its) }
+        ensures whole { (recovery : Recovery) (header : List ℕ) (its : List Record) → IsReady F.has F.kept (ReadsRecords recovery) header file opened its → IfOk result (λ o. o ≡ None → HasBare its → ⊥) }
         ensures stands { (setting : Setting) (bare : Bare) (header : List ℕ) (its : List Record) (history : History) → IsReady F.has F.kept (ReadsRecords (record { setting = setting; bare = bare })) header file opened its
             → LeadTo setting bare its history → IfOk result (λ o. IfSome o (λ it. StandsForHistory F.has F.kept setting header it.journal history history)) }
         ensures fault { IfErr result (λ fault. fault ≡ Fault.Memory) }
@@ -159,6 +162,13 @@ impl<F: LogFile + Drop> ServiceJournal<F> {
         let mut journal = journal;
         journal.machine.live = true;
         ServiceJournal { journal }
+    }
+
+    /// Returns the journal's file.
+    pub fn file(&self) -> &F
+        ensures { result.now ≡ self.now.journal.file }
+    {
+        &self.journal.file
     }
 
     /// Handles a request and returns its reply.

@@ -65,14 +65,17 @@ impl Machine for SmallReader {
 
 /// Whether a frame of this kind came without its bytes.
 fn is_bare(kind: u8) -> bool
-    ensures { result ≡ true → (kind ≡ 68) ⊎ (kind ≡ 69) }
+    ensures bare { result ≡ true → (kind ≡ 68) ⊎ (kind ≡ 69) }
+    ensures all { (kind ≡ 68) ⊎ (kind ≡ 69) → result ≡ true }
 {
     kind == BARE_PIECE || kind == BARE_FINISH
 }
 
 /// Whether there is a bare frame among those before and this one.
 fn has_bare(before: bool, bare: bool, accepted: bool) -> bool
-    ensures { result ≡ true → (before ≡ true) ⊎ ((bare ≡ true) × (accepted ≡ true)) }
+    ensures one { result ≡ true → (before ≡ true) ⊎ ((bare ≡ true) × (accepted ≡ true)) }
+    ensures stays { before ≡ true → result ≡ true }
+    ensures comes { bare ≡ true → accepted ≡ true → result ≡ true }
 {
     before || (bare && accepted)
 }

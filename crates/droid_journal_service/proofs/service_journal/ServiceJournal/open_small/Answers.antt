@@ -26,6 +26,12 @@ returns-in-Ok-clause-opened g c = λ setting s limits of here.
     IfOk-weaker c.revived.result _ _ (λ o. some_weaker _ _ o (λ it all. (found.0, all.0, all.1, λ bare history small. all.2 bare (history, small))))
     (both_there c.revived.result _ (HasBare found.0) _ found.1 some (each_there Bare (λ bare. (history : History) × LeadTo setting bare found.0 history) c.revived.result (λ bare x it. StandsForHistory g.F.LogFile.has g.F.LogFile.kept setting c.args.header.now it.journal x.0 x.0) each))
 
+pub returns-in-Ok-clause-whole : goal.returns-in-Ok-clause-whole
+returns-in-Ok-clause-whole g c = λ setting s limits of here.
+    let found = c.in-Ok.ensures.opened s here in
+    let recovery : Recovery = record { setting = setting; bare = λ profile file. false } in
+    IfOk-weaker c.revived.result _ _ (λ o none is. (found.0, found.1, none is)) (c.revived.ensures.whole recovery c.args.header.now found.0 (found.2 recovery (c.in_ok-reader.ensures.empty recovery limits of)).0)
+
 pub returns-in-Ok-clause-reopened : goal.returns-in-Ok-clause-reopened
 returns-in-Ok-clause-reopened g c = λ setting s synced all limits of here left.
     let recovery : Bare → Recovery = λ bare. record { setting = setting; bare = bare } in

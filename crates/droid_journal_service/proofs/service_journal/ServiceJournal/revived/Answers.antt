@@ -1,4 +1,4 @@
-use Rattle.std.proofs.Common.{rules, ◌≡◌, true, List, sym, subst, ◌∙◌, inr}
+use Rattle.std.proofs.Common.{rules, ◌≡◌, true, false, List, sym, subst, ◌∙◌, inr}
 use Rattle.droid_journal_recovery.specs.core.Histories.{world_of}
 use Rattle.droid_journal_recovery.proofs.revival.EndedFiles.{have_ended}
 use Rattle.droid_journal_disk.specs.journal.Opening.{IsReady}
@@ -15,6 +15,12 @@ returns-clause-small g c = λ recovery header its ready some.
     let reads = subst (λ (r : SmallReader). ReadsRecords recovery r its) (sym c.with.ensures.old) ready.machine in
     let is : c.with.result.0.is_small ≡ true = search rules in
     reads.noted is
+
+pub returns-then-clause-whole : goal.returns-then-clause-whole
+returns-then-clause-whole g c = λ recovery header its ready none.
+    let reads = subst (λ (r : SmallReader). ReadsRecords recovery r its) (sym c.with.ensures.old) ready.machine in
+    let isnt : c.with.result.0.is_small ≡ false = search rules in
+    reads.none isnt
 
 pub returns-clause-stands : goal.returns-clause-stands
 returns-clause-stands g c = λ setting bare header its history ready small.
