@@ -23,8 +23,8 @@ use Rattle.droid_journal_recovery.specs.revival.BareWorlds.{Bare}
 use Rattle.droid_journal_recovery.specs.revival.Ending.{IsEnded, has_ended}
 use Rattle.droid_journal_disk.specs.chain.Fronts.{IsFront}
 use Rattle.droid_journal_disk.specs.chain.Records.{Record}
-use Rattle.droid_journal_recovery.specs.BareRecords.{HaveHistory, IsAfter, kept_frame}
-use Rattle.droid_journal_service.specs.Histories.{AreOf, Base, HasBare, IsBetween, IsHistoryBehind, IsHistoryOf, IsOf, LeadTo, no_base}
+use Rattle.droid_journal_recovery.specs.BareRecords.{HaveHistory, IsAfter, LeadTo, kept_frame}
+use Rattle.droid_journal_service.specs.Histories.{AreOf, Base, HasBare, IsBetween, IsHistoryBehind, IsHistoryOf, IsOf, no_base}
 use Rattle.droid_journal_service.proofs.Accepting.{contrary, kind_asked}
 use Rattle.droid_journal_service.proofs.HistoryLaws.{as_behind_nothing, as_history, bare_front, between, some_history}
 

@@ -7,16 +7,15 @@ use Rattle.droid_journal_recovery.specs.frame.ReplyFrames.{reply_frame}
 use Rattle.droid_journal_recovery.specs.frame.Streams.{IsReadable}
 use Rattle.droid_journal_recovery.specs.frame.types.frame.Frame.{Frame}
 use Rattle.droid_journal_recovery.specs.frame.types.reply.Reply.{Reply}
-use Rattle.droid_journal_recovery.specs.core.Histories.{Handles, History, HasReply, answer, history_from, next, world_of}
+use Rattle.droid_journal_recovery.specs.core.Histories.{Handles, History, HasReply, answer, history_from, next}
 use Rattle.droid_journal_recovery.specs.core.Setting.{Setting}
 use Rattle.droid_journal_recovery.specs.core.Standing.{StandsFor}
 use Rattle.droid_journal_recovery.specs.core.Verdicts.{is_refused}
 use Rattle.droid_journal_recovery.specs.core.declared.service.Service.{Service}
 use Rattle.droid_journal_recovery.specs.revival.BareWorlds.{Bare}
-use Rattle.droid_journal_recovery.specs.revival.Ending.{IsEnded}
 use Rattle.droid_journal_disk.specs.chain.Fronts.{IsFront}
 use Rattle.droid_journal_disk.specs.chain.Records.{Record}
-use Rattle.droid_journal_recovery.specs.BareRecords.{HaveHistory}
+use Rattle.droid_journal_recovery.specs.BareRecords.{LeadTo}
 
 -- The record has the frames of this request and of its answer after the history. The request is a command that was accepted,
 -- or one that came again.
@@ -58,12 +57,6 @@ pub record IsBare (it : Record) : Type 0 where
 abbrev pub HasBare : List Record → Type 0
 HasBare [] = ⊥
 HasBare (it ∷ its) = IsBare it ⊎ HasBare its
-
--- The records have this history, without the bytes of these files, each of which has ended in it. No history can be computed
--- from such records: they have a mark in the place of a piece.
-pub record LeadTo (setting : Setting) (bare : Bare) (records : List Record) (history : History) : Type 0 where
-  pub have : HaveHistory setting bare [] records history
-  pub ended : (profile file : ℕ) → bare profile file ≡ true → IsEnded (world_of setting history) profile file
 
 -- ---- what a service has behind it
 

@@ -5,7 +5,8 @@ ghost use Rattle.droid_journal_recovery.specs.core.Histories.{History};
 ghost use Rattle.droid_journal_recovery.specs.core.Setting.{Setting};
 ghost use Rattle.droid_journal_recovery.specs.revival.BareWorlds.{Bare};
 ghost use Rattle.droid_journal_disk.specs.chain.Records.{Record};
-ghost use Rattle.droid_journal_service.specs.Histories.{Base, IsHistoryBehind, IsHistoryOf, LeadTo};
+ghost use Rattle.droid_journal_recovery.specs.BareRecords.{LeadTo};
+ghost use Rattle.droid_journal_service.specs.Histories.{Base, IsHistoryBehind, IsHistoryOf};
 
 /// The records of a journal lead to the history that its service stands for: so they do when the journal is made small.
 pub fn records_lead_to_their_history()

@@ -13,7 +13,8 @@ ghost use Rattle.droid_journal_disk.specs.journal.Standing.{IsSettled, Keeps};
 ghost use Rattle.droid_journal_disk.specs.chain.Chains.{NotByChance};
 ghost use Rattle.droid_journal_disk.specs.chain.Records.{Record};
 ghost use Rattle.droid_journal_recovery.specs.Standing.{GivesReply as GivesRecord, Recovery};
-ghost use Rattle.droid_journal_service.specs.Histories.{LeadTo, Base, GivesReply, HasBare, IsBetween, IsHistoryOf, StandsForRecords, no_base};
+ghost use Rattle.droid_journal_recovery.specs.BareRecords.{LeadTo};
+ghost use Rattle.droid_journal_service.specs.Histories.{Base, GivesReply, HasBare, IsBetween, IsHistoryOf, StandsForRecords, no_base};
 ghost use Rattle.droid_journal_service.specs.Standing.{AnswersIn, IsLeft, IsNextOr, KeepsHistory, ReadsRecords, StandsForHistory};
 
 use crate::service_machine::ServiceMachine;

@@ -1,4 +1,4 @@
-use Rattle.std.proofs.Common.{◌≡◌, ℕ, Bool, true, false, List, [], Option, Err, ap}
+use Rattle.std.proofs.Common.{◌≡◌, inl, inr, ℕ, Bool, true, false, List, [], Option, Err, ap}
 use Rattle.std.specs.Prelude.{IfOk, IfSome, IsSome}
 use Rattle.std.proofs.lemmas.Result.{IfOk-weaker}
 use Rattle.droid_journal_recovery.specs.core.Histories.{History}
@@ -6,7 +6,8 @@ use Rattle.droid_journal_recovery.specs.revival.BareWorlds.{Bare}
 use Rattle.droid_journal_disk.specs.chain.Records.{Record}
 use Rattle.droid_journal_disk.specs.journal.declared.fault.Fault.TheVariants as faults
 use Rattle.droid_journal_recovery.specs.Standing.{Recovery}
-use Rattle.droid_journal_service.specs.Histories.{LeadTo, HasBare, IsBetween}
+use Rattle.droid_journal_recovery.specs.BareRecords.{LeadTo}
+use Rattle.droid_journal_service.specs.Histories.{HasBare, IsBetween}
 use Rattle.droid_journal_service.specs.Standing.{ReadsRecords, StandsForHistory}
 use Rattle.droid_journal_service.specs.declared.service_journal.ServiceJournal.{ServiceJournal}
 use Rattle.droid_journal_service.proofs.HistoryLaws.{as_behind_nothing, as_history, none_small, some_history}
@@ -18,7 +19,7 @@ pub returns-in-Ok-clause-opened : goal.returns-in-Ok-clause-opened
 returns-in-Ok-clause-opened g c = λ setting s limits of here.
     let found = c.in-Ok.ensures.opened s here in
     let recovery : Bare → Recovery = λ bare. record { setting = setting; bare = bare } in
-    let stands : (bare : Bare) → ReadsRecords (recovery bare) c.in_ok-reader.field-0 [] = λ bare. c.in_ok-reader.ensures.empty (recovery bare) limits of in
+    let stands : (bare : Bare) → ReadsRecords (recovery bare) c.in_ok-reader.reader [] = λ bare. c.in_ok-reader.ensures.empty (recovery bare) limits of in
     let none : Bare = λ profile file. false in
     let some = c.revived.ensures.small (recovery none) c.args.header.now found.0 (found.2 (recovery none) (stands none)).0 in
     let each : (bare : Bare) (x : (history : History) × LeadTo setting bare found.0 history) → IfOk c.revived.result (λ o. IfSome o (λ it. StandsForHistory g.F.LogFile.has g.F.LogFile.kept setting c.args.header.now it.journal x.0 x.0)) =
@@ -35,7 +36,7 @@ returns-in-Ok-clause-whole g c = λ setting s limits of here.
 pub returns-in-Ok-clause-reopened : goal.returns-in-Ok-clause-reopened
 returns-in-Ok-clause-reopened g c = λ setting s synced all limits of here left.
     let recovery : Bare → Recovery = λ bare. record { setting = setting; bare = bare } in
-    let stands : (bare : Bare) → ReadsRecords (recovery bare) c.in_ok-reader.field-0 [] = λ bare. c.in_ok-reader.ensures.empty (recovery bare) limits of in
+    let stands : (bare : Bare) → ReadsRecords (recovery bare) c.in_ok-reader.reader [] = λ bare. c.in_ok-reader.ensures.empty (recovery bare) limits of in
     elim left.base.came [
       | inl nothing ↦ (
           let none : Bare = λ profile file. false in
@@ -76,7 +77,7 @@ returns-in-Err-clause-damage g c = λ n told s here.
 
 pub returns-in-Err-clause-refuted : goal.returns-in-Err-clause-refuted
 returns-in-Err-clause-refuted g c = λ n told setting bare s limits of here.
-    let stands : ReadsRecords (record { setting = setting; bare = bare }) c.in_ok-reader.field-0 [] = c.in_ok-reader.ensures.empty (record { setting = setting; bare = bare }) limits of in
+    let stands : ReadsRecords (record { setting = setting; bare = bare }) c.in_ok-reader.reader [] = c.in_ok-reader.ensures.empty (record { setting = setting; bare = bare }) limits of in
     let same : c.in-Err.fault ≡ faults.Record n = cc in
     c.in-Err.ensures.refuted n (ap Err same) (record { setting = setting; bare = bare }) s here stands
 
