@@ -1,24 +1,24 @@
 -- What goes into the journal: every command that is accepted and new.
 use Rattle.std.proofs.Common.{◌≡◌, ◌^◌, nat_lt, cond, Bool, true, false, Option, Some, None, IsSome, refl, sym, ap, subst, ◌∙◌}
 use Rattle.std.specs.Prelude.{MatchBool}
-use Rattle.droid_journal_recovery.specs.frame.Streams.{IsReadable}
-use Rattle.droid_journal_recovery.specs.frame.types.frame.Frame.{Frame}
-use Rattle.droid_journal_recovery.specs.frame.types.reply.Reply.{Reply}
-use Rattle.droid_journal_recovery.specs.frame.types.reply.Reply.TheVariants.{Refused}
-use Rattle.droid_journal_recovery.specs.frame.types.request.Request.{Request}
-use Rattle.droid_journal_recovery.specs.frame.Bodies.{request_kind}
-use Rattle.droid_journal_recovery.specs.frame.Fields.{IsBytes}
-use Rattle.droid_journal_recovery.specs.frame.Values.{request_in, request_value}
-use Rattle.droid_journal_recovery.proofs.frame.RequestLaws.{value_is_spelled}
-use Rattle.droid_journal_recovery.proofs.core.Judged.{judged}
-use Rattle.droid_journal_recovery.proofs.core.Meetings.{answer_by, next_by, whatever_meets}
-use Rattle.droid_journal_recovery.specs.core.Histories.{Entry, Handles, History, Meeting, New, answer, command, history_with, kept, meeting, next, reply_to, world_of}
-use Rattle.droid_journal_recovery.specs.core.Judging.{Accepted, Answered, Refuses, Verdict}
-use Rattle.droid_journal_recovery.specs.core.MemoryFaults.{is_out_of_memory}
-use Rattle.droid_journal_recovery.specs.core.Setting.{Setting}
-use Rattle.droid_journal_recovery.specs.core.Standing.{StandsFor}
-use Rattle.droid_journal_recovery.specs.core.Verdicts.{MayCome, is_command, is_refused}
-use Rattle.droid_journal_recovery.specs.core.declared.service.Service.{Service}
+use Rattle.droid_journal_smaller.specs.recovery.frame.Streams.{IsReadable}
+use Rattle.droid_journal_smaller.specs.recovery.frame.types.frame.Frame.{Frame}
+use Rattle.droid_journal_smaller.specs.recovery.frame.types.reply.Reply.{Reply}
+use Rattle.droid_journal_smaller.specs.recovery.frame.types.reply.Reply.TheVariants.{Refused}
+use Rattle.droid_journal_smaller.specs.recovery.frame.types.request.Request.{Request}
+use Rattle.droid_journal_smaller.specs.recovery.frame.Bodies.{request_kind}
+use Rattle.droid_journal_smaller.specs.recovery.frame.Fields.{IsBytes}
+use Rattle.droid_journal_smaller.specs.recovery.frame.Values.{request_in, request_value}
+use Rattle.droid_journal_smaller.proofs.recovery.frame.RequestLaws.{value_is_spelled}
+use Rattle.droid_journal_smaller.proofs.core.Judged.{judged}
+use Rattle.droid_journal_smaller.proofs.core.Meetings.{answer_by, next_by, whatever_meets}
+use Rattle.droid_journal_smaller.specs.core.Histories.{Entry, Handles, History, Meeting, New, answer, command, history_with, kept, meeting, next, reply_to, world_of}
+use Rattle.droid_journal_smaller.specs.core.Judging.{Accepted, Answered, Refuses, Verdict}
+use Rattle.droid_journal_smaller.specs.core.MemoryFaults.{is_out_of_memory}
+use Rattle.droid_journal_smaller.specs.core.Setting.{Setting}
+use Rattle.droid_journal_smaller.specs.core.Standing.{StandsFor}
+use Rattle.droid_journal_smaller.specs.core.Verdicts.{MayCome, is_command, is_refused}
+use Rattle.droid_journal_smaller.specs.core.declared.service.Service.{Service}
 use Rattle.droid_journal_service.specs.Histories.{history_then}
 
 -- the kind of a frame is that of the request that it asks

@@ -4,17 +4,17 @@ use Rattle.std.specs.Option.{option_or}
 use Rattle.std.proofs.lemmas.Bool.{false≢true}
 use Rattle.std.proofs.lemmas.List.{append-nil, append_cancel_left}
 use Rattle.std.proofs.lemmas.List.Folds.{find-append}
-use Rattle.droid_journal_recovery.specs.frame.Replies.{HasReplySpelling}
-use Rattle.droid_journal_recovery.specs.frame.ReplyFrames.{reply_frame}
-use Rattle.droid_journal_recovery.specs.frame.Streams.{IsReadable}
-use Rattle.droid_journal_recovery.specs.frame.types.frame.Frame.{Frame}
-use Rattle.droid_journal_recovery.specs.frame.types.reply.Reply.{Reply}
-use Rattle.droid_journal_recovery.proofs.frame.FrameLaws.{reported_frame}
-use Rattle.droid_journal_recovery.proofs.core.Meetings.{next_by, whatever_meets}
-use Rattle.droid_journal_recovery.specs.core.Histories.{Entry, HasReply, History, Meeting, New, answer, entry_of, history_from, history_with, is_under, kept, meeting, next}
-use Rattle.droid_journal_recovery.specs.core.Judging.{Accepted, Answered, Refuses, Verdict}
-use Rattle.droid_journal_recovery.specs.core.Setting.{Setting}
-use Rattle.droid_journal_recovery.specs.core.Verdicts.{is_refused}
+use Rattle.droid_journal_smaller.specs.recovery.frame.Replies.{HasReplySpelling}
+use Rattle.droid_journal_smaller.specs.recovery.frame.ReplyFrames.{reply_frame}
+use Rattle.droid_journal_smaller.specs.recovery.frame.Streams.{IsReadable}
+use Rattle.droid_journal_smaller.specs.recovery.frame.types.frame.Frame.{Frame}
+use Rattle.droid_journal_smaller.specs.recovery.frame.types.reply.Reply.{Reply}
+use Rattle.droid_journal_smaller.proofs.recovery.frame.FrameLaws.{reported_frame}
+use Rattle.droid_journal_smaller.proofs.core.Meetings.{next_by, whatever_meets}
+use Rattle.droid_journal_smaller.specs.core.Histories.{Entry, HasReply, History, Meeting, New, answer, entry_of, history_from, history_with, is_under, kept, meeting, next}
+use Rattle.droid_journal_smaller.specs.core.Judging.{Accepted, Answered, Refuses, Verdict}
+use Rattle.droid_journal_smaller.specs.core.Setting.{Setting}
+use Rattle.droid_journal_smaller.specs.core.Verdicts.{is_refused}
 use Rattle.droid_journal_disk.specs.journal.Machines.{extended, record_of}
 use Rattle.droid_journal_disk.specs.chain.Fronts.{IsFront}
 use Rattle.droid_journal_disk.specs.chain.Records.{Record}

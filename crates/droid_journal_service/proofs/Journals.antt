@@ -1,11 +1,11 @@
 -- A service and its journal, call by call.
 use Rattle.std.proofs.Common.{◌≡◌, ◌⊎◌, ℕ, Bool, true, false, Option, Some, None, IsSome, List, [], ◌∷◌, ◌++◌, refl, sym, subst, ◌∙◌, inl, inr}
 use Rattle.std.specs.Prelude.{MatchBool}
-use Rattle.droid_journal_recovery.specs.frame.types.frame.Frame.{Frame}
-use Rattle.droid_journal_recovery.specs.frame.types.reply.Reply.{Reply}
-use Rattle.droid_journal_recovery.specs.core.Histories.{Handles, History, answer, command, next}
-use Rattle.droid_journal_recovery.specs.core.MemoryFaults.{is_out_of_memory}
-use Rattle.droid_journal_recovery.specs.core.Setting.{Setting}
+use Rattle.droid_journal_smaller.specs.recovery.frame.types.frame.Frame.{Frame}
+use Rattle.droid_journal_smaller.specs.recovery.frame.types.reply.Reply.{Reply}
+use Rattle.droid_journal_smaller.specs.core.Histories.{Handles, History, answer, command, next}
+use Rattle.droid_journal_smaller.specs.core.MemoryFaults.{is_out_of_memory}
+use Rattle.droid_journal_smaller.specs.core.Setting.{Setting}
 use Rattle.droid_journal_disk.specs.journal.Machines.{Answers, extended, record_of}
 use Rattle.droid_journal_disk.specs.journal.Standing.{Keeps, Stands, WroteOne}
 use Rattle.droid_journal_disk.specs.journal.declared.journal.Journal.{Journal}

@@ -1,15 +1,15 @@
 -- Records whose requests are whole have one history, whichever files may lack their bytes.
 use Rattle.std.proofs.Common.{◌≡◌, ◌⊎◌, ℕ, List, [], ◌∷◌, ◌++◌, refl, sym, ap, subst, ◌∙◌, inl, inr}
 use Rattle.droid_journal_disk.specs.chain.Records.{Record}
-use Rattle.droid_journal_recovery.proofs.KeptFrames.{Told, Whole, Piece, Finish, frame_is, told}
-use Rattle.droid_journal_recovery.proofs.core.Meetings.{next_kept, next_new}
-use Rattle.droid_journal_recovery.proofs.frame.FrameLaws.{reported_frame}
-use Rattle.droid_journal_recovery.specs.BareRecords.{HaveHistory, IsAfter, MayBeKept}
-use Rattle.droid_journal_recovery.specs.core.Histories.{Entry, History, IsNext, New, history_from, history_with, next}
-use Rattle.droid_journal_recovery.specs.core.Judging.{Verdict}
-use Rattle.droid_journal_recovery.specs.core.Setting.{Setting}
-use Rattle.droid_journal_recovery.specs.frame.types.frame.Frame.{Frame}
-use Rattle.droid_journal_recovery.specs.revival.BareWorlds.{Bare}
+use Rattle.droid_journal_smaller.proofs.recovery.KeptFrames.{Told, Whole, Piece, Finish, frame_is, told}
+use Rattle.droid_journal_smaller.proofs.core.Meetings.{next_kept, next_new}
+use Rattle.droid_journal_smaller.proofs.recovery.frame.FrameLaws.{reported_frame}
+use Rattle.droid_journal_smaller.specs.recovery.BareRecords.{HaveHistory, IsAfter, MayBeKept}
+use Rattle.droid_journal_smaller.specs.core.Histories.{Entry, History, IsNext, New, history_from, history_with, next}
+use Rattle.droid_journal_smaller.specs.core.Judging.{Verdict}
+use Rattle.droid_journal_smaller.specs.core.Setting.{Setting}
+use Rattle.droid_journal_smaller.specs.recovery.frame.types.frame.Frame.{Frame}
+use Rattle.droid_journal_smaller.specs.recovery.revival.BareWorlds.{Bare}
 use Rattle.droid_journal_service.proofs.HistoryLaws.{bare_kind}
 use Rattle.droid_journal_service.specs.Histories.{AreOf, IsHistoryOf, IsOf}
 

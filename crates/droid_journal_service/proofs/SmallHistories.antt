@@ -1,29 +1,29 @@
 -- A service that was made of a small journal goes on: its records, read again, have the history that it stands for.
 use Rattle.std.proofs.Common.{◌≡◌, ℕ, ℤ, nat_lt, if◌then◌else◌, cond, Bool, true, false, List, [], ◌∷◌, ◌++◌, Option, Some, None, refl, sym, ap, subst, ◌∙◌, inl, inr}
 use Rattle.std.proofs.lemmas.Bool.{false≢true}
-use Rattle.droid_journal_recovery.specs.frame.Frames.{frame_bytes}
-use Rattle.droid_journal_recovery.specs.frame.Replies.{HasReplySpelling}
-use Rattle.droid_journal_recovery.specs.frame.ReplyFrames.{reply_frame}
-use Rattle.droid_journal_recovery.specs.frame.types.frame.Frame.{Frame}
-use Rattle.droid_journal_recovery.specs.frame.types.refusal.Refusal.{Refusal}
-use Rattle.droid_journal_recovery.specs.frame.types.refusal.Refusal.TheVariants.{NumberReused}
-use Rattle.droid_journal_recovery.specs.frame.types.reply.Reply.{Reply}
-use Rattle.droid_journal_recovery.specs.frame.types.reply.Reply.TheVariants.{Refused}
-use Rattle.droid_journal_recovery.specs.frame.types.request.Request.{Request}
-use Rattle.droid_journal_recovery.specs.frame.types.request.Request.TheVariants.{Piece, Finish}
-use Rattle.droid_journal_recovery.proofs.core.Judged.{judged_as}
-use Rattle.droid_journal_recovery.proofs.core.Meetings.{answer_kept, answer_malformed, answer_new, next_kept, next_new}
-use Rattle.droid_journal_recovery.specs.core.Histories.{Entry, History, New, answer, command, entry_of, history_from, history_with, is_request_of, kept, next, verdict_reply, world_of}
-use Rattle.droid_journal_recovery.specs.core.Judging.{Accepted, Answered, Refuses, Verdict, finish_checks, in_file, in_profile, judge, judge_finish, judge_piece, piece_checks, refusal_of, unless_refused}
-use Rattle.droid_journal_recovery.specs.core.Setting.{Setting}
-use Rattle.droid_journal_recovery.specs.core.Verdicts.{is_command, is_refused}
-use Rattle.droid_journal_recovery.specs.core.World.{Abandoned, Content, File, Folder, Node, Profile, World, node_at, numbered, unless_abandoned}
-use Rattle.droid_journal_recovery.proofs.revival.EndedFiles.{stays_ended}
-use Rattle.droid_journal_recovery.specs.revival.BareWorlds.{Bare}
-use Rattle.droid_journal_recovery.specs.revival.Ending.{IsEnded, has_ended}
+use Rattle.droid_journal_smaller.specs.recovery.frame.Frames.{frame_bytes}
+use Rattle.droid_journal_smaller.specs.recovery.frame.Replies.{HasReplySpelling}
+use Rattle.droid_journal_smaller.specs.recovery.frame.ReplyFrames.{reply_frame}
+use Rattle.droid_journal_smaller.specs.recovery.frame.types.frame.Frame.{Frame}
+use Rattle.droid_journal_smaller.specs.recovery.frame.types.refusal.Refusal.{Refusal}
+use Rattle.droid_journal_smaller.specs.recovery.frame.types.refusal.Refusal.TheVariants.{NumberReused}
+use Rattle.droid_journal_smaller.specs.recovery.frame.types.reply.Reply.{Reply}
+use Rattle.droid_journal_smaller.specs.recovery.frame.types.reply.Reply.TheVariants.{Refused}
+use Rattle.droid_journal_smaller.specs.recovery.frame.types.request.Request.{Request}
+use Rattle.droid_journal_smaller.specs.recovery.frame.types.request.Request.TheVariants.{Piece, Finish}
+use Rattle.droid_journal_smaller.proofs.core.Judged.{judged_as}
+use Rattle.droid_journal_smaller.proofs.core.Meetings.{answer_kept, answer_malformed, answer_new, next_kept, next_new}
+use Rattle.droid_journal_smaller.specs.core.Histories.{Entry, History, New, answer, command, entry_of, history_from, history_with, is_request_of, kept, next, verdict_reply, world_of}
+use Rattle.droid_journal_smaller.specs.core.Judging.{Accepted, Answered, Refuses, Verdict, finish_checks, in_file, in_profile, judge, judge_finish, judge_piece, piece_checks, refusal_of, unless_refused}
+use Rattle.droid_journal_smaller.specs.core.Setting.{Setting}
+use Rattle.droid_journal_smaller.specs.core.Verdicts.{is_command, is_refused}
+use Rattle.droid_journal_smaller.specs.core.World.{Abandoned, Content, File, Folder, Node, Profile, World, node_at, numbered, unless_abandoned}
+use Rattle.droid_journal_smaller.proofs.recovery.revival.EndedFiles.{stays_ended}
+use Rattle.droid_journal_smaller.specs.recovery.revival.BareWorlds.{Bare}
+use Rattle.droid_journal_smaller.specs.recovery.revival.Ending.{IsEnded, has_ended}
 use Rattle.droid_journal_disk.specs.chain.Fronts.{IsFront}
 use Rattle.droid_journal_disk.specs.chain.Records.{Record}
-use Rattle.droid_journal_recovery.specs.BareRecords.{HaveHistory, IsAfter, LeadTo, kept_frame}
+use Rattle.droid_journal_smaller.specs.recovery.BareRecords.{HaveHistory, IsAfter, LeadTo, kept_frame}
 use Rattle.droid_journal_service.specs.Histories.{AreOf, Base, HasBare, IsBetween, IsHistoryBehind, IsHistoryOf, IsOf, no_base}
 use Rattle.droid_journal_service.proofs.Accepting.{contrary, kind_asked}
 use Rattle.droid_journal_service.proofs.HistoryLaws.{as_behind_nothing, as_history, bare_front, between, some_history}

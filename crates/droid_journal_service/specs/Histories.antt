@@ -1,21 +1,21 @@
 -- The history of a journal's records (this project's own).
 use Rattle.std.proofs.Common.{inl, refl}
 use Rattle.std.specs.Prelude.{◌≡◌, ◌⊎◌, ℕ, if◌then◌else◌, nat_lt, Bool, true, false, List, [], ◌∷◌, ◌++◌}
-use Rattle.droid_journal_recovery.specs.frame.Frames.{frame_bytes}
-use Rattle.droid_journal_recovery.specs.frame.Replies.{HasReplySpelling}
-use Rattle.droid_journal_recovery.specs.frame.ReplyFrames.{reply_frame}
-use Rattle.droid_journal_recovery.specs.frame.Streams.{IsReadable}
-use Rattle.droid_journal_recovery.specs.frame.types.frame.Frame.{Frame}
-use Rattle.droid_journal_recovery.specs.frame.types.reply.Reply.{Reply}
-use Rattle.droid_journal_recovery.specs.core.Histories.{Handles, History, HasReply, answer, history_from, next}
-use Rattle.droid_journal_recovery.specs.core.Setting.{Setting}
-use Rattle.droid_journal_recovery.specs.core.Standing.{StandsFor}
-use Rattle.droid_journal_recovery.specs.core.Verdicts.{is_refused}
-use Rattle.droid_journal_recovery.specs.core.declared.service.Service.{Service}
-use Rattle.droid_journal_recovery.specs.revival.BareWorlds.{Bare}
+use Rattle.droid_journal_smaller.specs.recovery.frame.Frames.{frame_bytes}
+use Rattle.droid_journal_smaller.specs.recovery.frame.Replies.{HasReplySpelling}
+use Rattle.droid_journal_smaller.specs.recovery.frame.ReplyFrames.{reply_frame}
+use Rattle.droid_journal_smaller.specs.recovery.frame.Streams.{IsReadable}
+use Rattle.droid_journal_smaller.specs.recovery.frame.types.frame.Frame.{Frame}
+use Rattle.droid_journal_smaller.specs.recovery.frame.types.reply.Reply.{Reply}
+use Rattle.droid_journal_smaller.specs.core.Histories.{Handles, History, HasReply, answer, history_from, next}
+use Rattle.droid_journal_smaller.specs.core.Setting.{Setting}
+use Rattle.droid_journal_smaller.specs.core.Standing.{StandsFor}
+use Rattle.droid_journal_smaller.specs.core.Verdicts.{is_refused}
+use Rattle.droid_journal_smaller.specs.core.declared.service.Service.{Service}
+use Rattle.droid_journal_smaller.specs.recovery.revival.BareWorlds.{Bare}
 use Rattle.droid_journal_disk.specs.chain.Fronts.{IsFront}
 use Rattle.droid_journal_disk.specs.chain.Records.{Record}
-use Rattle.droid_journal_recovery.specs.BareRecords.{LeadTo}
+use Rattle.droid_journal_smaller.specs.recovery.BareRecords.{LeadTo}
 
 -- The record has the frames of this request and of its answer after the history. The request is a command that was accepted,
 -- or one that came again.

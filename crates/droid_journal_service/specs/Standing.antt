@@ -1,20 +1,20 @@
 -- What a service with a journal stands for (this project's own).
 use Rattle.std.specs.Prelude.{◌≡◌, ◌⊎◌, ℕ, true, false, List, length}
-use Rattle.droid_journal_recovery.specs.frame.Streams.{IsReadable}
-use Rattle.droid_journal_recovery.specs.frame.types.frame.Frame.{Frame}
-use Rattle.droid_journal_recovery.specs.frame.types.refusal.Refusal.TheVariants.{Malformed, Memory}
-use Rattle.droid_journal_recovery.specs.frame.types.reply.Reply.{Reply}
-use Rattle.droid_journal_recovery.specs.frame.types.reply.Reply.TheVariants.{Refused}
-use Rattle.droid_journal_recovery.specs.core.Histories.{Handles, History, next}
-use Rattle.droid_journal_recovery.specs.core.Setting.{Setting}
+use Rattle.droid_journal_smaller.specs.recovery.frame.Streams.{IsReadable}
+use Rattle.droid_journal_smaller.specs.recovery.frame.types.frame.Frame.{Frame}
+use Rattle.droid_journal_smaller.specs.recovery.frame.types.refusal.Refusal.TheVariants.{Malformed, Memory}
+use Rattle.droid_journal_smaller.specs.recovery.frame.types.reply.Reply.{Reply}
+use Rattle.droid_journal_smaller.specs.recovery.frame.types.reply.Reply.TheVariants.{Refused}
+use Rattle.droid_journal_smaller.specs.core.Histories.{Handles, History, next}
+use Rattle.droid_journal_smaller.specs.core.Setting.{Setting}
 use Rattle.droid_journal_disk.specs.journal.Standing.{Keeps, Stands}
 use Rattle.droid_journal_disk.specs.journal.Turns.{IsTurn}
 use Rattle.droid_journal_disk.specs.journal.declared.journal.Journal.{Journal}
 use Rattle.droid_journal_disk.specs.chain.Chains.{NoneLaterByChance, NotByChance, journal_bytes}
 use Rattle.droid_journal_disk.specs.chain.Fronts.{IsFront}
 use Rattle.droid_journal_disk.specs.chain.Records.{AllFit, Record}
-use Rattle.droid_journal_recovery.specs.Standing as recovering
-use Rattle.droid_journal_recovery.specs.Standing.{Recovery}
+use Rattle.droid_journal_smaller.specs.recovery.Standing as recovering
+use Rattle.droid_journal_smaller.specs.recovery.Standing.{Recovery}
 use Rattle.droid_journal_service.specs.Histories.{Base, HasBare, IsHistoryBehind, StandsForRecords}
 use Rattle.droid_journal_service.specs.declared.small_reader.SmallReader.{SmallReader}
 use Rattle.droid_journal_service.specs.declared.service_machine.ServiceMachine.{ServiceMachine}

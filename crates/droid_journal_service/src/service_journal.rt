@@ -1,26 +1,26 @@
 //! A service with its journal, in histories.
 
 ghost use Rattle.std.specs.Prelude.{◌≡◌, ◌≢◌, ◌≤◌, ◌++◌, ◌⊎◌, ℕ, List, [], None, IfErr, IfOk, IfSome, IsErr, IsErrOf, IsSome, OnErr, OnOk, length};
-ghost use Rattle.droid_journal_recovery.specs.core.Histories.{History};
-ghost use Rattle.droid_journal_recovery.specs.core.Identified.{IsOf};
-ghost use Rattle.droid_journal_recovery.specs.core.Setting.{Setting};
-ghost use Rattle.droid_journal_recovery.specs.core.Standing.{StandsFor};
-ghost use Rattle.droid_journal_recovery.specs.revival.BareWorlds.{Bare};
-ghost use Rattle.droid_journal_recovery.specs.core.state.Standing.{limits_given};
-ghost use Rattle.droid_journal_recovery.specs.frame.Replies.{HasReplySpelling};
+ghost use Rattle.droid_journal_smaller.specs.core.Histories.{History};
+ghost use Rattle.droid_journal_smaller.specs.core.Identified.{IsOf};
+ghost use Rattle.droid_journal_smaller.specs.core.Setting.{Setting};
+ghost use Rattle.droid_journal_smaller.specs.core.Standing.{StandsFor};
+ghost use Rattle.droid_journal_smaller.specs.recovery.revival.BareWorlds.{Bare};
+ghost use Rattle.droid_journal_smaller.specs.core.state.Standing.{limits_given};
+ghost use Rattle.droid_journal_smaller.specs.recovery.frame.Replies.{HasReplySpelling};
 ghost use Rattle.droid_journal_disk.specs.journal.Opening.{HasHeader, IsBegun, IsKept, IsReady, WasDamaged, WasFound, WasRefuted};
 ghost use Rattle.droid_journal_disk.specs.journal.Standing.{IsSettled, Keeps};
 ghost use Rattle.droid_journal_disk.specs.chain.Chains.{NotByChance};
 ghost use Rattle.droid_journal_disk.specs.chain.Records.{Record};
-ghost use Rattle.droid_journal_recovery.specs.Standing.{GivesReply as GivesRecord, Recovery};
-ghost use Rattle.droid_journal_recovery.specs.BareRecords.{LeadTo};
+ghost use Rattle.droid_journal_smaller.specs.recovery.Standing.{GivesReply as GivesRecord, Recovery};
+ghost use Rattle.droid_journal_smaller.specs.recovery.BareRecords.{LeadTo};
 ghost use Rattle.droid_journal_service.specs.Histories.{Base, GivesReply, HasBare, IsBetween, IsHistoryOf, StandsForRecords, no_base};
 ghost use Rattle.droid_journal_service.specs.Standing.{AnswersIn, IsLeft, IsNextOr, KeepsHistory, ReadsRecords, StandsForHistory};
 
 use crate::service_machine::ServiceMachine;
 use crate::small_reader::SmallReader;
 use droid_journal_disk::{Fault, Journal, LogFile, Opened, Tears, open};
-use droid_journal_recovery::{Frame, Limits, Registry, Reply, Service};
+use droid_journal_smaller::{Frame, Limits, Registry, Reply, Service};
 use std::alloc::Global;
 use std::num::NonZeroUsize;
 

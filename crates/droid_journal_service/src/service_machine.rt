@@ -1,13 +1,13 @@
 //! A service as the machine of a journal.
 
 ghost use Rattle.std.specs.Prelude.{◌≡◌, IsSome, true, false};
-ghost use Rattle.droid_journal_recovery.specs.core.Verdicts.{is_refused};
-ghost use Rattle.droid_journal_recovery.specs.core.Histories.{History, kept};
-ghost use Rattle.droid_journal_recovery.specs.core.Setting.{Setting};
-ghost use Rattle.droid_journal_recovery.specs.core.Standing.{StandsFor};
+ghost use Rattle.droid_journal_smaller.specs.core.Verdicts.{is_refused};
+ghost use Rattle.droid_journal_smaller.specs.core.Histories.{History, kept};
+ghost use Rattle.droid_journal_smaller.specs.core.Setting.{Setting};
+ghost use Rattle.droid_journal_smaller.specs.core.Standing.{StandsFor};
 
 use droid_journal_disk::{Handled, Machine};
-use droid_journal_recovery::{Frame, Reply, Service};
+use droid_journal_smaller::{Frame, Reply, Service};
 
 /// The kinds of requests below this one are commands, which change the service if they are accepted.
 const QUERIES: u8 = 7;

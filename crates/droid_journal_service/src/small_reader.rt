@@ -1,13 +1,13 @@
 //! The machine that reads a journal that was made small.
 
 ghost use Rattle.std.specs.Prelude.{◌≡◌, ◌≤◌, ◌⊎◌, [], true, IfErr, IfOk};
-ghost use Rattle.droid_journal_recovery.specs.core.Identified.{IsOf};
-ghost use Rattle.droid_journal_recovery.specs.core.state.Standing.{limits_given};
-ghost use Rattle.droid_journal_recovery.specs.Standing.{Recovery};
+ghost use Rattle.droid_journal_smaller.specs.core.Identified.{IsOf};
+ghost use Rattle.droid_journal_smaller.specs.core.state.Standing.{limits_given};
+ghost use Rattle.droid_journal_smaller.specs.recovery.Standing.{Recovery};
 ghost use Rattle.droid_journal_service.specs.Standing.{ReadsRecords};
 
 use droid_journal_disk::{Fault, Handled, Machine};
-use droid_journal_recovery::{BARE_FINISH, BARE_PIECE, Frame, Limits, RecoveringMachine, Registry};
+use droid_journal_smaller::{BARE_FINISH, BARE_PIECE, Frame, Limits, RecoveringMachine, Registry};
 use std::alloc::Global;
 
 /// Reads a journal that was made small, and notes whether it was: whether a record has a piece or a Finish without the bytes
@@ -45,8 +45,8 @@ impl SmallReader {
 }
 
 impl Machine for SmallReader {
-    ghost use Rattle.droid_journal_recovery.specs.Standing.{GivesReply};
-    ghost use Rattle.droid_journal_recovery.specs.Standing as recovering;
+    ghost use Rattle.droid_journal_smaller.specs.recovery.Standing.{GivesReply};
+    ghost use Rattle.droid_journal_smaller.specs.recovery.Standing as recovering;
     ghost use Rattle.droid_journal_service.specs.Standing as standing;
 
     ghost Setting = { recovering.Recovery };

@@ -7,4 +7,6 @@ pub mod laws;
 pub use droid_journal_recovery::{
     BARE_FINISH, BARE_PIECE, Frame, Limits, RecoveringMachine, Registry, Reply, Service,
 };
-pub use droid_journal_rewriting::{RewriteFault, compact, rewrite};
+pub use droid_journal_rewriting::{
+    Exchange, Folder, RewriteFault, Size, Smaller, compact, is_mostly_ended, replace, rewrite,
+};

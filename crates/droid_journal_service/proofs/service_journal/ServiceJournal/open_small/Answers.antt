@@ -1,12 +1,12 @@
 use Rattle.std.proofs.Common.{◌≡◌, inl, inr, ℕ, Bool, true, false, List, [], Option, Err, ap}
 use Rattle.std.specs.Prelude.{IfOk, IfSome, IsSome}
 use Rattle.std.proofs.lemmas.Result.{IfOk-weaker}
-use Rattle.droid_journal_recovery.specs.core.Histories.{History}
-use Rattle.droid_journal_recovery.specs.revival.BareWorlds.{Bare}
+use Rattle.droid_journal_smaller.specs.core.Histories.{History}
+use Rattle.droid_journal_smaller.specs.recovery.revival.BareWorlds.{Bare}
 use Rattle.droid_journal_disk.specs.chain.Records.{Record}
 use Rattle.droid_journal_disk.specs.journal.declared.fault.Fault.TheVariants as faults
-use Rattle.droid_journal_recovery.specs.Standing.{Recovery}
-use Rattle.droid_journal_recovery.specs.BareRecords.{LeadTo}
+use Rattle.droid_journal_smaller.specs.recovery.Standing.{Recovery}
+use Rattle.droid_journal_smaller.specs.recovery.BareRecords.{LeadTo}
 use Rattle.droid_journal_service.specs.Histories.{HasBare, IsBetween}
 use Rattle.droid_journal_service.specs.Standing.{ReadsRecords, StandsForHistory}
 use Rattle.droid_journal_service.specs.declared.service_journal.ServiceJournal.{ServiceJournal}

@@ -1,8 +1,8 @@
 use Rattle.std.proofs.Common.{rules, ◌≡◌, true, false, List, sym, subst, ◌∙◌, inr}
-use Rattle.droid_journal_recovery.specs.core.Histories.{world_of}
-use Rattle.droid_journal_recovery.proofs.revival.EndedFiles.{have_ended}
+use Rattle.droid_journal_smaller.specs.core.Histories.{world_of}
+use Rattle.droid_journal_smaller.proofs.recovery.revival.EndedFiles.{have_ended}
 use Rattle.droid_journal_disk.specs.journal.Opening.{IsReady}
-use Rattle.droid_journal_recovery.specs.Standing.{Recovery}
+use Rattle.droid_journal_smaller.specs.recovery.Standing.{Recovery}
 use Rattle.droid_journal_service.specs.Histories.{Base, Start, StandsForRecords}
 use Rattle.droid_journal_service.specs.Standing.{ReadsRecords}
 use Rattle.droid_journal_service.specs.declared.service_machine.ServiceMachine.{ServiceMachine}

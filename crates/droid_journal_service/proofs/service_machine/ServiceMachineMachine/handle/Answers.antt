@@ -1,4 +1,4 @@
-use Rattle.droid_journal_recovery.specs.core.Verdicts.{is_refused}
+use Rattle.droid_journal_smaller.specs.core.Verdicts.{is_refused}
 use Rattle.std.proofs.Common.{nat_lt}
 use Rattle.droid_journal_service.proofs.Accepting.{came, held, held_not}
 use Rattle.droid_journal_service.proofs.HistoryLaws.{records_then}
