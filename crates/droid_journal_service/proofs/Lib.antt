@@ -1,5 +1,5 @@
 pub use Rattle.droid_journal_smaller.proofs.core as core
-pub use Rattle.droid_journal_smaller.proofs as smaller
+pub use Rattle.droid_journal_smaller.proofs as compaction
 pub mod HistoryLaws
 pub mod Accepting
 pub mod Journals

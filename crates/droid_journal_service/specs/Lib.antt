@@ -7,7 +7,7 @@ pub use Rattle.droid_journal_disk.specs.Headers
 pub use Rattle.droid_journal_smaller.specs.recovery.revival.BareWorlds
 pub use Rattle.droid_journal_smaller.specs.recovery as recovery
 pub use Rattle.droid_journal_smaller.specs.rewriting as rewriting
-pub use Rattle.droid_journal_smaller.specs as smaller
+pub use Rattle.droid_journal_smaller.specs as compaction
 -- What a service and its journal stand for, in histories.
 pub mod Histories
 pub mod Standing

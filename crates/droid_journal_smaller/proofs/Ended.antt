@@ -20,7 +20,7 @@ use Rattle.droid_journal_recovery.specs.BareRecords.{HaveHistory, IsRecordOf, Ma
 use Rattle.droid_journal_rewriting.specs.Fields.{file_in, is_about, is_end, stamp_in}
 use Rattle.droid_journal_rewriting.specs.Shortening.{ends, has_ended, has_stamp, once}
 use Rattle.droid_journal_smaller.proofs.FrameBytes.{about_kind, file_is}
-use Rattle.droid_journal_smaller.proofs.Smaller.{its_stamp, repeat_stamp, spells}
+use Rattle.droid_journal_smaller.proofs.SmallerRecords.{its_stamp, repeat_stamp, spells}
 use Rattle.droid_journal_smaller.proofs.Stamps.{HaveStamps, no_stamps, stamp_seen, stamp_unseen, stamps_again, stamps_more}
 use Rattle.droid_journal_smaller.specs.BareFiles.{file_number, or_ended}
 

@@ -10,7 +10,7 @@ use Rattle.droid_journal_recovery.specs.chain.Records.{Record}
 use Rattle.droid_journal_rewriting.proofs.Wholes.{read_is_whole, same_records}
 use Rattle.droid_journal_rewriting.specs.Shortening.{IsShortened, IsWhole, has_ended, once, shortened}
 use Rattle.droid_journal_smaller.proofs.Ended.{are_ended}
-use Rattle.droid_journal_smaller.proofs.Smaller.{goes}
+use Rattle.droid_journal_smaller.proofs.SmallerRecords.{goes}
 use Rattle.droid_journal_smaller.proofs.Stamps.{no_stamps}
 use Rattle.droid_journal_smaller.specs.BareFiles.{bare_after}
 use Rattle.droid_journal_recovery.specs.BareRecords.{LeadTo}
