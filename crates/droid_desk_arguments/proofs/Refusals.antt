@@ -13,7 +13,7 @@ use Rattle.clap.specs.declared.parser.matches.ArgMatches.TheViews.{out-ArgMatche
 use Rattle.clap.specs.declared.parser.matches.SubCommand.{SubCommand}
 use Rattle.droid_desk_arguments.specs.Asking.{IsAsked, IsAskedBy, IsConversion, IsCount, IsMany, IsOneByOne, IsProfile, IsReport, IsSubmit, IsVerify, ReadsMany, has_no_checksums, names_two, reads_nothing}
 use Rattle.droid_desk_arguments.specs.declared.arguments.Asked.{Asked}
-use Rattle.droid_desk_arguments.specs.declared.arguments.Asked.TheVariants.{Profile, Submit, Verify, Report, Registry, Script, Run, Serve, ServeMany, Send}
+use Rattle.droid_desk_arguments.specs.declared.arguments.Asked.TheVariants.{Profile, Submit, Verify, Report, Registry, Script, Run, Serve, ServeMany, Send, Compact}
 use Rattle.droid_desk_arguments.specs.declared.conversion.RegistryOptions.{RegistryOptions}
 use Rattle.droid_desk_arguments.specs.declared.many.ManyOptions.{ManyOptions}
 use Rattle.droid_desk_arguments.specs.declared.profile.ProfileOptions.{ProfileOptions}
@@ -87,6 +87,9 @@ AsksServe rows =
 abbrev AsksSend : List Row → Type 0
 AsksSend rows = ((port : ℕ) × IsGiven 16 (one_of (codes "port") rows) port) × ((client : ℕ) × IsGiven 32 (one_of (codes "client") rows) client)
 
+abbrev AsksCompact : List Row → Type 0
+AsksCompact rows = ((registry : RegistrySource) × IsSource rows registry) × ((file : Text) × (Some file ≡ first_of (codes "file") rows))
+
 abbrev AsksBy : Text → List Row → Type 0
 AsksBy name rows =
     MatchBool (bytes_eq name (codes "profile")) ((options : ProfileOptions) × IsProfile rows options)
@@ -97,7 +100,8 @@ AsksBy name rows =
     (MatchBool (bytes_eq name (codes "script")) ((registry : RegistrySource) × IsSource rows registry)
     (MatchBool (bytes_eq name (codes "run")) ((registry : RegistrySource) × IsSource rows registry)
     (MatchBool (bytes_eq name (codes "serve")) (AsksServe rows)
-    (MatchBool (bytes_eq name (codes "send")) (AsksSend rows) ⊥))))))))
+    (MatchBool (bytes_eq name (codes "send")) (AsksSend rows)
+    (MatchBool (bytes_eq name (codes "compact")) (AsksCompact rows) ⊥)))))))))
 
 pub asks_by : (name : Text) (rows : List Row) (asked : Asked) → IsAskedBy name rows asked → AsksBy name rows
 asks_by name rows (Profile options) is = subst (λ (n : Text). AsksBy n rows) (sym is.0) (options, is.1)
@@ -110,6 +114,7 @@ asks_by name rows (Run registry journal) is = subst (λ (n : Text). AsksBy n row
 asks_by name rows (Serve registry journal port connections) is = subst (λ (n : Text). AsksBy n rows) (sym is.0) ((registry, is.1), (port, is.3), inl is.5)
 asks_by name rows (ServeMany registry journal port options) is = subst (λ (n : Text). AsksBy n rows) (sym is.0) ((registry, is.1), (port, is.3), inr (options, is.4))
 asks_by name rows (Send port client first) is = subst (λ (n : Text). AsksBy n rows) (sym is.0) ((port, is.1), (client, is.2))
+asks_by name rows (Compact registry file quiet) is = subst (λ (n : Text). AsksBy n rows) (sym is.0) ((registry, is.1), (file.now, is.2))
 
 -- `serve` for many connections asks for nothing
 one_left : (rows : List Row) → ((options : ManyOptions) → IsMany rows options → ⊥) → IsOneByOne rows ⊎ ((options : ManyOptions) × IsMany rows options) → IsOneByOne rows
@@ -126,17 +131,18 @@ reads_many rows (Some asked) many reads = reads
 -- no command has this name
 not_by : (name : Text) (asked : Asked) (rows : List Row) → (Some name ≡ Some (codes "profile") → ⊥) → (Some name ≡ Some (codes "submit") → ⊥) → (Some name ≡ Some (codes "verify") → ⊥)
     → (Some name ≡ Some (codes "report") → ⊥) → (Some name ≡ Some (codes "registry") → ⊥) → (Some name ≡ Some (codes "script") → ⊥) → (Some name ≡ Some (codes "run") → ⊥)
-    → (Some name ≡ Some (codes "serve") → ⊥) → (Some name ≡ Some (codes "send") → ⊥) → IsAskedBy name rows asked → ⊥
-not_by name (Profile options) rows profile submit verify report registry script run serve send is = profile (ap (λ (t : Text). Some t) is.0)
-not_by name (Submit options) rows profile submit verify report registry script run serve send is = submit (ap (λ (t : Text). Some t) is.0)
-not_by name (Verify options) rows profile submit verify report registry script run serve send is = verify (ap (λ (t : Text). Some t) is.0)
-not_by name (Report options) rows profile submit verify report registry script run serve send is = report (ap (λ (t : Text). Some t) is.0)
-not_by name (Registry options) rows profile submit verify report registry script run serve send is = registry (ap (λ (t : Text). Some t) is.0)
-not_by name (Script source) rows profile submit verify report registry script run serve send is = script (ap (λ (t : Text). Some t) is.0)
-not_by name (Run source journal) rows profile submit verify report registry script run serve send is = run (ap (λ (t : Text). Some t) is.0)
-not_by name (Serve source journal port connections) rows profile submit verify report registry script run serve send is = serve (ap (λ (t : Text). Some t) is.0)
-not_by name (ServeMany source journal port options) rows profile submit verify report registry script run serve send is = serve (ap (λ (t : Text). Some t) is.0)
-not_by name (Send port client first) rows profile submit verify report registry script run serve send is = send (ap (λ (t : Text). Some t) is.0)
+    → (Some name ≡ Some (codes "serve") → ⊥) → (Some name ≡ Some (codes "send") → ⊥) → (Some name ≡ Some (codes "compact") → ⊥) → IsAskedBy name rows asked → ⊥
+not_by name (Profile options) rows profile submit verify report registry script run serve send compact is = profile (ap (λ (t : Text). Some t) is.0)
+not_by name (Submit options) rows profile submit verify report registry script run serve send compact is = submit (ap (λ (t : Text). Some t) is.0)
+not_by name (Verify options) rows profile submit verify report registry script run serve send compact is = verify (ap (λ (t : Text). Some t) is.0)
+not_by name (Report options) rows profile submit verify report registry script run serve send compact is = report (ap (λ (t : Text). Some t) is.0)
+not_by name (Registry options) rows profile submit verify report registry script run serve send compact is = registry (ap (λ (t : Text). Some t) is.0)
+not_by name (Script source) rows profile submit verify report registry script run serve send compact is = script (ap (λ (t : Text). Some t) is.0)
+not_by name (Run source journal) rows profile submit verify report registry script run serve send compact is = run (ap (λ (t : Text). Some t) is.0)
+not_by name (Serve source journal port connections) rows profile submit verify report registry script run serve send compact is = serve (ap (λ (t : Text). Some t) is.0)
+not_by name (ServeMany source journal port options) rows profile submit verify report registry script run serve send compact is = serve (ap (λ (t : Text). Some t) is.0)
+not_by name (Send port client first) rows profile submit verify report registry script run serve send compact is = send (ap (λ (t : Text). Some t) is.0)
+not_by name (Compact source file quiet) rows profile submit verify report registry script run serve send compact is = compact (ap (λ (t : Text). Some t) is.0)
 
 -- the parse met a subcommand of this name
 name_met : {Z : Type 0} (met : Option (Box SubCommand Z)) (name : Text) (rows : List Row) → subcommand_rows met ≡ Some (name, rows) → option_map (λ b. (out-SubCommand (box_value b)).name.now) met ≡ Some name
@@ -149,11 +155,11 @@ none_met either is = let bad : false ≡ true = either.1 is in cc
 pub no_command : (m : ArgMatches) → (subcommand_name_of m ≡ Some (codes "profile") → ⊥) → (subcommand_name_of m ≡ Some (codes "submit") → ⊥) → (subcommand_name_of m ≡ Some (codes "verify") → ⊥)
     → (subcommand_name_of m ≡ Some (codes "report") → ⊥) → (subcommand_name_of m ≡ Some (codes "registry") → ⊥) → (subcommand_name_of m ≡ Some (codes "script") → ⊥)
     → (subcommand_name_of m ≡ Some (codes "run") → ⊥) → (subcommand_name_of m ≡ Some (codes "serve") → ⊥) → (subcommand_name_of m ≡ Some (codes "send") → ⊥)
-    → (asked : Asked) → IsAsked (subcommand_rows_of m) asked → ⊥
-no_command m profile submit verify report registry script run serve send asked is =
+    → (subcommand_name_of m ≡ Some (codes "compact") → ⊥) → (asked : Asked) → IsAsked (subcommand_rows_of m) asked → ⊥
+no_command m profile submit verify report registry script run serve send compact asked is =
     let named : subcommand_name_of m ≡ Some is.name = name_met (out-ArgMatches m).subcommand is.name is.rows is.is_entered in
     not_by is.name asked is.rows (λ n. profile (named ∙ n)) (λ n. submit (named ∙ n)) (λ n. verify (named ∙ n)) (λ n. report (named ∙ n)) (λ n. registry (named ∙ n)) (λ n. script (named ∙ n))
-    (λ n. run (named ∙ n)) (λ n. serve (named ∙ n)) (λ n. send (named ∙ n)) is.asks
+    (λ n. run (named ∙ n)) (λ n. serve (named ∙ n)) (λ n. send (named ∙ n)) (λ n. compact (named ∙ n)) is.asks
 
 -- an error of words without a fault
 pub memory_alone : (faults : Kinds) (error : Error) → faults ≡ [] → HasKind faults error → kind_of error ≡ OutOfMemory

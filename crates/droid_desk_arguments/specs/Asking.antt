@@ -5,7 +5,7 @@ use Rattle.clap.specs.declared.error.Error.{Error}
 use Rattle.clap.specs.declared.error.kind.ErrorKind.TheVariants as parsing
 use Rattle.droid_desk_arguments.specs.Commands.{program}
 use Rattle.droid_desk_arguments.specs.declared.arguments.Asked.{Asked}
-use Rattle.droid_desk_arguments.specs.declared.arguments.Asked.TheVariants.{Profile, Submit, Verify, Report, Registry, Script, Run, Serve, ServeMany, Send}
+use Rattle.droid_desk_arguments.specs.declared.arguments.Asked.TheVariants.{Profile, Submit, Verify, Report, Registry, Script, Run, Serve, ServeMany, Send, Compact}
 use Rattle.droid_desk_arguments.specs.declared.conversion.RegistryOptions.{RegistryOptions}
 use Rattle.droid_desk_arguments.specs.declared.many.ManyOptions.{ManyOptions}
 use Rattle.droid_desk_arguments.specs.declared.profile.ProfileOptions.{ProfileOptions}
@@ -140,6 +140,9 @@ IsAskedBy name rows (Send port client first) =
     (name ≡ codes "send") × IsGiven 16 (one_of (codes "port") rows) port
     × IsGiven 32 (one_of (codes "client") rows) client
     × IsNumberOr 64 1 (one_of (codes "first") rows) first
+IsAskedBy name rows (Compact registry file quiet) =
+    (name ≡ codes "compact") × IsSource rows registry × (Some file.now ≡ first_of (codes "file") rows)
+    × IsFlag (one_of (codes "quiet") rows) quiet
 
 -- what `serve` asks for, other than one connection after another
 abbrev pub ReadsMany : List Row → Option Asked → Type 0

@@ -122,6 +122,10 @@ serve_command = with_rule (with_rule (with_rule serve_many everyday_flag) regist
 abbrev pub send_command : App
 send_command = with_rule (with_rule (with_rule (new_app (codes "send")) port_option) client_option) first_option
 
+-- which journal becomes smaller, and the registry that it was made with
+abbrev pub compact_command : App
+compact_command = with_rule (with_rule (with_rule (with_rule (new_app (codes "compact")) (word_named (codes "file"))) everyday_flag) registry_option) (flag_named (codes "quiet"))
+
 -- one of the commands must be named, unless `--version` asks for the version
 abbrev pub top_command : App → App
 top_command a = record a { top = record a.top { subcommand_required = true; has_version = true } }
@@ -137,6 +141,7 @@ program =
     (with_subcommand
     (with_subcommand
     (with_subcommand
+    (with_subcommand
     (with_subcommand (top_command (new_app (codes "droid_desk"))) profile_command.top)
     submit_command.top)
     verify_command.top)
@@ -145,4 +150,5 @@ program =
     script_command.top)
     run_command.top)
     serve_command.top)
-    send_command.top
+    send_command.top)
+    compact_command.top

@@ -7,6 +7,7 @@ ghost use Rattle.droid_desk_arguments.specs.Commands.{program, run_command, scri
 ghost use Rattle.droid_desk_options.specs.Made.{Makes};
 ghost use Rattle.droid_desk_options.specs.Values.{Reads};
 
+use crate::compaction::{COMPACT, compact, compact_asked};
 use crate::conversion::{RegistryOptions, conversion, registry_asked};
 use crate::help::{ABOUT, EVERYDAY_HELP, HELP, REGISTRY_HELP, SCRIPT_ABOUT, SCRIPT_HELP};
 use crate::many::{AT_ONCE, FOREVER, IDLE, ManyOptions, VERBOSE, is_one_by_one, many_options};
@@ -112,6 +113,12 @@ pub enum Asked<'a> {
         client: u32,
         first: u64,
     },
+    /// Make the journal in this file smaller. With `quiet` nothing is printed of it.
+    Compact {
+        registry: RegistrySource<'a>,
+        file: &'a str,
+        quiet: bool,
+    },
 }
 
 /// Reads the words of a command line, the program's own name first. The error has what to print, and the exit status.
@@ -210,7 +217,10 @@ fn asked_by<'a>(matches: &ArgMatches<'a>) -> Option<Asked<'a>>
     if let Some(serve) = matches.subcommand_matches(SERVE) {
         return serve_asked(serve);
     }
-    send_asked(matches.subcommand_matches(SEND)?)
+    if let Some(send) = matches.subcommand_matches(SEND) {
+        return send_asked(send);
+    }
+    compact_asked(matches.subcommand_matches(COMPACT)?)
 }
 
 fn script_asked<'a>(script: &ArgMatches<'a>) -> Option<Asked<'a>>
@@ -287,6 +297,7 @@ fn command<'a>(alloc: Global) -> Result<Command<'a>, AllocError>
         .command(run(alloc))
         .command(serve(alloc))
         .command(send(alloc))
+        .command(compact(alloc))
         .made
 }
 

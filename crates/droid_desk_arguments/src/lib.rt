@@ -2,6 +2,8 @@
 #![tactic(auto)]
 
 mod arguments;
+mod compaction;
+mod compaction_help;
 mod conversion;
 mod conversion_help;
 mod help;

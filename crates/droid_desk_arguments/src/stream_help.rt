@@ -63,8 +63,9 @@ pub const SERVE_HELP: &str = "\
 The service prints `listening P` to standard output once it listens. It answers each connection as
 `droid_desk run` answers its input, up to 1,000,000 frames. The next connection finds all that the
 ones before have sent. When the service ends, all is lost, unless it has a journal: `droid_desk run
---help` says how. Failed connections aren't logged and don't stop it: a client that lost its
-connection sends its requests again under the same numbers.
+--help` says how. A large journal may be made smaller at the start: `droid_desk compact --help`.
+Failed connections aren't logged and don't stop it: a client that lost its connection sends its
+requests again under the same numbers.
 
 With --at-once no client waits for another's silence. Replies come in order on each connection; the
 requests of all are handled one after another, up to 16 of one before the next one's turn. A further

@@ -10,4 +10,5 @@ returns c =
     let made_6 = c.command-6.ensures _ _ made_5 c.script.ensures in
     let made_7 = c.command-7.ensures _ _ made_6 c.run.ensures in
     let made_8 = c.command-8.ensures _ _ made_7 c.serve.ensures in
-    c.command-9.ensures _ _ made_8 c.send.ensures
+    let made_9 = c.command-9.ensures _ _ made_8 c.send.ensures in
+    c.command-10.ensures _ _ made_9 c.compact.ensures
