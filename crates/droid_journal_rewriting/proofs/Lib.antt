@@ -8,3 +8,4 @@ pub mod Noting
 pub mod BareSizes
 pub mod Sizes
 pub mod Writing
+mod Weighing

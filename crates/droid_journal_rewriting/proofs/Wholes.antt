@@ -8,6 +8,7 @@ use Rattle.droid_journal_chain.proofs.Chains.{synced_is_read}
 use Rattle.droid_journal_chain.proofs.Fronts.{fronts_same}
 use Rattle.droid_journal_chain.proofs.RecordLaws.{length-record}
 use Rattle.droid_journal_rewriting.specs.Shortening.{HasBehind, IsWhole}
+use Rattle.droid_journal_rewriting.specs.Sizes.{IsSizeOf}
 use Rattle.droid_journal_rewriting.specs.Taking.{Passes, StandThere}
 use Rattle.droid_journal_rewriting.specs.declared.walk.Place.{Place}
 
@@ -47,6 +48,15 @@ module _ {S T : Type 0} (took : S → T → List Record → Type 0) (header s st
 
   pub whole : drop to.at s ≡ [] → IsWhole header s its
   whole end = record { fit = p.fit; file_is = chain.joined ∙ ap (λ (t : List ℕ). journal_bytes header its ++ t) end ∙ append-nil (journal_bytes header its) }
+
+  pub size_is : drop to.at s ≡ [] → IsSizeOf s its (record { records = to.records; bytes = to.at })
+  size_is end =
+      let same : length (chain_bytes start from.check its) ≡ length (chain_bytes (first_check header) (first_check header) its) =
+      ap (λ (k : List ℕ). length (chain_bytes start k its)) check_is ∙ ap (λ (k : List ℕ). length (chain_bytes k k its)) start_is in
+      record {
+        records_are = omega (arith, p.count, none);
+        bytes_are = omega (arith, p.at_is, at_is, same, ap length (whole end).file_is, length-append header (chain_bytes (first_check header) (first_check header) its));
+      }
 
   pub behind : drop to.at s ≢ [] → HasBehind header s to.records
   behind more = record { its = its; rest = drop to.at s; chain = chain; more = more; count_is = omega (arith, p.count, none) }

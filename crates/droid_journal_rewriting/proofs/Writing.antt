@@ -1,6 +1,6 @@
 -- Writing records anew, one after another.
-use Rattle.std.proofs.Common.{◌≡◌, ℕ, Bool, true, false, ◌||◌, eqb, List, [], ◌∷◌, ◌++◌, sym, ap, subst, ◌∙◌}
-use Rattle.std.proofs.lemmas.List.{append-nil}
+use Rattle.std.proofs.Common.{◌≡◌, ℕ, Bool, true, false, ◌+◌, ◌||◌, eqb, List, [], ◌∷◌, ◌++◌, length, sym, ap, subst, ◌∙◌, arith}
+use Rattle.std.proofs.lemmas.List.{append-nil, length-append}
 use Rattle.droid_journal_chain.specs.Chains.{first_check, journal_bytes, last_check}
 use Rattle.droid_journal_chain.specs.Records.{AllFit, Fits, Record, made, next_check, record_bytes}
 use Rattle.droid_journal_chain.proofs.Chains.{fit_append, journal_one, last_one}
@@ -18,13 +18,16 @@ module _ {N : Type 0} (has : N → List ℕ → Type 0) (aim : Aim) where
 
   -- only the header is collected
   pub begun : (rewriter : Rewriter N) → has rewriter.file [] → rewriter.out.items ≡ aim.header → rewriter.start ≡ first_check aim.header → rewriter.check ≡ first_check aim.header
-      → ((file : ℕ) → has_number rewriter.ended file ≡ aim.ended file) → ((stamp : ℕ) → has_number rewriter.stamps stamp ≡ false) → IsWriting has aim rewriter []
-  begun rewriter there out start check ended none = record {
+      → ((file : ℕ) → has_number rewriter.ended file ≡ aim.ended file) → ((stamp : ℕ) → has_number rewriter.stamps stamp ≡ false)
+      → rewriter.records ≡ 0 → rewriter.bytes ≡ 0 → IsWriting has aim rewriter []
+  begun rewriter there out start check ended none no_record no_byte = record {
     written = [];
     there = there;
     joined = out ∙ sym (append-nil aim.header);
     start_is = start;
     check_is = check;
+    records_are = no_record;
+    bytes_are = no_byte;
     fit = tt;
     ended_are = ended;
     stamps_are = none;
@@ -41,6 +44,8 @@ module _ {N : Type 0} (has : N → List ℕ → Type 0) (aim : Aim) where
         joined = writing.joined ∙ ap (journal_bytes aim.header) same;
         start_is = writing.start_is;
         check_is = writing.check_is ∙ ap (last_check aim.header) same;
+        records_are = writing.records_are ∙ ap (λ (its : List Record). length its) same;
+        bytes_are = writing.bytes_are;
         fit = subst AllFit same writing.fit;
         ended_are = writing.ended_are;
         stamps_are = λ stamp. writing.stamps_are stamp ∙ sym (stamps_as_before before it stamp known);
@@ -71,9 +76,9 @@ module _ {N : Type 0} (has : N → List ℕ → Type 0) (aim : Aim) where
         is ∙ ap (λ (t : List ℕ). t ++ record_bytes old.start old.check (made true (smaller_request (has_number old.ended) request reply) reply)) writing.joined ∙ ap (λ (t : List ℕ). journal_bytes aim.header (so_far before) ++ t) spelled
         ∙ sym (journal_one aim.header (so_far before) one) ∙ ap (journal_bytes aim.header) more
 
-    pub wrote : (written : List ℕ) → has new.file written → written ++ new.out.items ≡ (writing.written ++ old.out.items) ++ record_bytes old.start old.check (made true (smaller_request (has_number old.ended) request reply) reply)
+    pub wrote : (written : List ℕ) → has new.file written → new.records ≡ old.records + 1 → new.bytes ≡ length written → written ++ new.out.items ≡ (writing.written ++ old.out.items) ++ record_bytes old.start old.check (made true (smaller_request (has_number old.ended) request reply) reply)
         → IsWriting has aim new (before ++ it ∷ [])
-    wrote written there is = record {
+    wrote written there one_more bytes is = record {
       written = written;
       there = there;
       joined = joins written new.out.items is;
@@ -81,6 +86,8 @@ module _ {N : Type 0} (has : N → List ℕ → Type 0) (aim : Aim) where
       check_is =
           check ∙ ap (next_check old.start old.check) one_is ∙ ap (λ (s : List ℕ). next_check s old.check one) writing.start_is ∙ ap (λ (k : List ℕ). next_check (first_check aim.header) k one) writing.check_is
           ∙ sym (last_one aim.header (so_far before) one) ∙ ap (last_check aim.header) more;
+      records_are = omega (arith, one_more, writing.records_are, ap (λ (its : List Record). length its) more, length-append (so_far before) (one ∷ []));
+      bytes_are = bytes;
       fit = subst AllFit more (fit_append (so_far before) (one ∷ []) writing.fit (subst Fits one_is fits, tt));
       ended_are = λ file. ap (λ (e : _). has_number e file) ended ∙ writing.ended_are file;
       stamps_are = λ stamp. stamps stamp ∙ ap (λ (b : Bool). eqb (stamp_in request) stamp || b) (writing.stamps_are stamp) ∙ sym (stamps_one_more before it stamp);

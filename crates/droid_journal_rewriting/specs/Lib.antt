@@ -8,3 +8,4 @@ pub mod Faults
 pub mod Taking
 pub mod Aims
 pub mod Writing
+pub mod Weighing

@@ -1,5 +1,5 @@
 -- For proofs: records that were written anew.
-use Rattle.std.specs.Prelude.{◌≡◌, ℕ, List, ◌++◌}
+use Rattle.std.specs.Prelude.{◌≡◌, ℕ, List, ◌++◌, length}
 use Rattle.droid_journal_chain.specs.Chains.{first_check, journal_bytes, last_check}
 use Rattle.droid_journal_chain.specs.Records.{AllFit, Record}
 use Rattle.droid_journal_rewriting.specs.Aims.{Aim}
@@ -14,6 +14,8 @@ pub record IsWriting {N : Type 0} (has : N → List ℕ → Type 0) (aim : Aim) 
   pub joined : written ++ rewriter.out.items ≡ journal_bytes aim.header (smaller_by aim.ended its)
   pub start_is : rewriter.start ≡ first_check aim.header
   pub check_is : rewriter.check ≡ last_check aim.header (smaller_by aim.ended its)
+  pub records_are : rewriter.records ≡ length (smaller_by aim.ended its)
+  pub bytes_are : rewriter.bytes ≡ length written
   pub fit : AllFit (smaller_by aim.ended its)
   pub ended_are : (file : ℕ) → has_number rewriter.ended file ≡ aim.ended file
   pub stamps_are : (stamp : ℕ) → has_number rewriter.stamps stamp ≡ has_stamp its stamp

@@ -3,14 +3,16 @@
 ghost use Rattle.std.specs.Prelude.{◌≡◌, ◌≢◌, ◌⊎◌, ℕ, [], List, IfErr, IfOk, IsErrOf, OnOk};
 ghost use Rattle.droid_journal.specs.Opening.{HasHeader};
 ghost use Rattle.droid_journal_rewriting.specs.Shortening.{HasBehind, IsShortened};
+ghost use Rattle.droid_journal_rewriting.specs.Sizes.{AreSizes};
 
+use crate::exchange::{Exchange, replace};
 use crate::fault::RewriteFault;
-use crate::new_file::rewrite;
+use crate::new_file::{Smaller, rewrite};
 use droid_journal::LogFile;
-use droid_journal_exchange::{Exchange, replace};
 use std::alloc::Global;
 
-/// Writes a journal anew into an empty file, syncs it, and gives it the name of the old one. Returns the new file.
+/// Writes a journal anew into an empty file, syncs it, and gives it the name of the old one. Returns the new file, and
+/// how large both are.
 ///
 /// A crash at any moment leaves the old journal under the name, or the smaller one with all its bytes; also where this fails.
 pub fn compact<F: LogFile, N: LogFile + Drop, X: Exchange<N>>(
@@ -19,23 +21,24 @@ pub fn compact<F: LogFile, N: LogFile + Drop, X: Exchange<N>>(
     header: &[u8],
     new: N,
     exchange: &mut X,
-) -> Result<N, RewriteFault>
+) -> Result<Smaller<N>, RewriteFault>
     requires found { F.is_found old.now }
     ensures at_any_moment { (s bytes : List ℕ) → F.has old.now s → N.has new [] → X.may_lead exchange.new bytes → X.may_lead exchange.old bytes ⊎ IsShortened header.now s bytes }
     ensures compacted { (s bytes : List ℕ) → F.has old.now s → N.has new [] → OnOk result (X.may_lead exchange.new bytes → IsShortened header.now s bytes) }
     // The new file has what it may be found to have after a crash, and all of it is on the disk.
-    ensures on_disk { (s : List ℕ) → F.has old.now s → N.has new [] → IfOk result (λ file. IsShortened header.now s (N.kept file) × N.has file (N.kept file)) }
+    ensures on_disk { (s : List ℕ) → F.has old.now s → N.has new [] → IfOk result (λ it. IsShortened header.now s (N.kept it.file) × N.has it.file (N.kept it.file)) }
+    ensures sizes { (s : List ℕ) → F.has old.now s → N.has new [] → IfOk result (λ it. AreSizes header.now s it.before it.after) }
     ensures other_header { IsErrOf result RewriteFault.Header → (s : List ℕ) → F.has old.now s → HasHeader header.now s → ⊥ }
     ensures behind { (n : ℕ) → IsErrOf result (RewriteFault.Behind n) → (s : List ℕ) → F.has old.now s → HasBehind header.now s n }
     // Only an exchange that failed may have touched the name.
     ensures untouched { IfErr result (λ fault. fault ≢ RewriteFault.Exchange → exchange.new ≡ exchange.old) }
 {
-    let mut file = match rewrite(alloc, old, header, new) {
-        Ok(file) => file,
+    let mut smaller = match rewrite(alloc, old, header, new) {
+        Ok(smaller) => smaller,
         Err(fault) => return Err(fault),
     };
-    match replace(&mut file, exchange) {
-        Ok(()) => Ok(file),
+    match replace(&mut smaller.file, exchange) {
+        Ok(()) => Ok(smaller),
         Err(_) => Err(RewriteFault::Exchange),
     }
 }

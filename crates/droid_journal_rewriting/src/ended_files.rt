@@ -69,7 +69,7 @@ pub(crate) fn ended_in<F: LogFile>(
         stamps: Numbers::new(alloc),
     };
     match take_whole(alloc, file, &mut ended, header, buffer) {
-        Ok(()) => Ok(ended.files),
+        Ok(_) => Ok(ended.files),
         Err(fault) => Err(fault),
     }
 }

@@ -2,21 +2,30 @@
 //! without the bytes of these files.
 //!
 //! [`rewrite`] reads the old journal twice: first it notes which files have ended, then it writes. [`compact`] also puts the
-//! new file in the place of the old one.
+//! new file in the place of the old one: it is synced, gets the old one's name ([`replace`]), and the folder is synced. So a
+//! crash at any moment leaves one or the other. [`is_mostly_ended`] says whether that is worth it.
 #![tactic(auto)]
 
 mod compaction;
 mod ended_files;
+mod exchange;
 mod fault;
 mod fields;
+mod folder;
 pub mod laws;
 mod new_file;
 mod numbers;
 mod rewriter;
+mod size;
 mod taker;
 mod walk;
+mod weight;
 mod whole;
 
 pub use compaction::compact;
+pub use exchange::{Exchange, replace};
 pub use fault::RewriteFault;
-pub use new_file::rewrite;
+pub use folder::Folder;
+pub use new_file::{Smaller, rewrite};
+pub use size::Size;
+pub use weight::is_mostly_ended;

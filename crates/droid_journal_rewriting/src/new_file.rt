@@ -6,16 +6,29 @@ ghost use Rattle.droid_journal_chain.specs.Chains.{journal_bytes};
 ghost use Rattle.droid_journal_chain.specs.Records.{AllFit, Record};
 ghost use Rattle.droid_journal_rewriting.specs.Numbers.{has_number};
 ghost use Rattle.droid_journal_rewriting.specs.Shortening.{HasBehind, IsShortened, IsWhole, smaller_by};
+ghost use Rattle.droid_journal_rewriting.specs.Sizes.{AreSizes, IsSizeOf};
 
 use crate::ended_files::ended_in;
 use crate::fault::RewriteFault;
 use crate::numbers::Numbers;
 use crate::rewriter::{Rewriter, flush};
+use crate::size::Size;
 use crate::walk::WINDOW;
 use crate::whole::take_whole;
 use droid_journal::LogFile;
 use droid_journal_chain::start_of;
 use std::alloc::Global;
+
+/// A journal that was written anew.
+#[derive(Drop)]
+pub struct Smaller<N> {
+    /// The new file.
+    pub file: N,
+    /// How large the old file is.
+    pub before: Size,
+    /// How large the new one is.
+    pub after: Size,
+}
 
 /// Writes each record of a journal anew into an empty file, and those of these files without their bytes.
 fn write_anew<F: LogFile, N: LogFile + Drop>(
@@ -25,11 +38,12 @@ fn write_anew<F: LogFile, N: LogFile + Drop>(
     ended: Numbers,
     new: N,
     buffer: &mut [u8],
-) -> Result<N, RewriteFault>
+) -> Result<Smaller<N>, RewriteFault>
     requires found { F.is_found old.now }
     requires window { length buffer.old ≡ 16777216 }
     ensures written { (s : List ℕ) (have_ended : ℕ → Bool) → F.has old.now s → N.has new [] → ((file : ℕ) → has_number ended file ≡ have_ended file)
-        → IfOk result (λ file. (its : List Record) × IsWhole header.now s its × AllFit (smaller_by have_ended its) × N.has file (journal_bytes header.now (smaller_by have_ended its))) }
+        → IfOk result (λ it. (its : List Record) × IsWhole header.now s its × AllFit (smaller_by have_ended its) × N.has it.file (journal_bytes header.now (smaller_by have_ended its))
+        × IsSizeOf s its it.before × IsSizeOf (journal_bytes header.now (smaller_by have_ended its)) (smaller_by have_ended its) it.after) }
     ensures other_header { IsErrOf result RewriteFault.Header → (s : List ℕ) → F.has old.now s → HasHeader header.now s → ⊥ }
     ensures behind { (n : ℕ) → IsErrOf result (RewriteFault.Behind n) → (s : List ℕ) → F.has old.now s → HasBehind header.now s n }
 {
@@ -44,13 +58,22 @@ fn write_anew<F: LogFile, N: LogFile + Drop>(
         out,
         start,
         check: start,
+        records: 0,
+        bytes: 0,
     };
-    match take_whole(alloc, old, &mut rewriter, header, buffer) {
-        Ok(()) => {}
+    let before = match take_whole(alloc, old, &mut rewriter, header, buffer) {
+        Ok(size) => size,
         Err(fault) => return Err(fault),
-    }
-    match flush(&mut rewriter.file, &mut rewriter.out) {
-        Ok(()) => Ok(rewriter.file),
+    };
+    match flush(&mut rewriter.file, &mut rewriter.out, rewriter.bytes) {
+        Ok(bytes) => Ok(Smaller {
+            file: rewriter.file,
+            before,
+            after: Size {
+                records: rewriter.records,
+                bytes,
+            },
+        }),
         Err(_) => Err(RewriteFault::Write),
     }
 }
@@ -62,10 +85,11 @@ fn rewrite_by<F: LogFile, N: LogFile + Drop>(
     header: &[u8],
     new: N,
     buffer: &mut [u8],
-) -> Result<N, RewriteFault>
+) -> Result<Smaller<N>, RewriteFault>
     requires found { F.is_found old.now }
     requires window { length buffer.old ≡ 16777216 }
-    ensures rewritten { (s : List ℕ) → F.has old.now s → N.has new [] → IfOk result (λ file. (bytes : List ℕ) × IsShortened header.now s bytes × N.has file bytes) }
+    ensures rewritten { (s : List ℕ) → F.has old.now s → N.has new [] → IfOk result (λ it. (bytes : List ℕ) × IsShortened header.now s bytes × N.has it.file bytes) }
+    ensures sizes { (s : List ℕ) → F.has old.now s → N.has new [] → IfOk result (λ it. AreSizes header.now s it.before it.after) }
     ensures other_header { IsErrOf result RewriteFault.Header → (s : List ℕ) → F.has old.now s → HasHeader header.now s → ⊥ }
     ensures behind { (n : ℕ) → IsErrOf result (RewriteFault.Behind n) → (s : List ℕ) → F.has old.now s → HasBehind header.now s n }
 {
@@ -74,7 +98,7 @@ fn rewrite_by<F: LogFile, N: LogFile + Drop>(
         Err(fault) => return Err(fault),
     };
     match write_anew(alloc, old, header, ended, new, buffer) {
-        Ok(file) => Ok(file),
+        Ok(smaller) => Ok(smaller),
         Err(fault) => Err(fault),
     }
 }
@@ -89,9 +113,10 @@ pub fn rewrite<F: LogFile, N: LogFile + Drop>(
     old: &F,
     header: &[u8],
     new: N,
-) -> Result<N, RewriteFault>
+) -> Result<Smaller<N>, RewriteFault>
     requires found { F.is_found old.now }
-    ensures rewritten { (s : List ℕ) → F.has old.now s → N.has new [] → IfOk result (λ file. (bytes : List ℕ) × IsShortened header.now s bytes × N.has file bytes) }
+    ensures rewritten { (s : List ℕ) → F.has old.now s → N.has new [] → IfOk result (λ it. (bytes : List ℕ) × IsShortened header.now s bytes × N.has it.file bytes) }
+    ensures sizes { (s : List ℕ) → F.has old.now s → N.has new [] → IfOk result (λ it. AreSizes header.now s it.before it.after) }
     // Another header is told only where the file begins with another.
     ensures other_header { IsErrOf result RewriteFault.Header → (s : List ℕ) → F.has old.now s → HasHeader header.now s → ⊥ }
     // Bytes behind the records are told only where there are some, and behind how many.

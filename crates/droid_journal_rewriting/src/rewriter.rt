@@ -31,6 +31,10 @@ pub(crate) struct Rewriter<N: LogFile> {
     pub(crate) start: [u8; 16],
     /// The check value of the last record.
     pub(crate) check: [u8; 16],
+    /// How many records were spelled.
+    pub(crate) records: u64,
+    /// How many bytes were written.
+    pub(crate) bytes: u64,
 }
 
 /// Returns the bare request in the place of one that only an unfinished file needs, and `None` if the request stays.
@@ -87,18 +91,26 @@ fn spell(
     }
 }
 
-/// Writes what was collected.
-pub(crate) fn flush<N: LogFile>(file: &mut N, out: &mut Vec<u8>) -> Result<(), RewriteFault>
+/// Writes what was collected behind so many bytes, and returns how many there are then.
+pub(crate) fn flush<N: LogFile>(
+    file: &mut N,
+    out: &mut Vec<u8>,
+    bytes: u64,
+) -> Result<u64, RewriteFault>
     ensures written { (s : List ℕ) → N.has file.old s → OnOk result (N.has file.new (s ++ out.old.items)) }
     ensures empty { OnOk result (out.new.items ≡ []) }
+    ensures bytes { IfOk result (λ now. now ≡ bytes + length out.old.items) }
     ensures fault { IfErr result (λ fault. fault ≡ RewriteFault.Write) }
 {
+    let Some(now) = bytes.checked_add(out.len() as u64) else {
+        return Err(RewriteFault::Write);
+    };
     match file.append(out.as_slice()) {
         Ok(()) => {}
         Err(_) => return Err(RewriteFault::Write),
     }
     out.clear();
-    Ok(())
+    Ok(now)
 }
 
 impl<N: LogFile> Taker for Rewriter<N> {
@@ -118,6 +130,10 @@ impl<N: LogFile> Taker for Rewriter<N> {
             Ok(()) => {}
             Err(_) => return Err(RewriteFault::Memory),
         }
+        let Some(records) = self.records.checked_add(1) else {
+            return Err(RewriteFault::Write);
+        };
+        self.records = records;
         let (start, check) = (self.start, self.check);
         match spell(
             self.alloc,
@@ -134,9 +150,10 @@ impl<N: LogFile> Taker for Rewriter<N> {
         if self.out.len() < COLLECTED {
             return Ok(());
         }
-        match flush(&mut self.file, &mut self.out) {
-            Ok(()) => Ok(()),
-            Err(_) => Err(RewriteFault::Write),
+        match flush(&mut self.file, &mut self.out, self.bytes) {
+            Ok(now) => self.bytes = now,
+            Err(_) => return Err(RewriteFault::Write),
         }
+        Ok(())
     }
 }

@@ -1,12 +1,14 @@
 //! Taking all records of a journal that has nothing behind them.
 
-ghost use Rattle.std.specs.Prelude.{◌≡◌, ◌≢◌, ◌<◌, ◌↔◌, ℕ, List, [], IfErr, IfOk, IsErrOf, IsTrue, OnOk, drop, length};
+ghost use Rattle.std.specs.Prelude.{◌≡◌, ◌≢◌, ◌<◌, ◌↔◌, ℕ, List, [], IfErr, IfOk, IsErrOf, IsTrue, drop, length};
 ghost use Rattle.droid_journal.specs.Opening.{HasHeader};
 ghost use Rattle.droid_journal_chain.specs.Records.{Record};
 ghost use Rattle.droid_journal_rewriting.specs.Faults.{IsOfReading};
 ghost use Rattle.droid_journal_rewriting.specs.Shortening.{HasBehind, IsWhole};
+ghost use Rattle.droid_journal_rewriting.specs.Sizes.{IsSizeOf};
 
 use crate::fault::RewriteFault;
+use crate::size::Size;
 use crate::taker::Taker;
 use crate::walk::{Place, take_all};
 use droid_journal::LogFile;
@@ -56,19 +58,19 @@ fn count_at<F: LogFile>(file: &F, at: u64) -> Result<usize, RewriteFault>
     }
 }
 
-/// Takes all records of a file that has this header, and sees that nothing stands behind them.
+/// Takes all records of a file that has this header, sees that nothing stands behind them, and returns how large the file is.
 pub(crate) fn take_whole<F: LogFile, T: Taker>(
     alloc: Global,
     file: &F,
     taker: &mut T,
     header: &[u8],
     buffer: &mut [u8],
-) -> Result<(), RewriteFault>
+) -> Result<Size, RewriteFault>
     requires found { F.is_found file.now }
     requires window { length buffer.old ≡ 16777216 }
     ensures window { length buffer.new ≡ 16777216 }
-    ensures whole { (s : List ℕ) → F.has file.now s → OnOk result ((its : List Record) × IsWhole header.now s its
-        × ((setting : T.Setting) → T.took setting taker.old [] → T.took setting taker.new its)) }
+    ensures whole { (s : List ℕ) → F.has file.now s → IfOk result (λ size. (its : List Record) × IsWhole header.now s its
+        × ((setting : T.Setting) → T.took setting taker.old [] → T.took setting taker.new its) × IsSizeOf s its size) }
     ensures other_header { IsErrOf result RewriteFault.Header → (s : List ℕ) → F.has file.now s → HasHeader header.now s → ⊥ }
     ensures behind { (n : ℕ) → IsErrOf result (RewriteFault.Behind n) → (s : List ℕ) → F.has file.now s → HasBehind header.now s n }
 {
@@ -96,5 +98,8 @@ pub(crate) fn take_whole<F: LogFile, T: Taker>(
     if more > 0 {
         return Err(RewriteFault::Behind(to.records));
     }
-    Ok(())
+    Ok(Size {
+        records: to.records,
+        bytes: to.at,
+    })
 }

@@ -3,7 +3,7 @@ use Rattle.std.specs.Prelude.{IsTrue}
 use Rattle.droid_journal.specs.Opening.{HasHeader}
 use Rattle.droid_journal_rewriting.specs.Shortening.{HasBehind}
 use Rattle.droid_journal_rewriting.specs.declared.walk.Place.{Place}
-use Rattle.droid_journal_rewriting.proofs.Wholes.{behind, whole}
+use Rattle.droid_journal_rewriting.proofs.Wholes.{behind, size_is, whole}
 use Rattle.droid_journal_rewriting.proofs.whole.take_whole.Goals as goal
 
 pub returns-clause-whole : goal.returns-clause-whole
@@ -16,6 +16,7 @@ returns-clause-whole g c = λ s here.
       p.0,
       whole g.T.Taker.took c.args.header.now s c.start_of-start.result c.start_of-start.ensures c.args.taker.now c.take_all.new.taker from c.in-Ok-take_all.to p.0 refl refl refl has p.1 (p.2 s here) (c.in-Ok-count_at.ensures.none s here none),
       λ setting st. p.1.taken setting [] st,
+      size_is g.T.Taker.took c.args.header.now s c.start_of-start.result c.start_of-start.ensures c.args.taker.now c.take_all.new.taker from c.in-Ok-take_all.to p.0 refl refl refl has p.1 (p.2 s here) (c.in-Ok-count_at.ensures.none s here none),
     )
 
 pub returns-then-more-gt0-clause-behind : goal.returns-then-more-gt0-clause-behind

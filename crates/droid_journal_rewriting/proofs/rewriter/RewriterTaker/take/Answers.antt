@@ -1,5 +1,5 @@
-use Rattle.std.proofs.Common.{rules, ◌≡◌, ◌||◌, ◌∙◌, ℕ, true, false, eqb, List, ◌++◌, sym, ap, refl, append_assoc}
-use Rattle.std.proofs.lemmas.List.{append-nil}
+use Rattle.std.proofs.Common.{rules, ◌≡◌, ◌||◌, ◌∙◌, ℕ, true, false, eqb, List, ◌++◌, sym, ap, refl, append_assoc, arith}
+use Rattle.std.proofs.lemmas.List.{append-nil, length-append}
 use Rattle.droid_journal_chain.specs.Records.{made, record_bytes}
 use Rattle.droid_journal_rewriting.specs.Numbers.{has_number}
 use Rattle.droid_journal_rewriting.specs.Shortening.{smaller_request}
@@ -20,7 +20,7 @@ returns-then-len-lt-COLLECTED-clause-took g c = λ aim before first st.
     wrote g.N.LogFile.has aim self _ before first c.args.request.now c.args.reply.now st
     (ap (has_number self.stamps) (sym c.stamp_of-stamp.ensures) ∙ sym c.has.ensures ∙ told)
     (λ n. c.in-Ok.ensures n ∙ ap (λ (k : ℕ). eqb k n || has_number self.stamps n) c.stamp_of-stamp.ensures)
-    refl refl c.in-Ok-spell.ensures.check c.in-Ok-spell.ensures.fits st.written st.there
+    refl refl c.in-Ok-spell.ensures.check c.in-Ok-spell.ensures.fits st.written st.there (search rules) st.bytes_are
     (ap (λ (t : List ℕ). st.written ++ t) c.in-Ok-spell.ensures.bytes ∙ sym (append_assoc st.written self.out.items one))
 
 pub returns-in-Ok-flush-clause-took : goal.returns-in-Ok-flush-clause-took
@@ -32,5 +32,6 @@ returns-in-Ok-flush-clause-took g c = λ aim before first st.
     wrote g.N.LogFile.has aim self _ before first c.args.request.now c.args.reply.now st
     (ap (has_number self.stamps) (sym c.stamp_of-stamp.ensures) ∙ sym c.has.ensures ∙ told)
     (λ n. c.in-Ok.ensures n ∙ ap (λ (k : ℕ). eqb k n || has_number self.stamps n) c.stamp_of-stamp.ensures)
-    refl refl c.in-Ok-spell.ensures.check c.in-Ok-spell.ensures.fits all (c.in-Ok-flush.ensures.written st.written st.there)
+    refl refl c.in-Ok-spell.ensures.check c.in-Ok-spell.ensures.fits all (c.in-Ok-flush.ensures.written st.written st.there) (search rules)
+    (omega (arith, c.in-Ok-flush.ensures.bytes, st.bytes_are, length-append st.written c.spell.new.out.items))
     (ap (λ (t : List ℕ). all ++ t) c.in-Ok-flush.ensures.empty ∙ append-nil all ∙ ap (λ (t : List ℕ). st.written ++ t) c.in-Ok-spell.ensures.bytes ∙ sym (append_assoc st.written self.out.items one))

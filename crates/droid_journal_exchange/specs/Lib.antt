@@ -1,1 +1,0 @@
--- This crate has no definitions beside its contracts.

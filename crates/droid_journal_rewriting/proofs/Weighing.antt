@@ -1,0 +1,20 @@
+-- Weighing pieces, one record after another.
+use Rattle.std.proofs.Common.{◌≡◌, ℕ, ◌+◌, ◌&&◌, Bool, true, false, cond, List, [], ◌∷◌, ◌++◌, refl, sym, ap, ◌∙◌, arith}
+use Rattle.std.proofs.lemmas.List.Sums.{sum_by_push}
+use Rattle.std.specs.List.{sum_by}
+use Rattle.droid_journal_chain.specs.Records.{Record, made}
+use Rattle.droid_journal_rewriting.specs.Fields.{file_in, is_about}
+use Rattle.droid_journal_rewriting.specs.Numbers.{has_number}
+use Rattle.droid_journal_rewriting.specs.Sizes.{piece_bytes, size_of}
+use Rattle.droid_journal_rewriting.specs.Weighing.{AreWeighed}
+use Rattle.droid_journal_rewriting.specs.declared.numbers.Numbers.{Numbers}
+
+-- the weight of a record depends on whether its own file is one of the files
+pub same_weight : (files noted : ℕ → Bool) (it : Record) → noted (file_in it.request) ≡ files (file_in it.request) → piece_bytes noted it ≡ piece_bytes files it
+same_weight files noted it is = ap (λ (b : Bool). cond (is_about 4 it.request it.reply && b) (size_of it) 0) is
+
+pub weighed_more : (files : ℕ → Bool) (noted : Numbers) (old new : ℕ) (before : List Record) (it : Record) → AreWeighed files noted old before → new ≡ old + piece_bytes (has_number noted) it → AreWeighed files noted new (before ++ it ∷ [])
+weighed_more files noted old new before it weighed is = record {
+  files_are = weighed.files_are;
+  bytes_are = omega (arith, is, weighed.bytes_are, same_weight files (has_number noted) it (weighed.files_are (file_in it.request)), sum_by_push (piece_bytes files) before it);
+}
