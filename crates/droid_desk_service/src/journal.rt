@@ -21,7 +21,7 @@ droid_desk journal 2
 ";
 
 /// Spells what the header of a journal begins with: its first lines, and the MD5 of the registry's bytes.
-fn header_text(alloc: Global, registry: &[u8]) -> Result<Vec<u8>, AllocError>
+pub(crate) fn header_text(alloc: Global, registry: &[u8]) -> Result<Vec<u8>, AllocError>
     ensures text { IfOk result (λ text. text.items ≡ header_text registry.now) }
     ensures size { IfOk result (λ text. length text.items ≤ 4080) }
 {
