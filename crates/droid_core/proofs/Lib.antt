@@ -1,6 +1,11 @@
 -- what the proofs above take of the crates below
 pub use Rattle.droid_core_spec.proofs.Judged
 pub use Rattle.droid_core_spec.proofs.Meetings
+pub use Rattle.droid_frame.proofs as frame
+pub use Rattle.droid_core_spec.proofs as spec
+pub use Rattle.droid_core_requests.proofs as requests
+pub use Rattle.droid_core_requests.proofs.unfinished as unfinished
+pub use Rattle.droid_core_requests.proofs.state as state
 pub mod FollowedTexts
 pub mod Handling
 pub mod KeptReplies

@@ -21,3 +21,10 @@ pub mod KeptBytes
 pub mod Recent
 pub mod Running
 pub mod Standing
+-- The crates that it stands on, whole, so that a crate above names this one alone.
+pub use Rattle.droid_frame.specs as frame
+pub use Rattle.droid_pronom.specs as pronom
+pub use Rattle.droid_store.specs as store
+pub use Rattle.droid_core_requests.specs as requests
+pub use Rattle.droid_core_requests.specs.unfinished as unfinished
+pub use Rattle.droid_core_requests.specs.state as state

@@ -26,3 +26,5 @@ pub mod UnchangedFiles
 pub use Rattle.droid_core_state.proofs.LookUps
 pub use Rattle.droid_core_state.proofs.Made
 pub use Rattle.droid_core_state.proofs.Replying
+pub use Rattle.droid_core_files.proofs as unfinished
+pub use Rattle.droid_core_state.proofs as state

@@ -17,3 +17,6 @@ pub use Rattle.droid_core_state.specs.Rows
 pub use Rattle.droid_core_state.specs.Standing
 pub use Rattle.droid_core_state.specs.declared.holdings
 pub use Rattle.droid_core_state.specs.declared.stamps
+-- the two crates below it, whole, for what stands above the service
+pub use Rattle.droid_core_files.specs as unfinished
+pub use Rattle.droid_core_state.specs as state

@@ -1,20 +1,20 @@
 -- The replies to an accepted piece and to an accepted Finish.
 use Rattle.std.proofs.Common.{◌≡◌, ℕ, ◌+◌, ℤ, List, length, true, Option, Some, None, sym, ap, subst, ◌∙◌}
 use Rattle.std.specs.List.{AllByRecursion}
-use Rattle.droid_frame.specs.Replies.{reply_kind}
-use Rattle.droid_frame.specs.types.refusal.Refusal.{Refusal}
-use Rattle.droid_frame.specs.types.reply.Reply.{Reply}
-use Rattle.droid_frame.specs.types.reply.Reply.TheVariants.{Taken}
-use Rattle.droid_frame.specs.types.request.Request.TheVariants.{Piece, Finish}
+use Rattle.droid_core.specs.frame.Replies.{reply_kind}
+use Rattle.droid_core.specs.frame.types.refusal.Refusal.{Refusal}
+use Rattle.droid_core.specs.frame.types.reply.Reply.{Reply}
+use Rattle.droid_core.specs.frame.types.reply.Reply.TheVariants.{Taken}
+use Rattle.droid_core.specs.frame.types.request.Request.TheVariants.{Piece, Finish}
 use Rattle.droid_core_bare.proofs.BareEnds.{finishes_bare}
 use Rattle.droid_core_bare.specs.BareWorlds.{Bare}
 use Rattle.droid_core_revival.specs.FoundWords.{FindsWords}
-use Rattle.droid_core_spec.proofs.ByKind.{is_piece}
-use Rattle.droid_core_spec.specs.Files.{Finding, bytes_of, finding_of, finished_reply, with_piece}
-use Rattle.droid_core_spec.specs.Judging.{Verdict, Accepted, in_file, in_profile, judge, judge_piece, node_set, piece_checks, refusal_of, unless_refused, world_set}
-use Rattle.droid_core_spec.specs.Setting.{Setting}
-use Rattle.droid_core_spec.specs.World.{Content, Node, Folder, File, Abandoned, Profile, World, node_at, numbered}
-use Rattle.droid_store.specs.Changes.{IsWord}
+use Rattle.droid_core.proofs.spec.ByKind.{is_piece}
+use Rattle.droid_core.specs.Files.{Finding, bytes_of, finding_of, finished_reply, with_piece}
+use Rattle.droid_core.specs.Judging.{Verdict, Accepted, in_file, in_profile, judge, judge_piece, node_set, piece_checks, refusal_of, unless_refused, world_set}
+use Rattle.droid_core.specs.Setting.{Setting}
+use Rattle.droid_core.specs.World.{Content, Node, Folder, File, Abandoned, Profile, World, node_at, numbered}
+use Rattle.droid_core.specs.store.Changes.{IsWord}
 
 by_checks : (first : Option Refusal) (held : ℕ) (left after : World) (reply : Reply) → unless_refused first (Accepted (Taken held) left) ≡ Accepted reply after → reply_kind reply ≡ 131
 by_checks (Some refusal) held left after reply is = absurd cc

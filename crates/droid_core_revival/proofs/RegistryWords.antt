@@ -3,13 +3,13 @@ use Rattle.std.proofs.Common.{inl, inr, ℕ, Bool, List, [], ◌∷◌, IsTrue, 
 use Rattle.std.specs.List.{AllByRecursion}
 use Rattle.droid_core.specs.Identified.{IsOf, found_in}
 use Rattle.droid_core.specs.Setting.{Setting}
-use Rattle.droid_core_requests.proofs.PuidTexts.{are_words}
+use Rattle.droid_core.proofs.requests.PuidTexts.{are_words}
 use Rattle.droid_core_revival.specs.FoundWords.{FindsWords}
-use Rattle.droid_pronom.specs.Found.{Chosen, IsFound, chosen, end, passed}
-use Rattle.droid_pronom.specs.Registry.{Contents, IsRegistry}
-use Rattle.droid_pronom.specs.RegistryFields.{is_puid}
-use Rattle.droid_pronom.specs.types.format.Format.{Format}
-use Rattle.droid_pronom.specs.types.identification.Found.{Found}
+use Rattle.droid_core.specs.pronom.Found.{Chosen, IsFound, chosen, end, passed}
+use Rattle.droid_core.specs.pronom.Registry.{Contents, IsRegistry}
+use Rattle.droid_core.specs.pronom.RegistryFields.{is_puid}
+use Rattle.droid_core.specs.pronom.types.format.Format.{Format}
+use Rattle.droid_core.specs.pronom.types.identification.Found.{Found}
 
 abbrev IsPuid : List ℕ → Type 0
 IsPuid puid = IsTrue (is_puid puid)

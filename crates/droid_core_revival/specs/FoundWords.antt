@@ -3,7 +3,7 @@
 use Rattle.std.specs.Prelude.{ℕ, Bool, List}
 use Rattle.std.specs.List.{AllByRecursion}
 use Rattle.droid_core.specs.Setting.{Setting}
-use Rattle.droid_store.specs.Changes.{IsWord}
+use Rattle.droid_core.specs.store.Changes.{IsWord}
 
 -- no identifier that the setting finds is empty or has a space
 abbrev pub FindsWords : Setting → Type 0

@@ -1,10 +1,11 @@
--- What holdings are recovered for, re-exported with what a crate above needs to speak of it.
+-- Bare worlds and the service, re-exported.
 pub use Rattle.droid_core_bare.specs.BareWorlds
 pub use Rattle.droid_core_bare.specs.Ending
-pub use Rattle.droid_core_recovery.specs.Recovering
-pub use Rattle.droid_core_recovery.specs.declared.fault
-pub use Rattle.droid_core_requests.specs.Changes
-pub use Rattle.droid_core_requests.specs.Standing
-pub use Rattle.droid_core_requests.specs.holdings
-pub use Rattle.droid_core_requests.specs.stamps
+pub use Rattle.droid_core.specs as core
+pub use Rattle.droid_core.specs.frame as frame
+-- Which history holdings were recovered for.
+pub mod Faults
 pub mod FoundWords
+pub mod Recovering
+pub mod Taking
+pub mod WordTests

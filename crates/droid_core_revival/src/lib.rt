@@ -1,13 +1,28 @@
-//! A service made of recovered holdings: of a journal that was made small, in which the pieces of finished and abandoned
-//! files have no bytes. The crate re-exports the recovery, so that a crate above names this one alone.
+//! Recovery: a service made again from its accepted requests and their replies, where the pieces of ended files have no
+//! bytes, as in a journal that was made small.
+//!
+//! The requests come in their order. One that needs no bytes of a bare file, or that came again, is handled as ever
+//! ([`recover_command`]). Of a piece of a bare file the reply alone is kept ([`recover_piece`]), and its Finish takes what was
+//! found from the reply ([`recover_finish`]). Once each bare file has ended, the holdings are those of the whole requests
+//! ([`laws::recovered_holdings_stand`]), and [`service_of`] makes the service. The crate re-exports the service's crates.
 #![tactic(auto)]
 
+mod commands;
+mod fault;
+mod finishes;
+pub mod laws;
+mod look_ups;
+mod pieces;
 mod service;
 mod words;
 
-pub use droid_core_recovery::{
-    Holdings, Limits, RecoveryFault, Stamp, recover_command, recover_finish, recover_piece,
+pub use commands::recover_command;
+pub use droid_core::{
+    Blob, BodyFault, Frame, Holdings, Limits, Refusal, Registry, Reply, Service, Stamp, Store,
+    StoreFault, UnfinishedFiles, mark, reply_of, request_of,
 };
-pub use droid_core_requests::UnfinishedFiles;
+pub use fault::RecoveryFault;
+pub use finishes::recover_finish;
+pub use pieces::recover_piece;
 pub use service::service_of;
 pub use words::see_words;

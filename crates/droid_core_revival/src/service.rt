@@ -7,11 +7,10 @@ ghost use Rattle.droid_core.specs.Histories.{History, world_of};
 ghost use Rattle.droid_core.specs.Setting.{Setting};
 ghost use Rattle.droid_core.specs.Standing.{StandsFor, limits_of, registry_of};
 ghost use Rattle.droid_core_bare.specs.BareWorlds.{Bare, HaveEnded};
-ghost use Rattle.droid_core_recovery.specs.Recovering.{Recovers};
-ghost use Rattle.droid_core_requests.specs.Standing.{limits_given};
+ghost use Rattle.droid_core_revival.specs.Recovering.{Recovers};
+ghost use Rattle.droid_core.specs.requests.Standing.{limits_given};
 
-use droid_core::Service;
-use droid_core_recovery::Holdings;
+use droid_core::{Holdings, Service};
 use std::alloc::AllocError;
 use std::num::NonZeroUsize;
 

@@ -4,7 +4,7 @@ ghost use Rattle.droid_core.specs.Identified.{IsOf};
 ghost use Rattle.droid_core.specs.Setting.{Setting};
 ghost use Rattle.droid_core_revival.specs.FoundWords.{FindsWords};
 
-use droid_pronom::Registry;
+use droid_core::Registry;
 
 /// Sees that no identifier of the registry has a space, as none of any registry has. The prover needs this; it does nothing.
 pub fn see_words(registry: &Registry)

@@ -1,21 +1,21 @@
 -- What the machine gives and stands for after one frame more.
 use Rattle.std.proofs.Common.{◌≡◌, inl, inr, ℕ, Bool, true, false, not, List, [], ◌∷◌, ◌++◌, refl, sym, ap, subst, ◌∙◌}
 use Rattle.std.specs.Prelude.{MatchBool}
-use Rattle.droid_frame.specs.Frames.{frame_bytes}
-use Rattle.droid_frame.specs.ReplyFrames.{reply_frame}
-use Rattle.droid_frame.specs.Streams.{IsReadable}
-use Rattle.droid_frame.specs.types.frame.Frame.{Frame}
-use Rattle.droid_frame.specs.types.reply.Reply.{Reply}
-use Rattle.droid_frame.proofs.FrameLaws.{reported_frame}
-use Rattle.droid_core.proofs.Judged.{judged_as}
-use Rattle.droid_core.specs.Histories.{Entry, History, world_of}
-use Rattle.droid_core.specs.Judging.{Accepted}
-use Rattle.droid_core.specs.MemoryFaults.{is_out_of_memory}
-use Rattle.droid_core.specs.Verdicts.{is_refused}
-use Rattle.droid_core_revival.proofs.Replied.{kept_unrefused}
+use Rattle.droid_core_revival.specs.frame.Frames.{frame_bytes}
+use Rattle.droid_core_revival.specs.frame.ReplyFrames.{reply_frame}
+use Rattle.droid_core_revival.specs.frame.Streams.{IsReadable}
+use Rattle.droid_core_revival.specs.frame.types.frame.Frame.{Frame}
+use Rattle.droid_core_revival.specs.frame.types.reply.Reply.{Reply}
+use Rattle.droid_core_revival.proofs.frame.FrameLaws.{reported_frame}
+use Rattle.droid_core_revival.proofs.core.Judged.{judged_as}
+use Rattle.droid_core_revival.specs.core.Histories.{Entry, History, world_of}
+use Rattle.droid_core_revival.specs.core.Judging.{Accepted}
+use Rattle.droid_core_revival.specs.core.MemoryFaults.{is_out_of_memory}
+use Rattle.droid_core_revival.specs.core.Verdicts.{is_refused}
+use Rattle.droid_core_revival.proofs.core.spec.Replied.{kept_unrefused}
 use Rattle.droid_core_revival.specs.FoundWords.{FindsWords}
 use Rattle.droid_core_revival.specs.Recovering.{Recovers}
-use Rattle.droid_core_revival.specs.holdings.Holdings.{Holdings}
+use Rattle.droid_core_revival.specs.core.state.declared.holdings.Holdings.{Holdings}
 use Rattle.droid_journal.specs.Machines.{extended, record_of}
 use Rattle.droid_journal_chain.specs.Records.{Record}
 use Rattle.droid_journal_recovery.proofs.Histories.{parts}

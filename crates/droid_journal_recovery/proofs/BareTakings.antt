@@ -1,21 +1,21 @@
 -- What handling a bare frame comes to.
 use Rattle.std.proofs.Common.{◌≡◌, ℕ, true, [], ◌∷◌, ◌++◌, sym, subst}
-use Rattle.droid_frame.specs.Fields.{IsU32, u32_bytes}
-use Rattle.droid_frame.specs.Replies.{HasReplySpelling, SpellsReply, reply_bytes, reply_kind}
-use Rattle.droid_frame.specs.Streams.{IsReadable}
-use Rattle.droid_frame.specs.types.frame.Frame.{Frame}
-use Rattle.droid_frame.specs.types.reply.Reply.{Reply}
-use Rattle.droid_core.specs.Histories.{Entry, History}
-use Rattle.droid_core.specs.MemoryFaults.{is_out_of_memory}
-use Rattle.droid_core.specs.Setting.{Setting}
+use Rattle.droid_core_revival.specs.frame.Fields.{IsU32, u32_bytes}
+use Rattle.droid_core_revival.specs.frame.Replies.{HasReplySpelling, SpellsReply, reply_bytes, reply_kind}
+use Rattle.droid_core_revival.specs.frame.Streams.{IsReadable}
+use Rattle.droid_core_revival.specs.frame.types.frame.Frame.{Frame}
+use Rattle.droid_core_revival.specs.frame.types.reply.Reply.{Reply}
+use Rattle.droid_core_revival.specs.core.Histories.{Entry, History}
+use Rattle.droid_core_revival.specs.core.MemoryFaults.{is_out_of_memory}
+use Rattle.droid_core_revival.specs.core.Setting.{Setting}
 use Rattle.droid_core_revival.specs.BareWorlds.{Bare}
-use Rattle.droid_core_revival.specs.Changes.{stamp_of}
+use Rattle.droid_core_revival.specs.core.state.Changes.{stamp_of}
 use Rattle.droid_core_revival.specs.FoundWords.{FindsWords}
 use Rattle.droid_core_revival.specs.Recovering.{IsBareFinish, IsBarePiece, Recovers}
-use Rattle.droid_core_revival.specs.fault.RecoveryFault.{RecoveryFault}
-use Rattle.droid_core_revival.specs.fault.RecoveryFault.TheVariants.{Memory}
-use Rattle.droid_core_revival.specs.holdings.Holdings.{Holdings}
-use Rattle.droid_core_revival.specs.stamps.Stamp.{Stamp}
+use Rattle.droid_core_revival.specs.declared.fault.RecoveryFault.{RecoveryFault}
+use Rattle.droid_core_revival.specs.declared.fault.RecoveryFault.TheVariants.{Memory}
+use Rattle.droid_core_revival.specs.core.state.declared.holdings.Holdings.{Holdings}
+use Rattle.droid_core_revival.specs.core.state.declared.stamps.Stamp.{Stamp}
 use Rattle.droid_journal_bare.specs.BareFrames.{bare_finish, bare_piece}
 use Rattle.droid_journal_recovery.proofs.KeptFrames.{finish_is, piece_is}
 use Rattle.droid_journal_recovery.proofs.Takings.{IsNextFrame, bare_came, finished_unrefused, kept_takes, taken_unrefused, unchanged_takes}

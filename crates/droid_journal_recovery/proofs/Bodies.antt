@@ -2,13 +2,13 @@
 use Rattle.std.proofs.Common.{◌≡◌, ℕ, ◌≤◌, List, ◌++◌, length, take, drop, sym, ap, ◌∙◌, arith}
 use Rattle.std.proofs.lemmas.List.{take_at, drop_at, length-append}
 use Rattle.md5.proofs.StandardFacts.{length-md5}
-use Rattle.droid_frame.specs.Fields.{u32_bytes}
-use Rattle.droid_frame.specs.Frames.{mark_of}
-use Rattle.droid_frame.specs.Replies.{SpellsReply, reply_bytes}
-use Rattle.droid_frame.specs.types.frame.Frame.{Frame}
-use Rattle.droid_frame.specs.types.reply.Reply.{Reply}
-use Rattle.droid_core_revival.specs.Changes.{stamp_of}
-use Rattle.droid_core_revival.specs.stamps.Stamp.{Stamp}
+use Rattle.droid_core_revival.specs.frame.Fields.{u32_bytes}
+use Rattle.droid_core_revival.specs.frame.Frames.{mark_of}
+use Rattle.droid_core_revival.specs.frame.Replies.{SpellsReply, reply_bytes}
+use Rattle.droid_core_revival.specs.frame.types.frame.Frame.{Frame}
+use Rattle.droid_core_revival.specs.frame.types.reply.Reply.{Reply}
+use Rattle.droid_core_revival.specs.core.state.Changes.{stamp_of}
+use Rattle.droid_core_revival.specs.core.state.declared.stamps.Stamp.{Stamp}
 use Rattle.droid_journal_bare.specs.BareFrames.{bare_finish, bare_piece}
 
 -- a body of a front of this length, and a rest

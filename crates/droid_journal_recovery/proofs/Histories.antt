@@ -1,7 +1,7 @@
 -- Records and one record more.
 use Rattle.std.proofs.Common.{List, [], ◌∷◌, ◌++◌, refl, sym, subst}
-use Rattle.droid_core.specs.Histories.{History}
-use Rattle.droid_core.specs.Setting.{Setting}
+use Rattle.droid_core_revival.specs.core.Histories.{History}
+use Rattle.droid_core_revival.specs.core.Setting.{Setting}
 use Rattle.droid_core_revival.specs.BareWorlds.{Bare}
 use Rattle.droid_journal_chain.specs.Records.{Record}
 use Rattle.droid_journal_recovery.specs.BareRecords.{HaveHistory, IsAfter}

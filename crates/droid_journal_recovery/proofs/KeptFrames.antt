@@ -1,24 +1,24 @@
 -- The frames that a journal has of its entries, told apart by their kinds.
 use Rattle.std.proofs.Common.{◌≡◌, ℕ, ◌<◌, ◌+◌, if◌then◌else◌, Bool, true, false, List, [], ◌++◌, length, refl, sym, ap, subst, ◌∙◌, arith}
-use Rattle.droid_frame.specs.Bodies.{SpellsRequest, request_kind}
-use Rattle.droid_frame.specs.Fields.{IsU32, u32_bytes}
-use Rattle.droid_frame.specs.Frames.{frame_bytes}
-use Rattle.droid_frame.specs.Replies.{SpellsReply, reply_bytes, reply_kind}
-use Rattle.droid_frame.specs.Streams.{IsReadable}
-use Rattle.droid_frame.specs.types.frame.Frame.{Frame}
-use Rattle.droid_frame.specs.types.request.Request.{Request}
-use Rattle.droid_frame.specs.types.request.Request.TheVariants as requests
-use Rattle.droid_frame.proofs.FrameLaws.{reported_frame}
-use Rattle.droid_core.specs.Histories.{Entry, History, world_of}
-use Rattle.droid_core.specs.Judging.{Accepted, judge}
-use Rattle.droid_core.specs.Setting.{Setting}
-use Rattle.droid_core_revival.proofs.Asked.{asks}
+use Rattle.droid_core_revival.specs.frame.Bodies.{SpellsRequest, request_kind}
+use Rattle.droid_core_revival.specs.frame.Fields.{IsU32, u32_bytes}
+use Rattle.droid_core_revival.specs.frame.Frames.{frame_bytes}
+use Rattle.droid_core_revival.specs.frame.Replies.{SpellsReply, reply_bytes, reply_kind}
+use Rattle.droid_core_revival.specs.frame.Streams.{IsReadable}
+use Rattle.droid_core_revival.specs.frame.types.frame.Frame.{Frame}
+use Rattle.droid_core_revival.specs.frame.types.request.Request.{Request}
+use Rattle.droid_core_revival.specs.frame.types.request.Request.TheVariants as requests
+use Rattle.droid_core_revival.proofs.frame.FrameLaws.{reported_frame}
+use Rattle.droid_core_revival.specs.core.Histories.{Entry, History, world_of}
+use Rattle.droid_core_revival.specs.core.Judging.{Accepted, judge}
+use Rattle.droid_core_revival.specs.core.Setting.{Setting}
+use Rattle.droid_core_revival.proofs.core.spec.Asked.{asks}
 use Rattle.droid_core_revival.proofs.EndReplies.{finish_finds_words, finish_is_finished, piece_is_taken}
 use Rattle.droid_core_revival.specs.BareWorlds.{Bare, needs_bytes}
-use Rattle.droid_core_revival.specs.Changes.{stamp_of}
+use Rattle.droid_core_revival.specs.core.state.Changes.{stamp_of}
 use Rattle.droid_core_revival.specs.FoundWords.{FindsWords}
 use Rattle.droid_core_revival.specs.Recovering.{IsBareFinish, IsBarePiece}
-use Rattle.droid_core_revival.specs.stamps.Stamp.{Stamp}
+use Rattle.droid_core_revival.specs.core.state.declared.stamps.Stamp.{Stamp}
 use Rattle.droid_journal_bare.proofs.Readable.{finish_is_readable, piece_is_readable}
 use Rattle.droid_journal_bare.specs.BareFrames.{bare_finish, bare_piece}
 use Rattle.droid_journal_recovery.specs.BareRecords.{MayBeKept, kept_frame}

@@ -1,24 +1,24 @@
 -- What handling a record's frame comes to.
 use Rattle.std.proofs.Common.{◌≡◌, ℕ, ◌+◌, ◌<◌, ◌^◌, Bool, true, false, [], ◌∷◌, ◌++◌, Option, Some, None, refl, sym, ap, subst, ◌∙◌, arith}
 use Rattle.std.specs.Prelude.{MatchBool}
-use Rattle.droid_frame.specs.Bodies.{SpellsRequest}
-use Rattle.droid_frame.specs.Replies.{HasReplySpelling, reply_kind}
-use Rattle.droid_frame.specs.Streams.{IsReadable}
-use Rattle.droid_frame.specs.types.frame.Frame.{Frame}
-use Rattle.droid_frame.specs.types.reply.Reply.{Reply}
-use Rattle.droid_frame.specs.types.reply.Reply.TheVariants.{Refused}
-use Rattle.droid_frame.specs.types.request.Request.{Request}
-use Rattle.droid_core.specs.Histories.{Entry, History, command, is_same_request, kept}
-use Rattle.droid_core.specs.MemoryFaults.{is_out_of_memory}
-use Rattle.droid_core.specs.Setting.{Setting}
-use Rattle.droid_core.specs.Verdicts.{is_refused}
-use Rattle.droid_core_revival.proofs.Asked.{asked, asks}
+use Rattle.droid_core_revival.specs.frame.Bodies.{SpellsRequest}
+use Rattle.droid_core_revival.specs.frame.Replies.{HasReplySpelling, reply_kind}
+use Rattle.droid_core_revival.specs.frame.Streams.{IsReadable}
+use Rattle.droid_core_revival.specs.frame.types.frame.Frame.{Frame}
+use Rattle.droid_core_revival.specs.frame.types.reply.Reply.{Reply}
+use Rattle.droid_core_revival.specs.frame.types.reply.Reply.TheVariants.{Refused}
+use Rattle.droid_core_revival.specs.frame.types.request.Request.{Request}
+use Rattle.droid_core_revival.specs.core.Histories.{Entry, History, command, is_same_request, kept}
+use Rattle.droid_core_revival.specs.core.MemoryFaults.{is_out_of_memory}
+use Rattle.droid_core_revival.specs.core.Setting.{Setting}
+use Rattle.droid_core_revival.specs.core.Verdicts.{is_refused}
+use Rattle.droid_core_revival.proofs.core.spec.Asked.{asked, asks}
 use Rattle.droid_core_revival.specs.BareWorlds.{Bare}
-use Rattle.droid_core_revival.specs.Changes.{stamp_of}
+use Rattle.droid_core_revival.specs.core.state.Changes.{stamp_of}
 use Rattle.droid_core_revival.specs.FoundWords.{FindsWords}
 use Rattle.droid_core_revival.specs.Recovering.{IsWhole, Recovers}
-use Rattle.droid_core_revival.specs.holdings.Holdings.{Holdings}
-use Rattle.droid_core_revival.specs.stamps.Stamp.{Stamp}
+use Rattle.droid_core_revival.specs.core.state.declared.holdings.Holdings.{Holdings}
+use Rattle.droid_core_revival.specs.core.state.declared.stamps.Stamp.{Stamp}
 use Rattle.droid_journal_recovery.proofs.KeptFrames.{small_kind, whole_here}
 use Rattle.droid_journal_recovery.specs.BareRecords.{CameAgain, MayBeKept, kept_frame}
 use Rattle.droid_journal_recovery.specs.Taking.{Takes}

@@ -1,16 +1,16 @@
 -- The records of a journal that was made small, and their history (this project's own).
 use Rattle.std.specs.Prelude.{◌≡◌, ◌⊎◌, if◌then◌else◌, true, List, [], ◌∷◌, ◌++◌, Some}
-use Rattle.droid_frame.specs.Frames.{frame_bytes}
-use Rattle.droid_frame.specs.Replies.{HasReplySpelling}
-use Rattle.droid_frame.specs.ReplyFrames.{reply_frame}
-use Rattle.droid_frame.specs.Streams.{IsReadable}
-use Rattle.droid_frame.specs.types.frame.Frame.{Frame}
-use Rattle.droid_frame.specs.types.reply.Reply.{Reply}
-use Rattle.droid_frame.specs.types.request.Request.{Request}
-use Rattle.droid_frame.specs.types.request.Request.TheVariants.{Piece, Finish}
+use Rattle.droid_core_revival.specs.frame.Frames.{frame_bytes}
+use Rattle.droid_core_revival.specs.frame.Replies.{HasReplySpelling}
+use Rattle.droid_core_revival.specs.frame.ReplyFrames.{reply_frame}
+use Rattle.droid_core_revival.specs.frame.Streams.{IsReadable}
+use Rattle.droid_core_revival.specs.frame.types.frame.Frame.{Frame}
+use Rattle.droid_core_revival.specs.frame.types.reply.Reply.{Reply}
+use Rattle.droid_core_revival.specs.frame.types.request.Request.{Request}
+use Rattle.droid_core_revival.specs.frame.types.request.Request.TheVariants.{Piece, Finish}
 use Rattle.droid_core_revival.specs.BareWorlds.{Bare}
-use Rattle.droid_core.specs.Histories.{Entry, History, IsNext, command, is_request_of, kept}
-use Rattle.droid_core.specs.Setting.{Setting}
+use Rattle.droid_core_revival.specs.core.Histories.{Entry, History, IsNext, command, is_request_of, kept}
+use Rattle.droid_core_revival.specs.core.Setting.{Setting}
 use Rattle.droid_journal_bare.specs.BareFrames.{bare_finish, bare_piece}
 use Rattle.droid_journal_chain.specs.Records.{Record}
 

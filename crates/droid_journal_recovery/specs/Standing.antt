@@ -1,15 +1,15 @@
 -- What the machine stands for that reads a journal that was made small (this project's own).
 use Rattle.std.specs.Prelude.{◌≡◌, Bool, true, false, List, [], MatchBool}
-use Rattle.droid_frame.specs.Frames.{frame_bytes}
-use Rattle.droid_frame.specs.ReplyFrames.{reply_frame}
-use Rattle.droid_frame.specs.types.frame.Frame.{Frame}
-use Rattle.droid_frame.specs.types.reply.Reply.{Reply}
+use Rattle.droid_core_revival.specs.frame.Frames.{frame_bytes}
+use Rattle.droid_core_revival.specs.frame.ReplyFrames.{reply_frame}
+use Rattle.droid_core_revival.specs.frame.types.frame.Frame.{Frame}
+use Rattle.droid_core_revival.specs.frame.types.reply.Reply.{Reply}
 use Rattle.droid_core_revival.specs.BareWorlds.{Bare}
 use Rattle.droid_core_revival.specs.FoundWords.{FindsWords}
 use Rattle.droid_core_revival.specs.Recovering.{Recovers}
-use Rattle.droid_core.specs.Histories.{History}
-use Rattle.droid_core.specs.MemoryFaults.{is_out_of_memory}
-use Rattle.droid_core.specs.Setting.{Setting}
+use Rattle.droid_core_revival.specs.core.Histories.{History}
+use Rattle.droid_core_revival.specs.core.MemoryFaults.{is_out_of_memory}
+use Rattle.droid_core_revival.specs.core.Setting.{Setting}
 use Rattle.droid_journal_chain.specs.Records.{Record}
 use Rattle.droid_journal_recovery.specs.BareRecords.{HaveHistory, IsAfter}
 use Rattle.droid_journal_recovery.specs.declared.machine.RecoveringMachine.{RecoveringMachine}

@@ -1,16 +1,16 @@
 -- What handling the frame of one record comes to (this project's own).
 use Rattle.std.specs.Prelude.{◌≡◌, true, false, [], ◌∷◌, ◌++◌}
-use Rattle.droid_frame.specs.Replies.{HasReplySpelling}
-use Rattle.droid_frame.specs.types.frame.Frame.{Frame}
-use Rattle.droid_frame.specs.types.reply.Reply.{Reply}
+use Rattle.droid_core_revival.specs.frame.Replies.{HasReplySpelling}
+use Rattle.droid_core_revival.specs.frame.types.frame.Frame.{Frame}
+use Rattle.droid_core_revival.specs.frame.types.reply.Reply.{Reply}
 use Rattle.droid_core_revival.specs.BareWorlds.{Bare}
 use Rattle.droid_core_revival.specs.FoundWords.{FindsWords}
 use Rattle.droid_core_revival.specs.Recovering.{Recovers}
-use Rattle.droid_core.specs.Histories.{Entry, History}
-use Rattle.droid_core.specs.MemoryFaults.{is_out_of_memory}
-use Rattle.droid_core.specs.Setting.{Setting}
-use Rattle.droid_core.specs.Verdicts.{is_refused}
-use Rattle.droid_core_revival.specs.holdings.Holdings.{Holdings}
+use Rattle.droid_core_revival.specs.core.Histories.{Entry, History}
+use Rattle.droid_core_revival.specs.core.MemoryFaults.{is_out_of_memory}
+use Rattle.droid_core_revival.specs.core.Setting.{Setting}
+use Rattle.droid_core_revival.specs.core.Verdicts.{is_refused}
+use Rattle.droid_core_revival.specs.core.state.declared.holdings.Holdings.{Holdings}
 use Rattle.droid_journal_recovery.specs.BareRecords.{CameAgain, MayBeKept, kept_frame}
 
 -- If the frame is the one of an entry that may come next, it gets the entry's reply, and the holdings are recovered for one

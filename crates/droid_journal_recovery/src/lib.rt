@@ -1,11 +1,13 @@
 //! Reading a journal that was made small: its records have no bytes of the pieces of finished and abandoned files.
 //!
 //! [`RecoveringMachine`] takes the records in order, as any machine of a journal. The service that is made of it stands for
-//! the history of the accepted requests, as one does that got them whole.
+//! the history of the accepted requests, as one does that got them whole. The crate re-exports the service.
 #![tactic(auto)]
 
 mod machine;
 mod reading;
 mod taking;
 
+pub use droid_core_revival::{Frame, Limits, Registry, Reply, Service};
+pub use droid_journal_bare::{BARE_FINISH, BARE_PIECE};
 pub use machine::RecoveringMachine;

@@ -2,24 +2,23 @@
 
 ghost use Rattle.std.specs.NonZero.{non_zero_usize_get};
 ghost use Rattle.std.specs.Prelude.{◌≡◌, ◌≤◌, [], IfErr, IfOk, List, not};
-ghost use Rattle.droid_core.specs.Cached.{cache_size_of};
-ghost use Rattle.droid_core.specs.Standing.{StandsFor};
+ghost use Rattle.droid_core_revival.specs.core.Cached.{cache_size_of};
+ghost use Rattle.droid_core_revival.specs.core.Standing.{StandsFor};
 ghost use Rattle.droid_core_revival.specs.BareWorlds.{HaveEnded};
-ghost use Rattle.droid_core.specs.Histories.{History, world_of};
-ghost use Rattle.droid_core.specs.Verdicts.{is_refused};
-ghost use Rattle.droid_core.specs.Identified.{IsOf};
-ghost use Rattle.droid_core_revival.specs.Standing.{limits_given};
+ghost use Rattle.droid_core_revival.specs.core.Histories.{History, world_of};
+ghost use Rattle.droid_core_revival.specs.core.Verdicts.{is_refused};
+ghost use Rattle.droid_core_revival.specs.core.Identified.{IsOf};
+ghost use Rattle.droid_core_revival.specs.core.state.Standing.{limits_given};
 ghost use Rattle.droid_journal_chain.specs.Records.{Record};
 ghost use Rattle.droid_journal_recovery.specs.BareRecords.{HaveHistory};
 ghost use Rattle.droid_journal_recovery.specs.Standing.{Recovery, StandsForRecords};
 
 use crate::taking::take;
-use droid_core::Service;
-use droid_core_revival::{Holdings, Limits, UnfinishedFiles, see_words, service_of};
-use droid_frame::{Frame, Reply};
+use droid_core_revival::{
+    Frame, Holdings, Limits, Registry, Reply, Service, Store, StoreFault, UnfinishedFiles,
+    see_words, service_of,
+};
 use droid_journal::{Handled, Machine};
-use droid_pronom::Registry;
-use droid_store::{Store, StoreFault};
 use std::alloc::{AllocError, Global};
 use std::num::NonZeroUsize;
 

@@ -1,15 +1,14 @@
 //! Reading bare frames.
 
 ghost use Rattle.std.specs.Prelude.{◌≡◌, ◌++◌, ℕ, IfOk, MatchResult, length};
-ghost use Rattle.droid_core_revival.specs.Changes.{stamp_of};
-ghost use Rattle.droid_frame.specs.Fields.{IsU32, u32_bytes};
-ghost use Rattle.droid_frame.specs.Replies.{HasReplySpelling, SpellsReply, reply_bytes, reply_kind};
-ghost use Rattle.droid_frame.specs.types.frame.Frame.{Frame as FrameValue};
-ghost use Rattle.droid_frame.specs.types.reply.Reply.{Reply as ReplyValue};
+ghost use Rattle.droid_core_revival.specs.core.state.Changes.{stamp_of};
+ghost use Rattle.droid_core_revival.specs.frame.Fields.{IsU32, u32_bytes};
+ghost use Rattle.droid_core_revival.specs.frame.Replies.{HasReplySpelling, SpellsReply, reply_bytes, reply_kind};
+ghost use Rattle.droid_core_revival.specs.frame.types.frame.Frame.{Frame as FrameValue};
+ghost use Rattle.droid_core_revival.specs.frame.types.reply.Reply.{Reply as ReplyValue};
 ghost use Rattle.droid_journal_bare.specs.BareFrames.{bare_finish, bare_piece};
 
-use droid_core_revival::{RecoveryFault, Stamp};
-use droid_frame::{Blob, BodyFault, Frame, Reply, mark, reply_of};
+use droid_core_revival::{Blob, BodyFault, Frame, RecoveryFault, Reply, Stamp, mark, reply_of};
 use std::alloc::Global;
 
 /// How many bytes a mark has.

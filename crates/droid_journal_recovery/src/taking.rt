@@ -1,17 +1,17 @@
 //! Handling the frame of one record.
 
 ghost use Rattle.std.specs.Prelude.{◌≡◌, ◌≢◌, ℕ, true};
-ghost use Rattle.droid_core.specs.MemoryFaults.{is_out_of_memory};
-ghost use Rattle.droid_core.specs.Verdicts.{is_refused};
-ghost use Rattle.droid_frame.specs.Replies.{HasReplySpelling};
-ghost use Rattle.droid_frame.specs.Streams.{IsReadable};
+ghost use Rattle.droid_core_revival.specs.core.MemoryFaults.{is_out_of_memory};
+ghost use Rattle.droid_core_revival.specs.core.Verdicts.{is_refused};
+ghost use Rattle.droid_core_revival.specs.frame.Replies.{HasReplySpelling};
+ghost use Rattle.droid_core_revival.specs.frame.Streams.{IsReadable};
 ghost use Rattle.droid_journal_recovery.specs.Taking.{Takes};
 
 use crate::reading::{BareFinish, BarePiece, read_finish, read_piece};
 use droid_core_revival::{
-    Holdings, RecoveryFault, Stamp, recover_command, recover_finish, recover_piece,
+    BodyFault, Frame, Holdings, RecoveryFault, Refusal, Reply, Stamp, mark, recover_command,
+    recover_finish, recover_piece, request_of,
 };
-use droid_frame::{BodyFault, Frame, Refusal, Reply, mark, request_of};
 use droid_journal_bare::{BARE_FINISH, BARE_PIECE};
 
 /// Handles the frame of a record. What is none of a record is refused.

@@ -2,8 +2,8 @@
 use Rattle.std.proofs.Common.{◌≡◌, ℕ, ◌+◌, ◌≤◌, List, ◌++◌, length, take, drop, get_or, refl, arith}
 use Rattle.std.proofs.lemmas.List.{length-append, length-drop, length-take}
 use Rattle.md5.proofs.StandardFacts.{length-md5}
-use Rattle.droid_frame.specs.Fields.{u32_bytes}
-use Rattle.droid_frame.specs.Frames.{mark_of}
+use Rattle.droid_journal_bare.specs.frame.Fields.{u32_bytes}
+use Rattle.droid_journal_bare.specs.frame.Frames.{mark_of}
 use Rattle.droid_journal_bare.specs.BareFrames.{bare_finish_bytes, bare_piece_bytes, with_body}
 
 with_body_long : (request : List ℕ) (kind : ℕ) (body : List ℕ) → 18 ≤ length request → length (with_body request kind body) ≡ 18 + length body

@@ -11,7 +11,7 @@ use Rattle.droid_frame.specs.types.request.Request.TheVariants as requests
 use Rattle.droid_core.specs.Histories.{Entry, History, IsLegal, world_of}
 use Rattle.droid_core.specs.Setting.{Setting}
 use Rattle.droid_core_revival.proofs.EndedFiles.{ended_in}
-use Rattle.droid_core_revival.proofs.Legal.{GoesOn-push}
+use Rattle.droid_core_revival.proofs.core.spec.Legal.{GoesOn-push}
 use Rattle.droid_core_revival.specs.BareWorlds.{Bare}
 use Rattle.droid_core_revival.specs.Ending.{Ends, IsEnded}
 use Rattle.droid_journal_chain.specs.Records.{Record}

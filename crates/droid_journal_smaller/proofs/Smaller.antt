@@ -15,7 +15,7 @@ use Rattle.droid_frame.proofs.BodyLimits.{limit_at_most}
 use Rattle.droid_frame.proofs.ReplyFrames.{reply_is_short}
 use Rattle.droid_core.specs.Histories.{Entry, History}
 use Rattle.droid_core.specs.Setting.{Setting}
-use Rattle.droid_core_revival.proofs.Asked.{asks}
+use Rattle.droid_core_revival.proofs.core.spec.Asked.{asks}
 use Rattle.droid_core_revival.specs.BareWorlds.{Bare}
 use Rattle.droid_journal_bare.specs.BareFrames.{bare_finish, bare_finish_bytes, bare_piece, bare_piece_bytes}
 use Rattle.droid_journal_chain.specs.Records.{Record}

@@ -6,3 +6,6 @@ pub mod Waiting
 pub mod WalkEnds
 pub mod Walks
 pub mod WholeVisits
+pub use Rattle.droid_profile_spec.proofs.NodePaths
+pub use Rattle.droid_profile_spec.proofs.ShownTree
+pub use Rattle.droid_profile_spec.proofs.SomeNodes

@@ -6,10 +6,10 @@ use Rattle.droid_frame.specs.stream_types.fault.WriteFault.{WriteFault}
 use Rattle.droid_frame.specs.stream_types.seen.Seen.{Seen}
 use Rattle.droid_frame.specs.types.record.Record.{Record}
 use Rattle.droid_export.specs.Text.{record_text}
-use Rattle.droid_profile_spec.specs.declared.fault.ProfileFault.{ProfileFault}
-use Rattle.droid_profile_spec.specs.declared.fault.ProfileFault.TheVariants as walk_faults
-use Rattle.droid_profile_spec.specs.declared.options.Options.{Options}
-use Rattle.droid_profile_spec.specs.declared.recipient.RecipientFault.TheVariants as recipient_faults
+use Rattle.droid_profile.specs.types.fault.ProfileFault.{ProfileFault}
+use Rattle.droid_profile.specs.types.fault.ProfileFault.TheVariants as walk_faults
+use Rattle.droid_profile.specs.types.options.Options.{Options}
+use Rattle.droid_profile.specs.types.recipient.RecipientFault.TheVariants as recipient_faults
 use Rattle.droid_profile_csv.specs.Taking.{BreaksCsv, BreaksList, BreaksOne, EndsRest, Goes, GoesOn, ListBreaks, ListGoes, stopped_writer}
 use Rattle.droid_profile_csv.specs.Texts.{csv_text, line_of, list_text}
 use Rattle.droid_profile_csv.specs.Writers.{AppendsNotAll, AppendsSome, ListsNotAll, ListsSome}

@@ -8,14 +8,14 @@ use Rattle.droid_export.specs.Text.{record_text}
 use Rattle.droid_pronom.specs.Registry.{Contents}
 use Rattle.droid_tree.specs.Heard.{Heard}
 use Rattle.droid_tree.specs.Observation.{Observation, GoesOver}
-use Rattle.droid_profile_spec.specs.EarlyEnds.{EndsEarly, TakesFirst, Took, Failed}
-use Rattle.droid_profile_spec.specs.ProfileRecords.{records_of}
-use Rattle.droid_profile_spec.specs.Profiles.{ProfilesTree}
-use Rattle.droid_profile_spec.specs.declared.fault.ProfileFault.{ProfileFault}
-use Rattle.droid_profile_spec.specs.declared.fault.ProfileFault.TheVariants as walk_faults
-use Rattle.droid_profile_spec.specs.declared.options.Options.{Options}
-use Rattle.droid_profile_spec.specs.declared.recipient.RecipientFault.{RecipientFault}
-use Rattle.droid_profile_spec.specs.declared.recipient.RecipientFault.TheVariants as recipient_faults
+use Rattle.droid_profile.specs.EarlyEnds.{EndsEarly, TakesFirst, Took, Failed}
+use Rattle.droid_profile.specs.ProfileRecords.{records_of}
+use Rattle.droid_profile.specs.Profiles.{ProfilesTree}
+use Rattle.droid_profile.specs.types.fault.ProfileFault.{ProfileFault}
+use Rattle.droid_profile.specs.types.fault.ProfileFault.TheVariants as walk_faults
+use Rattle.droid_profile.specs.types.options.Options.{Options}
+use Rattle.droid_profile.specs.types.recipient.RecipientFault.{RecipientFault}
+use Rattle.droid_profile.specs.types.recipient.RecipientFault.TheVariants as recipient_faults
 use Rattle.droid_profile_csv.specs.Taking.{BreaksOne, Fails, GoesOn, TakesSoon}
 use Rattle.droid_profile_csv.specs.Texts.{line_of}
 use Rattle.droid_profile_csv.specs.WrittenTrees.{Adds, AddsPart}

@@ -6,13 +6,13 @@ use Rattle.droid_frame.specs.stream_types.seen.Seen.{Seen}
 use Rattle.droid_pronom.specs.Registry.{Contents}
 use Rattle.droid_tree.specs.Heard.{Heard}
 use Rattle.droid_tree.specs.Observation.{Observation}
-use Rattle.droid_profile_spec.specs.EarlyEnds.{EndsEarly}
-use Rattle.droid_profile_spec.specs.ProfileRecords.{records_of}
-use Rattle.droid_profile_spec.specs.Profiles.{ProfilesTree}
-use Rattle.droid_profile_spec.specs.declared.fault.ProfileFault.{ProfileFault}
-use Rattle.droid_profile_spec.specs.declared.fault.ProfileFault.TheVariants as walk_faults
-use Rattle.droid_profile_spec.specs.declared.options.Options.{Options}
-use Rattle.droid_profile_spec.specs.declared.recipient.RecipientFault.TheVariants as recipient_faults
+use Rattle.droid_profile.specs.EarlyEnds.{EndsEarly}
+use Rattle.droid_profile.specs.ProfileRecords.{records_of}
+use Rattle.droid_profile.specs.Profiles.{ProfilesTree}
+use Rattle.droid_profile.specs.types.fault.ProfileFault.{ProfileFault}
+use Rattle.droid_profile.specs.types.fault.ProfileFault.TheVariants as walk_faults
+use Rattle.droid_profile.specs.types.options.Options.{Options}
+use Rattle.droid_profile.specs.types.recipient.RecipientFault.TheVariants as recipient_faults
 use Rattle.droid_profile_csv.specs.Taking.{EndsRest, Fails, TakesSoon, WritesRest, stopped_writer}
 use Rattle.droid_profile_csv.specs.WrittenTrees.{After, During, EndsWriting, Explains, IsOfWriter, ReportsCsv, ReportsList, WritesTree}
 use Rattle.droid_profile_csv.specs.declared.csv_fault.CsvFault.{CsvFault}

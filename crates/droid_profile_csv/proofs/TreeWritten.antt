@@ -11,12 +11,12 @@ use Rattle.droid_pronom.specs.Registry.{Contents}
 use Rattle.droid_tree.specs.Heard.{Heard}
 use Rattle.droid_tree.specs.Observation.{Observation}
 use Rattle.droid_tree.specs.Paths.{top}
-use Rattle.droid_profile_spec.proofs.NodePaths.{known_top}
-use Rattle.droid_profile_spec.proofs.ShownTree.{visits_shown}
-use Rattle.droid_profile_spec.proofs.SomeNodes.{tree_nodes}
-use Rattle.droid_profile_spec.specs.ProfileRecords.{records_of}
-use Rattle.droid_profile_spec.specs.Profiles.{ProfilesTree}
-use Rattle.droid_profile_spec.specs.declared.options.Options.{Options}
+use Rattle.droid_profile.proofs.NodePaths.{known_top}
+use Rattle.droid_profile.proofs.ShownTree.{visits_shown}
+use Rattle.droid_profile.proofs.SomeNodes.{tree_nodes}
+use Rattle.droid_profile.specs.ProfileRecords.{records_of}
+use Rattle.droid_profile.specs.Profiles.{ProfilesTree}
+use Rattle.droid_profile.specs.types.options.Options.{Options}
 use Rattle.droid_profile_csv.specs.Taking.{Goes, GoesOn, ListGoes, TakesSoon, WritesRest}
 use Rattle.droid_profile_csv.specs.Texts.{csv_text, line_of, list_text}
 use Rattle.droid_profile_csv.specs.Writers.{LastsOn, Lists}

@@ -8,7 +8,7 @@ use Rattle.droid_export.proofs.Records.{text_by_records}
 use Rattle.droid_export.specs.Rows.{header}
 use Rattle.droid_export.specs.Text.{record_text, row_text}
 use Rattle.droid_pronom.specs.Registry.{Contents}
-use Rattle.droid_profile_spec.specs.declared.options.Options.{Options}
+use Rattle.droid_profile.specs.types.options.Options.{Options}
 use Rattle.droid_profile_csv.specs.Taking.{Breaks, Goes, ListBreaks, ListGoes}
 use Rattle.droid_profile_csv.specs.Texts.{csv_text, everything}
 use Rattle.droid_profile_csv.specs.Writers.{AppendsNotAll, AppendsSome, LastsOn, Lists, ListsNotAll, ListsSome}

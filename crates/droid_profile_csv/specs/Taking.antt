@@ -5,8 +5,8 @@ use Rattle.droid_frame.specs.Seen.{IsSound}
 use Rattle.droid_frame.specs.stream_types.seen.Seen.{Seen}
 use Rattle.droid_frame.specs.types.record.Record.{Record}
 use Rattle.droid_export.specs.Text.{record_text}
-use Rattle.droid_profile_spec.specs.declared.recipient.RecipientFault.{RecipientFault}
-use Rattle.droid_profile_spec.specs.declared.recipient.RecipientFault.TheVariants as recipient_faults
+use Rattle.droid_profile.specs.types.recipient.RecipientFault.{RecipientFault}
+use Rattle.droid_profile.specs.types.recipient.RecipientFault.TheVariants as recipient_faults
 use Rattle.droid_profile_csv.specs.Texts.{line_of}
 use Rattle.droid_profile_csv.specs.Writers.{LastsOn, Stops}
 use Rattle.droid_profile_csv.specs.declared.csv_fault.CsvFault.{CsvFault}

@@ -7,7 +7,7 @@ use Rattle.droid_fixity_manifest.specs.Writing.{line}
 use Rattle.droid_frame.specs.types.filter.Filter.{Filter}
 use Rattle.droid_frame.specs.types.record.Record.{Record}
 use Rattle.droid_pronom.specs.Registry.{Contents}
-use Rattle.droid_profile_spec.specs.declared.options.Options.{Options}
+use Rattle.droid_profile.specs.types.options.Options.{Options}
 
 -- the filter that lets every record through
 abbrev pub everything : Filter

@@ -10,14 +10,14 @@ use Rattle.droid_frame.specs.types.record.Record.{Record}
 use Rattle.droid_pronom.specs.Registry.{Contents}
 use Rattle.droid_tree.specs.Heard.{Heard}
 use Rattle.droid_tree.specs.Observation.{Observation}
-use Rattle.droid_profile_spec.specs.EarlyEnds.{EndsEarly}
-use Rattle.droid_profile_spec.specs.ProfileNodes.{AreNodesOf, Identifies, all_lying, profile_with}
-use Rattle.droid_profile_spec.specs.Profiles.{ProfilesTree}
-use Rattle.droid_profile_spec.specs.declared.fault.ProfileFault.{ProfileFault}
-use Rattle.droid_profile_spec.specs.declared.fault.ProfileFault.TheVariants as walk_faults
-use Rattle.droid_profile_spec.specs.declared.options.Options.{Options}
-use Rattle.droid_profile_spec.specs.declared.recipient.RecipientFault.{RecipientFault}
-use Rattle.droid_profile_spec.specs.declared.recipient.RecipientFault.TheVariants as recipient_faults
+use Rattle.droid_profile.specs.EarlyEnds.{EndsEarly}
+use Rattle.droid_profile.specs.ProfileNodes.{AreNodesOf, Identifies, all_lying, profile_with}
+use Rattle.droid_profile.specs.Profiles.{ProfilesTree}
+use Rattle.droid_profile.specs.types.fault.ProfileFault.{ProfileFault}
+use Rattle.droid_profile.specs.types.fault.ProfileFault.TheVariants as walk_faults
+use Rattle.droid_profile.specs.types.options.Options.{Options}
+use Rattle.droid_profile.specs.types.recipient.RecipientFault.{RecipientFault}
+use Rattle.droid_profile.specs.types.recipient.RecipientFault.TheVariants as recipient_faults
 use Rattle.droid_profile_csv.specs.Texts.{csv_text, list_text}
 use Rattle.droid_profile_csv.specs.Writers.{AppendsNotAll, AppendsSome, LastsOn, Lists, ListsNotAll, ListsSome, Stops}
 use Rattle.droid_profile_csv.specs.declared.csv_fault.CsvFault.{CsvFault}

@@ -1,4 +1,4 @@
-use Rattle.droid_core_recovery.proofs.WholeWorlds.{in_whole_world}
+use Rattle.droid_core_revival.proofs.WholeWorlds.{in_whole_world}
 use Rattle.droid_core_revival.proofs.service.service_of.Goals as goal
 
 pub returns-clause-stands : goal.returns-clause-stands

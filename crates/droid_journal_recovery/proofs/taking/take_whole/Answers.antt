@@ -1,7 +1,7 @@
 use Rattle.std.proofs.Common.{ℕ, List, refl, ap, ◌∙◌}
-use Rattle.droid_frame.specs.Frames.{mark_of}
-use Rattle.droid_core_revival.proofs.Asked.{nothing_asked}
-use Rattle.droid_core_revival.specs.stamps.Stamp.{Stamp}
+use Rattle.droid_core_revival.specs.frame.Frames.{mark_of}
+use Rattle.droid_core_revival.proofs.core.spec.Asked.{nothing_asked}
+use Rattle.droid_core_revival.specs.core.state.declared.stamps.Stamp.{Stamp}
 use Rattle.droid_journal_recovery.proofs.Takings.{malformed_takes, unchanged_takes, whole_takes}
 use Rattle.droid_journal_recovery.proofs.taking.take_whole.Goals as goal
 

@@ -1,9 +1,9 @@
 use Rattle.std.proofs.Common.{ap, sym, subst, ◌∙◌}
-use Rattle.droid_core.specs.Limits.{Limits}
-use Rattle.droid_core.specs.Histories.{History}
+use Rattle.droid_core_revival.specs.core.Limits.{Limits}
+use Rattle.droid_core_revival.specs.core.Histories.{History}
 use Rattle.droid_core_revival.proofs.Starting.{starts}
 use Rattle.droid_core_revival.specs.Recovering.{Recovers}
-use Rattle.droid_core_revival.specs.holdings.Holdings.{Holdings}
+use Rattle.droid_core_revival.specs.core.state.declared.holdings.Holdings.{Holdings}
 use Rattle.droid_journal_recovery.proofs.machine.RecoveringMachine.new.Goals as goal
 
 pub returns-clause-empty : goal.returns-clause-empty

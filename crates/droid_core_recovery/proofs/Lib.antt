@@ -1,9 +1,0 @@
-pub mod BareAssemblies
-pub mod BareRequests
-pub mod BareRows
-pub mod CameAgain
-pub mod NextEntries
-pub mod OneMore
-pub mod Starting
-pub mod Words
-pub mod WholeWorlds
