@@ -14,11 +14,7 @@ use std::alloc::Global;
 const NO_RANDOM: [u8; 16] = [0; 16];
 
 /// Makes the header that a journal of the registry with these bytes has in this file.
-fn header_of<F: LogFile>(
-    alloc: Global,
-    file: &F,
-    registry: &[u8],
-) -> Result<Vec<u8>, RewriteFault>
+fn header_of<F: LogFile>(alloc: Global, file: &F, registry: &[u8]) -> Result<Vec<u8>, RewriteFault>
     requires found { F.is_found file.now }
     ensures is_of { (s : List ℕ) → F.has file.now s → IfOk result (λ header. IsHeaderOf registry.now header.items) }
     ensures same { (s header : List ℕ) → F.has file.now s → IsHeaderOf registry.now header → HasHeader header s → IfOk result (λ it. it.items ≡ header) }
