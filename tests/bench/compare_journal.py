@@ -1,6 +1,7 @@
 """What a journal costs: `submit`, folders by clients that wait for their replies, and a start; beside the same without a
 journal, and beside a loop that writes 300 bytes and calls fdatasync. That is measured once as this disk is, and once where
-each fdatasync, the service's and the loop's, takes two milliseconds (slow_sync.c)."""
+each fdatasync, the service's and the loop's, takes two milliseconds (slow_sync.c). And what it costs to make it smaller,
+beside `cp`."""
 
 import os
 import subprocess
@@ -22,6 +23,8 @@ FOLDERS = int(os.environ.get("FOLDERS", "20000"))
 ALONE = 2_000
 STARTED = int(os.environ.get("STARTED", "1000000"))
 PIECES = int(os.environ.get("PIECES", str(4 << 30)))
+# so many finished files have these pieces where the journal is made smaller
+FINISHED = 1_000
 # as long as a sync takes on a common disk that writes before it answers
 SLOW = 2_000
 # a profile has at most this many nodes
@@ -134,15 +137,15 @@ def many_folders(count):
             yield folder(number, b"%d" % name, profile=profile)
 
 
-def many_pieces(size):
-    """The frames of files of 64 MiB in pieces of 1 MiB."""
+def many_pieces(size, pieces=64):
+    """The frames of files of so many pieces of 1 MiB."""
     content = os.urandom(1 << 20)
     yield create(1)
     number = 1
-    for node in range(1, size // (64 << 20) + 1):
+    for node in range(1, size // (pieces << 20) + 1):
         number += 1
-        yield file(number, b"%d" % node, 64 << 20, 1 << 20)
-        for index in range(64):
+        yield file(number, b"%d" % node, pieces << 20, 1 << 20)
+        for index in range(pieces):
             number += 1
             yield piece(number, node, index, content)
         number += 1
@@ -168,6 +171,23 @@ def start(folder, frames):
     return begun, plain, written, size
 
 
+def compaction(folder):
+    """Seconds of `compact` over a journal of finished files, and those of `cp` of it, and its size before and after."""
+    path, copy = os.path.join(folder, "desk.journal"), os.path.join(folder, "copy.journal")
+    with subprocess.Popen([PROGRAM, "run", "--journal", path], stdin=subprocess.PIPE, stdout=subprocess.DEVNULL, stderr=subprocess.DEVNULL) as written:
+        for frame in many_pieces(PIECES, max(1, (PIECES >> 20) // FINISHED)):
+            written.stdin.write(frame)
+    assert written.returncode == 0
+    copied, compacted = [], []
+    for _ in range(ROUNDS):
+        copied.append(timed(lambda: subprocess.run(["cp", path, copy], check=True)))
+        compacted.append(timed(lambda: subprocess.run([PROGRAM, "compact", "--quiet", copy], check=True, stderr=subprocess.DEVNULL)))
+    sizes = os.path.getsize(path), os.path.getsize(copy)
+    os.remove(path)
+    os.remove(copy)
+    return middle(compacted), middle(copied), *sizes
+
+
 def main():
     place = os.environ.get("JOURNAL_FOLDER")
     with tempfile.TemporaryDirectory(dir=place) as folder_of_all:
@@ -188,6 +208,8 @@ def main():
         for what, frames in (f"{STARTED} folders", many_folders(STARTED)), (f"{PIECES >> 20} MiB of pieces", many_pieces(PIECES)):
             begun, through, written, size = start(folder_of_all, frames)
             print(f"a start over {what}: {begun:.2f} s ({size} bytes), `run` {through:.2f} s: {begun / through:.2f} (1.2); with a journal {written:.2f} s")
+        compacted, copied, before, after = compaction(folder_of_all)
+        print(f"compaction of {before} bytes to {after} (at most 5000000): {compacted:.2f} s, `cp` {copied:.2f} s: {compacted / copied:.2f} (2)")
 
 
 if __name__ == "__main__":

@@ -1,7 +1,7 @@
 #!/bin/sh
 # Tests `run` and `serve` with a journal: run.sh PROGRAM
-# KILLS is how often the service is killed (of journal_kills; 300 for all) and `compact` (of journal_compact), STEP of how many bytes one is changed (of
-# journal_damage; 1 for all).
+# KILLS is how often the service is killed (of journal_kills; 300 for all) and `compact` (of journal_compact), STEP of how many
+# bytes one is changed (of journal_damage; 1 for all).
 set -u
 tests=$(cd "$(dirname "$0")/../.." && pwd)
 . "$tests/lib/modules.sh"
