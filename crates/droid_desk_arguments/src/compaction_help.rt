@@ -9,10 +9,9 @@ pub const COMPACT_QUIET_HELP: &str = "Do not print how large the journal was and
 
 pub const COMPACT_HELP: &str = "\
 A service that is started with the smaller journal answers every request as it would with the larger
-one. FILE is read as `serve` reads it, so name the registry of its first start. The smaller journal is
-written to FILE.new, and gets the name of FILE once it is complete and on the disk: a crash at any
-moment leaves one or the other. A FILE.new that is there already is removed. FILE must not be in use
-by a service. The disk needs room for both.
+one. It is written to FILE.new, and gets the name of FILE once it is complete and on the disk: a crash
+at any moment leaves one or the other. A FILE.new that is there already is removed. FILE must not be
+in use by a service. Name the registry of its first start. The disk needs room for both.
 
 Standard error has the number of records and of bytes before and after.
 

@@ -6,12 +6,14 @@ ghost use Rattle.droid_desk_service.specs.JournalEndings.{IsCompactionEnd, IsUno
 use crate::commands::note_sample;
 use crate::ended::Ended;
 use crate::ending::Ending;
-use crate::journal_commands::{MachineJournal, journal_for, journal_over, registry_and_service};
+use crate::journal_commands::{
+    MachineJournal, file_at, journal_for, journal_in, journal_over, registry_and_service,
+};
 use crate::journal_fault::JournalFault;
 use crate::smaller_journal::{is_worth_it, make_smaller};
 use droid_desk_arguments::RegistrySource;
 use droid_journal_rewriting::{Folder, Size};
-use droid_wire::{DiskFault, DiskLog, Fault, FileDrive};
+use droid_wire::{DiskFault, DiskLog, Fault, FileDrive, Service};
 use std::fs::{self, File, Files};
 use std::io::ErrorKind;
 
@@ -48,7 +50,8 @@ where
     }
 }
 
-/// Opens the journal at a path as `serve` does, but makes none, and makes it smaller.
+/// Makes the journal at a path smaller. None is made if none is there. Its records are those that were written, by their check
+/// values; what stands behind them is cut off, or told as damage, by opening it as `serve` does.
 fn compact_journal<'a, R>(
     rt: &'a R,
     source: RegistrySource<'a>,
@@ -65,14 +68,48 @@ where
     if let Err(error) = fs::symlink_metadata(rt, path) {
         return Err(Ended::by_journal(JournalFault::Unopened(error.kind()), path));
     }
-    let journal = match journal_over(rt, path, &registry, service) {
-        Ok(journal) => journal,
-        Err(ended) => return Err(ended),
-    };
-    match put_smaller(rt, path, &journal, &registry) {
+    match compact_at(rt, path, &registry, service) {
         Ok(sizes) => Ok(sizes),
         Err(fault) => Err(Ended::by_journal(fault, path)),
     }
+}
+
+/// Makes the journal at a path smaller; its registry has these bytes, and the new service has that registry.
+fn compact_at<R>(
+    rt: &R,
+    path: &str,
+    registry: &[u8],
+    service: Service,
+) -> Result<Sizes, JournalFault>
+where
+    R: Files<File = File> + Eprint + AllocGlobal,
+{
+    let file = match file_at(rt, path) {
+        Ok(file) => file,
+        Err(fault) => return Err(fault),
+    };
+    match put_smaller(rt, path, &file, registry) {
+        Ok(sizes) => return Ok(sizes),
+        Err(fault) => {
+            if !needs_opening(fault) {
+                return Err(fault);
+            }
+        }
+    }
+    let journal = match journal_in(rt, file, registry, service) {
+        Ok(journal) => journal,
+        Err(fault) => return Err(fault),
+    };
+    put_smaller(rt, path, journal.file(), registry)
+}
+
+/// Returns whether only opening a journal tells what is wrong with it, or mends it: it has no whole header, or bytes behind its
+/// records.
+fn needs_opening(fault: JournalFault) -> bool {
+    matches!(
+        fault,
+        JournalFault::Closed(Fault::Header) | JournalFault::Closed(Fault::Damage(_))
+    )
 }
 
 /// Reads this registry, and opens the journal at a path over a new service with it. A large journal is made smaller before, if
@@ -113,7 +150,7 @@ where
         Ok(true) => {}
         _ => return true,
     }
-    match put_smaller(rt, path, journal, registry) {
+    match put_smaller(rt, path, journal.file(), registry) {
         Ok(sizes) => {
             note_sizes(rt, path, sizes);
             false
@@ -133,11 +170,11 @@ fn is_large<R: Files>(rt: &R, path: &str) -> bool {
     }
 }
 
-/// Writes an open journal anew beside it, and gives the smaller one its name. If that fails no other file is left.
+/// Writes the journal in an open file anew beside it, and gives the smaller one its name. If that fails no other file is left.
 fn put_smaller<R>(
     rt: &R,
     path: &str,
-    journal: &MachineJournal<'_, R>,
+    file: &DiskLog<FileDrive<'_, R>>,
     registry: &[u8],
 ) -> Result<Sizes, JournalFault>
 where
@@ -152,7 +189,7 @@ where
     };
     let new = DiskLog { drive };
     let mut folder = Folder::new(rt, path, beside.as_str());
-    match make_smaller(rt.alloc(), journal.file(), registry, new, &mut folder) {
+    match make_smaller(rt.alloc(), file, registry, new, &mut folder) {
         Ok(smaller) => Ok(Sizes {
             before: smaller.before,
             after: smaller.after,

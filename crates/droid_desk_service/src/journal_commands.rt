@@ -204,15 +204,41 @@ fn journal_at<'a, R>(
 where
     R: Files<File = File> + Eprint + AllocGlobal,
 {
+    match file_at(rt, path) {
+        Ok(file) => journal_in(rt, file, registry, service),
+        Err(fault) => Err(fault),
+    }
+}
+
+/// Opens the file at a path, and makes it if it is not there.
+pub(crate) fn file_at<'a, R>(
+    rt: &'a R,
+    path: &'a str,
+) -> Result<DiskLog<FileDrive<'a, R>>, JournalFault>
+where
+    R: Files<File = File> + Eprint + AllocGlobal,
+{
+    match FileDrive::open(rt, path) {
+        Ok(drive) => Ok(DiskLog { drive }),
+        Err(fault) => Err(JournalFault::of_disk(fault)),
+    }
+}
+
+/// Opens the journal in a file over a new service with the registry that has these bytes.
+pub(crate) fn journal_in<'a, R>(
+    rt: &'a R,
+    file: DiskLog<FileDrive<'a, R>>,
+    registry: &[u8],
+    service: Service,
+) -> Result<MachineJournal<'a, R>, JournalFault>
+where
+    R: Files<File = File> + Eprint + AllocGlobal,
+{
     let random = match random_bytes(rt) {
         Ok(random) => random,
         Err(kind) => return Err(JournalFault::Unopened(kind)),
     };
-    let drive = match FileDrive::open(rt, path) {
-        Ok(drive) => drive,
-        Err(fault) => return Err(JournalFault::of_disk(fault)),
-    };
-    match open_journal(rt.alloc(), DiskLog { drive }, registry, &random, service) {
+    match open_journal(rt.alloc(), file, registry, &random, service) {
         Ok(journal) => Ok(journal),
         Err(fault) => Err(JournalFault::Closed(fault)),
     }
