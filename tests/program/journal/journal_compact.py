@@ -15,7 +15,7 @@ from journal_session import REGISTRY, InJournal, contents, run_journal, sample_b
 from journal_smaller import ASKED, EXPORT_ALL, MORE, by_model
 from lib.connections import SECONDS, connect, read_exactly
 from lib.frames import HEADER, NODE, PIECE, create, file, finish, piece, reply
-from lib.program import EVERYDAY, PROGRAM
+from lib.program import EVERYDAY, PROGRAM, preloaded
 from smaller_file import smaller
 
 KILLS = int(os.environ.get("KILLS", "30"))
@@ -26,9 +26,9 @@ COMMAND = 256
 LARGE = 64 << 20
 
 
-def compact(path, *more, registry=REGISTRY, before=None):
+def compact(path, *more, registry=REGISTRY, env=None, before=None):
     """Runs `compact`: its status, its standard output, and its standard error."""
-    done = subprocess.run([PROGRAM, "compact", *registry, *more, path], capture_output=True, timeout=SECONDS, preexec_fn=before)
+    done = subprocess.run([PROGRAM, "compact", *registry, *more, path], capture_output=True, timeout=SECONDS, env=env, preexec_fn=before)
     return done.returncode, done.stdout, done.stderr
 
 
@@ -81,6 +81,14 @@ class Compaction(InJournal):
         new = self.becomes_smaller()
         self.assertEqual(compact(self.path, "--quiet"), (0, b"", b""))
         self.assertEqual(contents(self.path), new)
+
+    def test_on_the_disk_first(self):
+        """All of the smaller journal is synced while it has its own name (synced.c notes how much of a file of that name is)."""
+        self.make(ASKED)
+        synced = os.path.join(self.folder, "synced")
+        env = preloaded("SYNCED", JOURNAL="/desk.journal.new", SYNCED=synced)
+        self.assertEqual(compact(self.path, "--quiet", env=env), (0, b"", b""))
+        self.assertEqual(int(contents(synced)), len(contents(self.path)))
 
     def test_no_record(self):
         for data in (b"", contents_of_a_start(self)):
