@@ -16,6 +16,6 @@ returns-in-Ok-flush-clause-written g c = λ s have_ended here empty ended.
       all.3,
       record {
         records_are = st.records_are;
-        bytes_are = omega (arith, c.in-Ok-flush.ensures.bytes, st.bytes_are, ap length st.joined, length-append st.written _);
+        bytes_are = omega (arith, c.in-Ok-flush.ensures.bytes, st.bytes_are, ap length st.joined, length-append st.written c.take_whole.new.taker.out.items);
       },
     )

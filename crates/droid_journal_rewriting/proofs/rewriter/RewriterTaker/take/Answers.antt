@@ -23,8 +23,8 @@ returns-then-len-lt-COLLECTED-clause-took g c = λ aim before first st.
     refl refl c.in-Ok-spell.ensures.check c.in-Ok-spell.ensures.fits st.written st.there (search rules) st.bytes_are
     (ap (λ (t : List ℕ). st.written ++ t) c.in-Ok-spell.ensures.bytes ∙ sym (append_assoc st.written self.out.items one))
 
-pub returns-in-Ok-flush-clause-took : goal.returns-in-Ok-flush-clause-took
-returns-in-Ok-flush-clause-took g c = λ aim before first st.
+pub returns-clause-took : goal.returns-clause-took
+returns-clause-took g c = λ aim before first st.
     let self = c.args.self.now in
     let told : c.has.result ≡ false = search rules in
     let one : List ℕ = record_bytes self.start self.check (made true (smaller_request (has_number self.ended) c.args.request.now c.args.reply.now) c.args.reply.now) in

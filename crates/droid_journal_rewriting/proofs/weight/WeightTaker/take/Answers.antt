@@ -1,4 +1,4 @@
-use Rattle.std.proofs.Common.{rules, ◌≡◌, ◌+◌}
+use Rattle.std.proofs.Common.{rules, ◌≡◌, ◌+◌, sym}
 use Rattle.droid_journal_chain.specs.Records.{made}
 use Rattle.droid_journal_rewriting.proofs.Weighing.{weighed_more}
 use Rattle.droid_journal_rewriting.proofs.weight.WeightTaker.take.Goals as goal
