@@ -2,7 +2,7 @@
 
 use crate::memory_log::MemoryLog;
 use droid_journal::FileError;
-use droid_journal_exchange::Exchange;
+use droid_journal_rewriting::Exchange;
 
 /// So many more calls succeed; then each fails.
 #[derive(Drop)]

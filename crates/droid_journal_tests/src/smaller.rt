@@ -2,8 +2,8 @@
 
 use crate::memory_log::MemoryLog;
 use crate::memory_name::MemoryName;
-use crate::sample::{ENDS, SMALLER, WHOLE};
-use droid_journal_rewriting::{RewriteFault, compact};
+use crate::sample::{ENDS, HALF, MORE, SMALLER, WHOLE};
+use droid_journal_rewriting::{RewriteFault, Size, Smaller, compact, is_mostly_ended};
 use std::alloc::Global;
 use std::test::Fail;
 
@@ -16,30 +16,40 @@ fn made(
     header: &[u8; 10],
     calls: usize,
     name: &mut MemoryName,
-) -> Result<Result<MemoryLog, RewriteFault>, Fail> {
+) -> Result<Result<Smaller<MemoryLog>, RewriteFault>, Fail> {
     let old = MemoryLog::new(bytes.to_vec(alloc)?, 99);
     let new = MemoryLog::new(Vec::new(alloc), calls);
     Ok(compact(alloc, &old, header, new, name))
 }
 
-// Whether the smaller journal of these bytes is that of the sample, all of it on the disk under the name for sure.
-fn gives_the_smaller(alloc: Global, bytes: &[u8]) -> Result<bool, Fail> {
+// Whether the smaller journal of these bytes is that of the sample, all of it on the disk under the name for sure. The one
+// has so many records, and the other 10.
+fn gives_the_smaller(alloc: Global, bytes: &[u8], records: u64) -> Result<bool, Fail> {
     let mut name = MemoryName::new(2);
-    let Ok(file) = made(alloc, bytes, HEADER, 2, &mut name)? else {
+    let Ok(smaller) = made(alloc, bytes, HEADER, 2, &mut name)? else {
         return Ok(false);
     };
+    if !is_size(smaller.before, records, bytes) || !is_size(smaller.after, 10, SMALLER) {
+        return Ok(false);
+    }
+    let file = smaller.file;
     Ok(file.bytes.as_slice() == SMALLER.as_slice() && file.synced == SMALLER.len() && name.is_kept)
+}
+
+// Whether the size is that of these bytes, with so many records.
+fn is_size(size: Size, records: u64, bytes: &[u8]) -> bool {
+    size.records == records && size.bytes == bytes.len() as u64
 }
 
 #[test]
 fn a_journal_is_made_smaller(rt: HostRuntime) -> Result<(), Fail> {
-    assert!(rt; gives_the_smaller(rt.alloc(), WHOLE)?);
+    assert!(rt; gives_the_smaller(rt.alloc(), WHOLE, 12)?);
     Ok(())
 }
 
 #[test]
 fn a_smaller_one_stays_as_it_is(rt: HostRuntime) -> Result<(), Fail> {
-    assert!(rt; gives_the_smaller(rt.alloc(), SMALLER)?);
+    assert!(rt; gives_the_smaller(rt.alloc(), SMALLER, 10)?);
     Ok(())
 }
 
@@ -146,5 +156,23 @@ fn each_call_fails_in_turn(rt: HostRuntime) -> Result<(), Fail> {
         )
     );
     assert!(rt; matches!(fault_of(alloc, WHOLE, HEADER, 2, 2)?, None));
+    Ok(())
+}
+
+// Whether more than half of a journal of these bytes is of pieces of files that have ended; `None` if it fails.
+fn mostly(alloc: Global, bytes: &[u8]) -> Result<Option<bool>, Fail> {
+    let file = MemoryLog::new(bytes.to_vec(alloc)?, 0);
+    Ok(is_mostly_ended(alloc, &file, HEADER).ok())
+}
+
+// Half of the bytes are not more than half; nor is a piece of a file that goes on.
+#[test]
+fn pieces_are_weighed(rt: HostRuntime) -> Result<(), Fail> {
+    let alloc = rt.alloc();
+    assert_eq!(rt; mostly(alloc, HALF)?, Some(false));
+    assert_eq!(rt; mostly(alloc, MORE)?, Some(true));
+    assert_eq!(rt; mostly(alloc, &MORE[..420])?, Some(false));
+    assert_eq!(rt; mostly(alloc, SMALLER)?, Some(false));
+    assert_eq!(rt; mostly(alloc, &MORE[..421])?, None);
     Ok(())
 }
