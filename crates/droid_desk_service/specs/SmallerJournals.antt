@@ -1,8 +1,8 @@
 -- The journal of the program's service, made smaller (this project's own).
 use Rattle.std.specs.Prelude.{ℕ, ◌↔◌, Bool, IsTrue, List}
-use Rattle.droid_journal_rewriting.specs.Shortening.{HasBehind, IsShortened, IsWhole}
-use Rattle.droid_journal_rewriting.specs.Sizes.{AreMostlyEnded, AreSizes}
-use Rattle.droid_journal_rewriting.specs.declared.size.Size.{Size}
+use Rattle.droid_wire.specs.with_journal.service.rewriting.Shortening.{HasBehind, IsShortened, IsWhole}
+use Rattle.droid_wire.specs.with_journal.service.rewriting.Sizes.{AreMostlyEnded, AreSizes}
+use Rattle.droid_wire.specs.with_journal.service.rewriting.declared.size.Size.{Size}
 use Rattle.droid_desk_service.specs.Journals.{IsHeaderOf}
 use Rattle.droid_wire.specs.with_journal.service.chain.Records.{Record}
 

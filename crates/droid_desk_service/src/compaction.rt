@@ -12,8 +12,7 @@ use crate::journal_commands::{
 use crate::journal_fault::JournalFault;
 use crate::smaller_journal::{is_worth_it, make_smaller};
 use droid_desk_arguments::RegistrySource;
-use droid_journal_rewriting::{Folder, Size};
-use droid_wire::{DiskFault, DiskLog, Fault, FileDrive, Service};
+use droid_wire::{DiskFault, DiskLog, Fault, FileDrive, Folder, Service, Size};
 use std::fs::{self, File, Files};
 use std::io::ErrorKind;
 

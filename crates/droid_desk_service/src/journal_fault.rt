@@ -3,8 +3,7 @@
 ghost use Rattle.std.specs.Prelude.{◌≡◌};
 ghost use Rattle.droid_desk_service.specs.Endings.{journal_status_of};
 
-use droid_journal_rewriting::RewriteFault;
-use droid_wire::{DiskFault, Fault};
+use droid_wire::{DiskFault, Fault, RewriteFault};
 use std::io::{self, ErrorKind};
 
 /// Why a journal ends the program.

@@ -6,8 +6,9 @@ ghost use Rattle.droid_desk_service.specs.SmallerJournals.{AreSizesOf, HasBytesB
 ghost use Rattle.droid_wire.specs.with_journal.service.journal.Opening.{HasHeader};
 
 use crate::journal::header_text;
-use droid_journal_rewriting::{Exchange, RewriteFault, Smaller, compact, is_mostly_ended};
-use droid_wire::{Fault, LogFile, header_for};
+use droid_wire::{
+    Exchange, Fault, LogFile, RewriteFault, Smaller, compact, header_for, is_mostly_ended,
+};
 use std::alloc::Global;
 
 /// The header is that of the file, which has all of it: no random byte goes into it.
