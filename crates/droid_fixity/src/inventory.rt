@@ -1,6 +1,7 @@
 //! Inventories: items in the order of their paths.
 
 ghost use Rattle.std.specs.Prelude.{◌≡◌, ◌<◌, ℕ, true, false, IfErr, IfNone, IfOk, IfSome, IsPermutation, length, map};
+ghost use Rattle.std.specs.List.Sorted.{IsSortedBy};
 ghost use Rattle.std.specs.Ordering.{nat_cmp};
 ghost use Rattle.std.specs.Cmp.Lexicographic.{slice_cmp};
 ghost use Rattle.droid_fixity.specs.Inventories.{AreInOrder, IsBeforeAt, IsTwice, is_before};
@@ -37,14 +38,17 @@ pub struct SamePath {
 }
 
 impl Inventory {
-    /// Sorts items by the bytes of their paths. Two items of one path are an error. Takes no memory.
+    /// Sorts items by the bytes of their paths. Two items of one path are an error.
+    ///
+    /// Never runs out of memory: where there is none, only the sort takes longer. The cost grows with the number of items
+    /// if they come in few sorted runs.
     pub fn of(items: Vec<Item>) -> Result<Inventory, SamePath>
         ensures same { IfOk result (λ inventory. IsPermutation items.items inventory) }
         // The reported path is the path of two items.
         ensures twice { IfErr result (λ fault. IsTwice items.items fault.path) }
     {
         let mut items = items;
-        items.sort_unstable_by(|first, second| order_of(first, second));
+        sort_by_path(&mut items);
         match first_repeated(items.as_slice()) {
             None => Ok(Inventory { items }),
             Some(place) => {
@@ -60,6 +64,17 @@ impl Inventory {
         ensures in_order { AreInOrder (map (λ item. item.path) self.now) }
     {
         self.items.as_slice()
+    }
+}
+
+/// Sorts items by path. The stable sort keeps the sorted runs that lists come in, but takes memory.
+fn sort_by_path(items: &mut Vec<Item>)
+    ensures same { IsPermutation items.old.items items.new.items }
+    ensures sorted { IsSortedBy (λ a b. is_before a.path b.path) items.new.items }
+{
+    match items.sort_by(|first, second| order_of(first, second)) {
+        Ok(()) => {}
+        Err(_) => items.sort_unstable_by(|first, second| order_of(first, second)),
     }
 }
 

@@ -1,5 +1,5 @@
 -- The records of a journal that was made small, and their history (this project's own).
-use Rattle.std.specs.Prelude.{◌≡◌, ◌⊎◌, if◌then◌else◌, true, List, [], ◌∷◌, ◌++◌, Some}
+use Rattle.std.specs.Prelude.{◌≡◌, ◌⊎◌, ℕ, if◌then◌else◌, true, List, [], ◌∷◌, ◌++◌, Some}
 use Rattle.droid_core_revival.specs.frame.Frames.{frame_bytes}
 use Rattle.droid_core_revival.specs.frame.Replies.{HasReplySpelling}
 use Rattle.droid_core_revival.specs.frame.ReplyFrames.{reply_frame}
@@ -9,7 +9,8 @@ use Rattle.droid_core_revival.specs.frame.types.reply.Reply.{Reply}
 use Rattle.droid_core_revival.specs.frame.types.request.Request.{Request}
 use Rattle.droid_core_revival.specs.frame.types.request.Request.TheVariants.{Piece, Finish}
 use Rattle.droid_core_revival.specs.BareWorlds.{Bare}
-use Rattle.droid_core_revival.specs.core.Histories.{Entry, History, IsNext, command, is_request_of, kept}
+use Rattle.droid_core_revival.specs.Ending.{IsEnded}
+use Rattle.droid_core_revival.specs.core.Histories.{Entry, History, IsNext, command, is_request_of, kept, world_of}
 use Rattle.droid_core_revival.specs.core.Setting.{Setting}
 use Rattle.droid_journal_bare.specs.BareFrames.{bare_finish, bare_piece}
 use Rattle.droid_journal_chain.specs.Records.{Record}
@@ -57,3 +58,9 @@ IsAfter setting bare before it after =
 abbrev pub HaveHistory : Setting → Bare → History → List Record → History → Type 0
 HaveHistory setting bare before [] all = all ≡ before
 HaveHistory setting bare before (it ∷ its) all = (after : History) × IsAfter setting bare before it after × HaveHistory setting bare after its all
+
+-- The records have this history, without the bytes of these files, each of which has ended in it: so a service that is made of
+-- them stands for it. No history can be computed from such records, as they have a mark in the place of a piece.
+pub record LeadTo (setting : Setting) (bare : Bare) (records : List Record) (history : History) : Type 0 where
+  pub have : HaveHistory setting bare [] records history
+  pub ended : (profile file : ℕ) → bare profile file ≡ true → IsEnded (world_of setting history) profile file

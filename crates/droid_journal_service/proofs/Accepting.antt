@@ -1,24 +1,24 @@
 -- What goes into the journal: every command that is accepted and new.
 use Rattle.std.proofs.Common.{◌≡◌, ◌^◌, nat_lt, cond, Bool, true, false, Option, Some, None, IsSome, refl, sym, ap, subst, ◌∙◌}
 use Rattle.std.specs.Prelude.{MatchBool}
-use Rattle.droid_frame.specs.Streams.{IsReadable}
-use Rattle.droid_frame.specs.types.frame.Frame.{Frame}
-use Rattle.droid_frame.specs.types.reply.Reply.{Reply}
-use Rattle.droid_frame.specs.types.reply.Reply.TheVariants.{Refused}
-use Rattle.droid_frame.specs.types.request.Request.{Request}
-use Rattle.droid_frame.specs.Bodies.{request_kind}
-use Rattle.droid_frame.specs.Fields.{IsBytes}
-use Rattle.droid_frame.specs.Values.{request_in, request_value}
-use Rattle.droid_frame.proofs.RequestLaws.{value_is_spelled}
-use Rattle.droid_core.proofs.Judged.{judged}
-use Rattle.droid_core.proofs.Meetings.{answer_by, next_by, whatever_meets}
-use Rattle.droid_core.specs.Histories.{Entry, Handles, History, Meeting, New, answer, command, history_with, kept, meeting, next, reply_to, world_of}
-use Rattle.droid_core.specs.Judging.{Accepted, Answered, Refuses, Verdict}
-use Rattle.droid_core.specs.MemoryFaults.{is_out_of_memory}
-use Rattle.droid_core.specs.Setting.{Setting}
-use Rattle.droid_core.specs.Standing.{StandsFor}
-use Rattle.droid_core.specs.Verdicts.{MayCome, is_command, is_refused}
-use Rattle.droid_core.specs.declared.service.Service.{Service}
+use Rattle.droid_journal_smaller.specs.recovery.frame.Streams.{IsReadable}
+use Rattle.droid_journal_smaller.specs.recovery.frame.types.frame.Frame.{Frame}
+use Rattle.droid_journal_smaller.specs.recovery.frame.types.reply.Reply.{Reply}
+use Rattle.droid_journal_smaller.specs.recovery.frame.types.reply.Reply.TheVariants.{Refused}
+use Rattle.droid_journal_smaller.specs.recovery.frame.types.request.Request.{Request}
+use Rattle.droid_journal_smaller.specs.recovery.frame.Bodies.{request_kind}
+use Rattle.droid_journal_smaller.specs.recovery.frame.Fields.{IsBytes}
+use Rattle.droid_journal_smaller.specs.recovery.frame.Values.{request_in, request_value}
+use Rattle.droid_journal_smaller.proofs.recovery.frame.RequestLaws.{value_is_spelled}
+use Rattle.droid_journal_smaller.proofs.core.Judged.{judged}
+use Rattle.droid_journal_smaller.proofs.core.Meetings.{answer_by, next_by, whatever_meets}
+use Rattle.droid_journal_smaller.specs.core.Histories.{Entry, Handles, History, Meeting, New, answer, command, history_with, kept, meeting, next, reply_to, world_of}
+use Rattle.droid_journal_smaller.specs.core.Judging.{Accepted, Answered, Refuses, Verdict}
+use Rattle.droid_journal_smaller.specs.core.MemoryFaults.{is_out_of_memory}
+use Rattle.droid_journal_smaller.specs.core.Setting.{Setting}
+use Rattle.droid_journal_smaller.specs.core.Standing.{StandsFor}
+use Rattle.droid_journal_smaller.specs.core.Verdicts.{MayCome, is_command, is_refused}
+use Rattle.droid_journal_smaller.specs.core.declared.service.Service.{Service}
 use Rattle.droid_journal_service.specs.Histories.{history_then}
 
 -- the kind of a frame is that of the request that it asks
@@ -26,13 +26,21 @@ where_it_holds : (b : Bool) (value : Option Request) (request : Request) → con
 where_it_holds true value request is = is
 where_it_holds false value request is = absurd cc
 
-kind_asked : (frame : Frame) (request : Request) → IsBytes frame.body → command frame ≡ Some request → frame.kind ≡ request_kind request
+pub kind_asked : (frame : Frame) (request : Request) → IsBytes frame.body → command frame ≡ Some request → frame.kind ≡ request_kind request
 unfolding command request_in
 kind_asked frame request are is =
     (value_is_spelled frame.version frame.kind frame.body request are (where_it_holds (nat_lt frame.number (2 ^ 63)) (request_value frame.version frame.kind frame.body) request is)).kind_is
 
-contrary : (b : Bool) → b ≡ true → b ≡ false → ⊥
+pub contrary : (b : Bool) → b ≡ true → b ≡ false → ⊥
 contrary b is isnt = cc
+
+pub held : (b accepted : Bool) → (b ≡ false → accepted ≡ false) → accepted ≡ true → b ≡ true
+held true accepted unless is = refl
+held false accepted unless is = absurd (contrary accepted is (unless refl))
+
+pub held_not : (b accepted : Bool) → (b ≡ true → accepted ≡ false) → accepted ≡ true → b ≡ false
+held_not true accepted unless is = absurd (contrary accepted is (unless refl))
+held_not false accepted unless is = refl
 
 refused_memory : (reply : Reply) → is_out_of_memory reply ≡ true → is_refused reply ≡ true
 refused_memory (Refused refusal) is = refl

@@ -1,17 +1,17 @@
 -- A service and its journal, call by call.
 use Rattle.std.proofs.Common.{◌≡◌, ◌⊎◌, ℕ, Bool, true, false, Option, Some, None, IsSome, List, [], ◌∷◌, ◌++◌, refl, sym, subst, ◌∙◌, inl, inr}
 use Rattle.std.specs.Prelude.{MatchBool}
-use Rattle.droid_frame.specs.types.frame.Frame.{Frame}
-use Rattle.droid_frame.specs.types.reply.Reply.{Reply}
-use Rattle.droid_core.specs.Histories.{Handles, History, answer, command, next}
-use Rattle.droid_core.specs.MemoryFaults.{is_out_of_memory}
-use Rattle.droid_core.specs.Setting.{Setting}
+use Rattle.droid_journal_smaller.specs.recovery.frame.types.frame.Frame.{Frame}
+use Rattle.droid_journal_smaller.specs.recovery.frame.types.reply.Reply.{Reply}
+use Rattle.droid_journal_smaller.specs.core.Histories.{Handles, History, answer, command, next}
+use Rattle.droid_journal_smaller.specs.core.MemoryFaults.{is_out_of_memory}
+use Rattle.droid_journal_smaller.specs.core.Setting.{Setting}
 use Rattle.droid_journal_disk.specs.journal.Machines.{Answers, extended, record_of}
 use Rattle.droid_journal_disk.specs.journal.Standing.{Keeps, Stands, WroteOne}
 use Rattle.droid_journal_disk.specs.journal.declared.journal.Journal.{Journal}
 use Rattle.droid_journal_disk.specs.chain.Records.{Record}
 use Rattle.droid_journal_disk.proofs.chain.Chains.{front_fit}
-use Rattle.droid_journal_service.specs.Histories.{GivesReply, IsHistoryOf, StandsForRecords, history_then}
+use Rattle.droid_journal_service.specs.Histories.{Base, GivesReply, IsHistoryBehind, StandsForRecords, history_then}
 use Rattle.droid_journal_service.specs.Standing.{AnswersIn, IsNextOr, KeepsHistory, StandsForHistory}
 use Rattle.droid_journal_service.specs.declared.service_machine.ServiceMachine.{ServiceMachine}
 use Rattle.droid_journal_service.proofs.HistoryLaws.{one_history, records_then}
@@ -29,44 +29,46 @@ next_or setting history frame true = inr refl
 next_or setting history frame false = inl refl
 
 module _ {F : Type 0} (has : F → List ℕ → Type 0) (kept : F → List ℕ) (setting : Setting) (header : List ℕ) where
-  abbrev OfRecords : ServiceMachine → List Record → Type 0
-  OfRecords machine its = StandsForRecords setting machine.service its
+  abbrev OfRecords : Base setting → ServiceMachine → List Record → Type 0
+  OfRecords base machine its = StandsForRecords setting base machine.service its
 
   -- what a reply says of the records says of the history
-  gives_in : (records : List Record) (all : History) (frame : Frame) (reply : Reply) (accepted : Bool) → IsHistoryOf setting records all → GivesReply setting records frame reply accepted
+  gives_in : (base : Base setting) (records : List Record) (all : History) (frame : Frame) (reply : Reply) (accepted : Bool) → IsHistoryBehind setting base records all → GivesReply setting base records frame reply accepted
       → Handles setting all frame reply (λ after. after ≡ history_then setting all frame accepted) × (accepted ≡ true → reply ≡ answer setting all frame)
-  gives_in records all frame reply accepted its gives =
-      let same : gives.history ≡ all = one_history setting records gives.history all gives.its its in (
+  gives_in base records all frame reply accepted its gives =
+      let same : gives.history ≡ all = one_history setting base records gives.history all gives.its its in (
         subst (λ (h : History). Handles setting h frame reply (λ after. after ≡ history_then setting h frame accepted)) same gives.handled,
         subst (λ (h : History). accepted ≡ true → reply ≡ answer setting h frame) same gives.answered,
       )
 
   pub answers_in : (old new : Journal F ServiceMachine) (synced all : History) (frame : Frame) (reply : Reply) (first accepted : Bool) → (stood : StandsForHistory has kept setting header old synced all)
-      → Answers (GivesReply setting) stood.records frame reply accepted → Stands has kept OfRecords header new stood.first (extended stood.records first frame reply accepted)
+      → Answers (GivesReply setting stood.base) stood.records frame reply accepted → Stands has kept (OfRecords stood.base) header new stood.first (extended stood.records first frame reply accepted)
       → AnswersIn setting all frame reply (StandsForHistory has kept setting header new synced)
   answers_in old new synced all frame reply first accepted stood (inl gives) stands =
-      let said = gives_in stood.records all frame reply accepted stood.accepted gives in
+      let said = gives_in stood.base stood.records all frame reply accepted stood.accepted gives in
       inl (by_memory (IsSome (command frame)) (reply ≡ answer setting all frame) (λ after. after ≡ history_then setting all frame accepted) (StandsForHistory has kept setting header new synced) (is_out_of_memory reply) all (next setting all frame) (λ after is. record {
+        base = stood.base;
         first = stood.first;
         records = extended stood.records first frame reply accepted;
         stands = stands;
         on_disk = stood.on_disk;
-        accepted = subst (IsHistoryOf setting (extended stood.records first frame reply accepted)) (sym is) (records_then setting stood.records first all frame reply accepted gives.readable stood.accepted said.1);
+        accepted = subst (IsHistoryBehind setting stood.base (extended stood.records first frame reply accepted)) (sym is) (records_then setting stood.base stood.records first all frame reply accepted gives.readable gives.spelled stood.accepted said.1 gives.command gives.unrefused);
       }) said.0)
   answers_in old new synced all frame reply first accepted stood (inr other) stands =
       inr (
         other.1,
         record {
+          base = stood.base;
           first = stood.first;
           records = stood.records;
-          stands = subst (λ (b : Bool). Stands has kept OfRecords header new stood.first (extended stood.records first frame reply b)) other.0 stands;
+          stands = subst (λ (b : Bool). Stands has kept (OfRecords stood.base) header new stood.first (extended stood.records first frame reply b)) other.0 stands;
           on_disk = stood.on_disk;
           accepted = stood.accepted;
         },
       )
 
-  keeps_these : (journal : Journal F ServiceMachine) (first records : List Record) → Stands has kept OfRecords header journal first records → Keeps kept header journal.file first records
-  keeps_these journal first records stands = record {
+  keeps_these : (base : Base setting) (journal : Journal F ServiceMachine) (first records : List Record) → Stands has kept (OfRecords base) header journal first records → Keeps kept header journal.file first records
+  keeps_these base journal first records stands = record {
     on_disk = stands.on_disk;
     turn = stands.turn;
     fit = front_fit first records (stands.turn.turn, stands.turn.parts) stands.fit;
@@ -74,31 +76,33 @@ module _ {F : Type 0} (has : F → List ℕ → Type 0) (kept : F → List ℕ) 
 
   pub keeps_history : (journal : Journal F ServiceMachine) (synced all : History) → (stood : StandsForHistory has kept setting header journal synced all) → KeepsHistory kept setting header journal.file stood.records synced all
   keeps_history journal synced all stood = record {
+    base = stood.base;
     first = stood.first;
-    keeps = keeps_these journal stood.first stood.records stood.stands;
+    keeps = keeps_these stood.base journal stood.first stood.records stood.stands;
     on_disk = stood.on_disk;
     accepted = stood.accepted;
   }
 
-  pub settled_in : (old new : Journal F ServiceMachine) (synced all : History) → (stood : StandsForHistory has kept setting header old synced all) → Stands has kept OfRecords header new stood.records stood.records
+  pub settled_in : (old new : Journal F ServiceMachine) (synced all : History) → (stood : StandsForHistory has kept setting header old synced all) → Stands has kept (OfRecords stood.base) header new stood.records stood.records
       → StandsForHistory has kept setting header new all all
-  settled_in old new synced all stood stands = record { first = stood.records; records = stood.records; stands = stands; on_disk = stood.accepted; accepted = stood.accepted }
+  settled_in old new synced all stood stands = record { base = stood.base; first = stood.records; records = stood.records; stands = stands; on_disk = stood.accepted; accepted = stood.accepted }
 
   module _ (old new : Journal F ServiceMachine) (synced all : History) (frame : Frame) (reply : Reply) (stood : StandsForHistory has kept setting header old synced all) where
     abbrev pub Kept : Type 0
     Kept = (written : List Record) × (after : History) × IsNextOr setting all frame after × KeepsHistory kept setting header new.file written synced after
 
-    by_answer : (first accepted : Bool) → Answers (GivesReply setting) stood.records frame reply accepted → Stands has kept OfRecords header new stood.first (extended stood.records first frame reply accepted) → Kept
+    by_answer : (first accepted : Bool) → Answers (GivesReply setting stood.base) stood.records frame reply accepted → Stands has kept (OfRecords stood.base) header new stood.first (extended stood.records first frame reply accepted) → Kept
     by_answer first accepted (inl gives) stands =
-        let said = gives_in stood.records all frame reply accepted stood.accepted gives in (
+        let said = gives_in stood.base stood.records all frame reply accepted stood.accepted gives in (
           extended stood.records first frame reply accepted,
           history_then setting all frame accepted,
           next_or setting all frame accepted,
           record {
+            base = stood.base;
             first = stood.first;
-            keeps = keeps_these new stood.first (extended stood.records first frame reply accepted) stands;
+            keeps = keeps_these stood.base new stood.first (extended stood.records first frame reply accepted) stands;
             on_disk = stood.on_disk;
-            accepted = records_then setting stood.records first all frame reply accepted gives.readable stood.accepted said.1;
+            accepted = records_then setting stood.base stood.records first all frame reply accepted gives.readable gives.spelled stood.accepted said.1 gives.command gives.unrefused;
           },
         )
     by_answer first accepted (inr other) stands = (
@@ -106,14 +110,15 @@ module _ {F : Type 0} (has : F → List ℕ → Type 0) (kept : F → List ℕ) 
       all,
       inl refl,
       record {
+        base = stood.base;
         first = stood.first;
-        keeps = keeps_these new stood.first stood.records (subst (λ (b : Bool). Stands has kept OfRecords header new stood.first (extended stood.records first frame reply b)) other.0 stands);
+        keeps = keeps_these stood.base new stood.first stood.records (subst (λ (b : Bool). Stands has kept (OfRecords stood.base) header new stood.first (extended stood.records first frame reply b)) other.0 stands);
         on_disk = stood.on_disk;
         accepted = stood.accepted;
       },
     )
 
-    by_part : kept new.file ≡ kept old.file → (wrote : WroteOne has (GivesReply setting) header new.file stood.first stood.records frame) → Kept
+    by_part : kept new.file ≡ kept old.file → (wrote : WroteOne has (GivesReply setting stood.base) header new.file stood.first stood.records frame) → Kept
     by_part same wrote =
         let keeps : Keeps kept header new.file stood.first wrote.written = record {
           on_disk = same ∙ stood.stands.on_disk;
@@ -125,26 +130,27 @@ module _ {F : Type 0} (has : F → List ℕ → Type 0) (kept : F → List ℕ) 
             wrote.written,
             all,
             inl refl,
-            record { first = stood.first; keeps = keeps; on_disk = stood.on_disk; accepted = subst (λ (its : List Record). IsHistoryOf setting its all) (sym none) stood.accepted },
+            record { base = stood.base; first = stood.first; keeps = keeps; on_disk = stood.on_disk; accepted = subst (λ (its : List Record). IsHistoryBehind setting stood.base its all) (sym none) stood.accepted },
           )
           | inr one ↦
-              let said = gives_in stood.records all frame one.1 true stood.accepted one.2 in
-              let more : IsHistoryOf setting (stood.records ++ record_of one.0 frame one.1 ∷ []) (next setting all frame) = records_then setting stood.records one.0 all frame one.1 true one.2.readable stood.accepted said.1 in (
+              let said = gives_in stood.base stood.records all frame one.1 true stood.accepted one.2 in
+              let more : IsHistoryBehind setting stood.base (stood.records ++ record_of one.0 frame one.1 ∷ []) (next setting all frame) = records_then setting stood.base stood.records one.0 all frame one.1 true one.2.readable one.2.spelled stood.accepted said.1 one.2.command one.2.unrefused in (
                 wrote.written,
                 next setting all frame,
                 inr refl,
                 record {
+                  base = stood.base;
                   first = stood.first;
                   keeps = keeps;
                   on_disk = stood.on_disk;
-                  accepted = subst (λ (its : List Record). IsHistoryOf setting its (next setting all frame)) (sym one.3) more;
+                  accepted = subst (λ (its : List Record). IsHistoryBehind setting stood.base its (next setting all frame)) (sym one.3) more;
                 },
               )
         ]
 
     pub kept_after : kept new.file ≡ kept old.file → (IsSome old.fault → new.file ≡ old.file)
-        → (new.fault ≡ None → (first : Bool) × (accepted : Bool) × Answers (GivesReply setting) stood.records frame reply accepted × Stands has kept OfRecords header new stood.first (extended stood.records first frame reply accepted))
-        → (old.fault ≡ None → IsSome new.fault → WroteOne has (GivesReply setting) header new.file stood.first stood.records frame) → Kept
+        → (new.fault ≡ None → (first : Bool) × (accepted : Bool) × Answers (GivesReply setting stood.base) stood.records frame reply accepted × Stands has kept (OfRecords stood.base) header new stood.first (extended stood.records first frame reply accepted))
+        → (old.fault ≡ None → IsSome new.fault → WroteOne has (GivesReply setting stood.base) header new.file stood.first stood.records frame) → Kept
     kept_after same closed handled part =
         elim (none_or_some old.fault) [
           | inr some ↦ (

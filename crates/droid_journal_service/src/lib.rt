@@ -2,16 +2,23 @@
 //!
 //! [`ServiceJournal`] is a journal over a service. Its clauses speak of histories: what is replied is the answer after the
 //! history so far, [`ServiceJournal::settle`] brings the history to the disk, and a service that is made from the file after
-//! a crash stands for a history that has all that was on the disk, and nothing that was not accepted. The crate re-exports
-//! the service, and the file of a journal.
+//! a crash stands for a history that has all that was on the disk, and nothing that was not accepted.
+//! [`ServiceJournal::open_small`] makes one from a journal that was made small. The crate re-exports the service, the file of a
+//! journal, and how a journal is made smaller.
 #![tactic(auto)]
 
+pub mod laws;
 mod service_journal;
 mod service_machine;
+mod small_reader;
 
-pub use droid_core::{Limits, Service};
 pub use droid_journal_disk::{
     DiskFault, DiskLog, Drive, DriveError, Fault, FileDrive, FileError, LogFile, Tears, header_for,
 };
-pub use service_journal::{ServiceJournal, crash_and_reopen};
+pub use droid_journal_smaller::{
+    Exchange, Folder, Limits, RewriteFault, Service, Size, Smaller, compact, is_mostly_ended,
+    replace, rewrite,
+};
+pub use service_journal::{ServiceJournal, Unopened, crash_and_reopen};
 pub use service_machine::ServiceMachine;
+pub use small_reader::SmallReader;

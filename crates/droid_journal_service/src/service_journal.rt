@@ -1,22 +1,30 @@
 //! A service with its journal, in histories.
 
-ghost use Rattle.std.specs.Prelude.{◌≡◌, ◌≤◌, ◌++◌, ◌⊎◌, ℕ, List, [], None, IfOk, IsErr, IsErrOf, IsSome, OnErr, OnOk, length};
-ghost use Rattle.droid_core.specs.Histories.{History};
-ghost use Rattle.droid_core.specs.Setting.{Setting};
-ghost use Rattle.droid_core.specs.Standing.{StandsFor};
-ghost use Rattle.droid_frame.specs.Replies.{HasReplySpelling};
-ghost use Rattle.droid_journal_disk.specs.journal.Opening.{HasHeader, IsBegun, IsKept, WasDamaged, WasFound, WasRefuted};
+ghost use Rattle.std.specs.Prelude.{◌≡◌, ◌≢◌, ◌≤◌, ◌++◌, ◌⊎◌, ℕ, List, [], None, IfErr, IfOk, IfSome, IsErr, IsErrOf, IsSome, OnErr, OnOk, length};
+ghost use Rattle.std.specs.NonZero.{non_zero_usize_get};
+ghost use Rattle.droid_journal_smaller.specs.core.Cached.{cache_size_of};
+ghost use Rattle.droid_journal_smaller.specs.core.Histories.{History};
+ghost use Rattle.droid_journal_smaller.specs.core.Identified.{IsOf};
+ghost use Rattle.droid_journal_smaller.specs.core.Setting.{Setting};
+ghost use Rattle.droid_journal_smaller.specs.core.Standing.{StandsFor};
+ghost use Rattle.droid_journal_smaller.specs.recovery.revival.BareWorlds.{Bare};
+ghost use Rattle.droid_journal_smaller.specs.core.state.Standing.{limits_given};
+ghost use Rattle.droid_journal_smaller.specs.recovery.frame.Replies.{HasReplySpelling};
+ghost use Rattle.droid_journal_disk.specs.journal.Opening.{HasHeader, IsBegun, IsKept, IsReady, WasDamaged, WasFound, WasRefuted};
 ghost use Rattle.droid_journal_disk.specs.journal.Standing.{IsSettled, Keeps};
 ghost use Rattle.droid_journal_disk.specs.chain.Chains.{NotByChance};
 ghost use Rattle.droid_journal_disk.specs.chain.Records.{Record};
-ghost use Rattle.droid_journal_service.specs.Histories.{GivesReply, IsBetween, IsHistoryOf, StandsForRecords};
-ghost use Rattle.droid_journal_service.specs.Standing.{AnswersIn, IsLeft, IsNextOr, KeepsHistory, StandsForHistory};
+ghost use Rattle.droid_journal_smaller.specs.recovery.Standing.{GivesReply as GivesRecord, Recovery};
+ghost use Rattle.droid_journal_smaller.specs.recovery.BareRecords.{LeadTo};
+ghost use Rattle.droid_journal_service.specs.Histories.{Base, GivesReply, HasBare, IsBetween, IsHistoryOf, StandsForRecords, no_base};
+ghost use Rattle.droid_journal_service.specs.Standing.{AnswersIn, IsLeft, IsNextOr, KeepsHistory, ReadsRecords, StandsForHistory};
 
 use crate::service_machine::ServiceMachine;
-use droid_core::Service;
-use droid_frame::{Frame, Reply};
-use droid_journal_disk::{Fault, Journal, LogFile, Tears, open};
+use crate::small_reader::SmallReader;
+use droid_journal_disk::{Fault, Journal, LogFile, Opened, Tears, open};
+use droid_journal_smaller::{Frame, Limits, Registry, Reply, Service};
 use std::alloc::Global;
+use std::num::NonZeroUsize;
 
 /// A service and its journal.
 ///
@@ -26,15 +34,26 @@ pub struct ServiceJournal<F: LogFile> {
     pub(crate) journal: Journal<F, ServiceMachine>,
 }
 
+/// A journal's file that could not be opened, and why.
+#[derive(Drop)]
+pub struct Unopened<F: LogFile> {
+    /// Why it could not be opened.
+    pub fault: Fault,
+    /// The file.
+    pub file: F,
+}
+
 impl<F: LogFile + Drop> ServiceJournal<F> {
     /// Makes a service from the records of a file, and cuts the file behind them; `fresh` has accepted nothing yet. The file
     /// is made, if it is empty. Nothing is written or cut before everything was read and found right.
+    ///
+    /// A journal that was made small is not opened: [`Fault::Record`]. [`ServiceJournal::open_small`] opens it.
     pub fn open(
         alloc: Global,
         file: F,
         header: &[u8],
         fresh: Service,
-    ) -> Result<ServiceJournal<F>, Fault>
+    ) -> Result<ServiceJournal<F>, Unopened<F>>
         requires found { F.is_found file }
         requires header { length header.now ≤ 4096 }
         // What is kept of a file that has this header was written by a journal.
@@ -45,14 +64,16 @@ impl<F: LogFile + Drop> ServiceJournal<F> {
         // accepted. So whoever holds a reply that was sent gets it again.
         ensures reopened { (setting : Setting) (s : List ℕ) (synced all : History) → StandsFor setting fresh [] → F.has file s → IsLeft setting header.now s synced all
             → IfOk result (λ it. (history : History) × StandsForHistory F.has F.kept setting header.now it.journal history history × IsBetween synced history all) }
+        ensures unchanged { IfErr result (λ it. it.fault ≢ Fault.Write → it.file ≡ file) }
         // Nor is a crash taken for damage.
-        ensures lawful { (n : ℕ) (setting : Setting) (s : List ℕ) (synced all : History) → F.has file s → IsLeft setting header.now s synced all → IsErrOf result (Fault.Damage n) → ⊥ }
+        ensures lawful { (n : ℕ) (setting : Setting) (s : List ℕ) (synced all : History) → F.has file s → IsLeft setting header.now s synced all → IfErr result (λ it. it.fault ≢ Fault.Damage n) }
         // Damage is told only where a record stands behind it that was written when all before it was on the disk.
-        ensures damage { (n : ℕ) → IsErrOf result (Fault.Damage n) → (s : List ℕ) → F.has file s → WasDamaged header.now s n }
+        ensures damage { (n : ℕ) (s : List ℕ) → F.has file s → IfErr result (λ it. it.fault ≡ Fault.Damage n → WasDamaged header.now s n) }
         // A record is told only if no service of this registry and these limits got its request behind those before it, or
         // not with its reply.
-        ensures refuted { (n : ℕ) → IsErrOf result (Fault.Record n) → (setting : Setting) (s : List ℕ) → StandsFor setting fresh [] → F.has file s → WasRefuted (GivesReply setting) header.now s n }
-        ensures other_header { IsErrOf result Fault.Header → (s : List ℕ) → F.has file s → (HasHeader header.now s → ⊥) × ((count : ℕ) → IsBegun header.now s count → ⊥) }
+        ensures refuted { (n : ℕ) (setting : Setting) (s : List ℕ) → StandsFor setting fresh [] → F.has file s
+            → IfErr result (λ it. it.fault ≡ Fault.Record n → WasRefuted (GivesReply setting (no_base setting)) header.now s n) }
+        ensures other_header { (s : List ℕ) → F.has file s → IfErr result (λ it. it.fault ≡ Fault.Header → (HasHeader header.now s → ⊥) × ((count : ℕ) → IsBegun header.now s count → ⊥)) }
     {
         let mut file = file;
         let fresh = ServiceMachine {
@@ -61,18 +82,98 @@ impl<F: LogFile + Drop> ServiceJournal<F> {
         };
         match open(alloc, &mut file, header, fresh) {
             Ok(opened) => Ok(ServiceJournal::begun(Journal::new(alloc, file, opened))),
+            Err(fault) => Err(Unopened { fault, file }),
+        }
+    }
+
+    /// Makes a service from the records of a file that was made small, and cuts the file behind them. The service has this
+    /// registry and these limits, and caches up to `places` replies. Returns `None` if no record of the file lacks its bytes:
+    /// it was not made small.
+    pub fn open_small(
+        alloc: Global,
+        file: F,
+        header: &[u8],
+        registry: Registry,
+        limits: Limits,
+        places: NonZeroUsize,
+    ) -> Result<Option<ServiceJournal<F>>, Fault>
+        requires found { F.is_found file }
+        requires header { length header.now ≤ 4096 }
+        requires kept { (s : List ℕ) → F.has file s → HasHeader header.now s → IsKept header.now (F.kept file) }
+        requires profiles { limits.profiles ≤ 64 }
+        requires nodes { limits.nodes ≤ 100000 }
+        requires unfinished { limits.unfinished ≤ 64 }
+        // It stands for each history that the records have, whichever files have no bytes, if each of these files has ended.
+        ensures opened { (setting : Setting) (s : List ℕ) → setting.limits ≡ limits_given limits → IsOf registry setting → F.has file s
+            → IfOk result (λ o. IfSome o (λ it. (its : List Record) × WasFound header.now s its × HasBare its
+            × ((bare : Bare) (history : History) → LeadTo setting bare its history → StandsForHistory F.has F.kept setting header.now it.journal history history))) }
+        ensures whole { (setting : Setting) (s : List ℕ) → setting.limits ≡ limits_given limits → IsOf registry setting → F.has file s
+            → IfOk result (λ o. o ≡ None → (its : List Record) × WasFound header.now s its × (HasBare its → ⊥)) }
+        ensures cache { IfOk result (λ o. IfSome o (λ it. cache_size_of it.journal.machine.service ≡ non_zero_usize_get places)) }
+        // So it does after it went on and crashed: no more is lost than of a journal that was never made small.
+        ensures reopened { (setting : Setting) (s : List ℕ) (synced all : History) → setting.limits ≡ limits_given limits → IsOf registry setting → F.has file s → IsLeft setting header.now s synced all
+            → IfOk result (λ o. IfSome o (λ it. (history : History) × StandsForHistory F.has F.kept setting header.now it.journal history history × IsBetween synced history all)) }
+        ensures lawful { (n : ℕ) (setting : Setting) (s : List ℕ) (synced all : History) → F.has file s → IsLeft setting header.now s synced all → IsErrOf result (Fault.Damage n) → ⊥ }
+        ensures damage { (n : ℕ) → IsErrOf result (Fault.Damage n) → (s : List ℕ) → F.has file s → WasDamaged header.now s n }
+        // A record is told only if it is none that goes on a history of those before it, whichever files have no bytes.
+        ensures refuted { (n : ℕ) → IsErrOf result (Fault.Record n) → (setting : Setting) (bare : Bare) (s : List ℕ) → setting.limits ≡ limits_given limits → IsOf registry setting → F.has file s
+            → WasRefuted (GivesRecord (record { setting = setting; bare = bare })) header.now s n }
+        ensures other_header { IsErrOf result Fault.Header → (s : List ℕ) → F.has file s → (HasHeader header.now s → ⊥) × ((count : ℕ) → IsBegun header.now s count → ⊥) }
+    {
+        let reader = SmallReader::new(alloc, registry, limits)?;
+        let mut file = file;
+        match open(alloc, &mut file, header, reader) {
+            Ok(opened) => ServiceJournal::revived(alloc, file, opened, places),
             Err(fault) => Err(fault),
         }
     }
 
+    /// Begins with a journal that was read, if it was made small.
+    fn revived(
+        alloc: Global,
+        file: F,
+        opened: Opened<SmallReader>,
+        places: NonZeroUsize,
+    ) -> Result<Option<ServiceJournal<F>>, Fault>
+        ensures small { (recovery : Recovery) (header : List ℕ) (its : List Record) → IsReady F.has F.kept (ReadsRecords recovery) header file opened its → IfOk result (λ o. IsSome o → HasBare its) }
+        ensures whole { (recovery : Recovery) (header : List ℕ) (its : List Record) → IsReady F.has F.kept (ReadsRecords recovery) header file opened its → IfOk result (λ o. o ≡ None → HasBare its → ⊥) }
+        ensures stands { (setting : Setting) (bare : Bare) (header : List ℕ) (its : List Record) (history : History) → IsReady F.has F.kept (ReadsRecords (record { setting = setting; bare = bare })) header file opened its
+            → LeadTo setting bare its history → IfOk result (λ o. IfSome o (λ it. StandsForHistory F.has F.kept setting header it.journal history history)) }
+        ensures cache { IfOk result (λ o. IfSome o (λ it. cache_size_of it.journal.machine.service ≡ non_zero_usize_get places)) }
+        ensures fault { IfErr result (λ fault. fault ≡ Fault.Memory) }
+    {
+        let (reader, opened) = opened.with(());
+        let SmallReader { machine, is_small } = reader;
+        if !is_small {
+            return Ok(None);
+        }
+        let Ok(service) = machine.into_service(places) else {
+            return Err(Fault::Memory);
+        };
+        let machine = ServiceMachine {
+            service,
+            live: true,
+        };
+        let (_nothing, opened) = opened.with(machine);
+        let journal = Journal::new(alloc, file, opened);
+        Ok(Some(ServiceJournal { journal }))
+    }
+
     /// Begins with a journal that was read.
     fn begun(journal: Journal<F, ServiceMachine>) -> ServiceJournal<F>
-        ensures { (setting : Setting) (header : List ℕ) (records : List Record) → IsSettled F.has F.kept (λ machine its. StandsForRecords setting machine.service its) header journal records
-            → IsSettled F.has F.kept (λ machine its. StandsForRecords setting machine.service its) header result.journal records }
+        ensures { (setting : Setting) (base : Base setting) (header : List ℕ) (records : List Record) → IsSettled F.has F.kept (λ machine its. StandsForRecords setting base machine.service its) header journal records
+            → IsSettled F.has F.kept (λ machine its. StandsForRecords setting base machine.service its) header result.journal records }
     {
         let mut journal = journal;
         journal.machine.live = true;
         ServiceJournal { journal }
+    }
+
+    /// Returns the journal's file.
+    pub fn file(&self) -> &F
+        ensures { result.now ≡ self.now.journal.file }
+    {
+        &self.journal.file
     }
 
     /// Handles a request and returns its reply.

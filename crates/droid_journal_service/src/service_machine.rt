@@ -1,19 +1,19 @@
 //! A service as the machine of a journal.
 
 ghost use Rattle.std.specs.Prelude.{◌≡◌, IsSome, true, false};
-ghost use Rattle.droid_core.specs.Verdicts.{is_refused};
-ghost use Rattle.droid_core.specs.Histories.{History, kept};
-ghost use Rattle.droid_core.specs.Setting.{Setting};
-ghost use Rattle.droid_core.specs.Standing.{StandsFor};
+ghost use Rattle.droid_journal_smaller.specs.core.Verdicts.{is_refused};
+ghost use Rattle.droid_journal_smaller.specs.core.Histories.{History, kept};
+ghost use Rattle.droid_journal_smaller.specs.core.Setting.{Setting};
+ghost use Rattle.droid_journal_smaller.specs.core.Standing.{StandsFor};
 
-use droid_core::Service;
-use droid_frame::{Frame, Reply};
 use droid_journal_disk::{Handled, Machine};
+use droid_journal_smaller::{Frame, Reply, Service};
 
 /// The kinds of requests below this one are commands, which change the service if they are accepted.
 const QUERIES: u8 = 7;
 
-/// A service as the machine of a journal. It stands for records if it stands for the history of their requests.
+/// A service as the machine of a journal. It stands for records if it stands for the history of their requests, behind what it
+/// was made of.
 ///
 /// An accepted command goes into the journal unless the service has its reply cached, since then it came again. One whose
 /// reply is kept but no longer cached goes in once more, and changes nothing when it is read. Which replies are cached depends
@@ -39,14 +39,13 @@ impl ServiceMachine {
 }
 
 impl Machine for ServiceMachine {
-    ghost use Rattle.droid_core.specs.Setting as settings;
-    ghost use Rattle.droid_journal_service.specs.Histories.{GivesReply, StandsForRecords};
+    ghost use Rattle.droid_journal_service.specs.Histories.{GivesReply, Start, StandsForRecords};
 
-    ghost Setting = { settings.Setting };
+    ghost Setting = { Start };
 
-    ghost stands = { λ setting machine records. StandsForRecords setting machine.service records };
+    ghost stands = { λ start machine records. StandsForRecords start.setting start.base machine.service records };
 
-    ghost gives = { GivesReply };
+    ghost gives = { λ start. GivesReply start.setting start.base };
 
     fn handle(&mut self, frame: Frame) -> Handled {
         let known = self.knows(frame.client, frame.number);
@@ -60,6 +59,7 @@ impl Machine for ServiceMachine {
 /// Whether a request with this reply goes into the journal.
 fn belongs(commands: bool, known: bool, reply: &Reply) -> bool
     ensures refused { is_refused reply.now ≡ true → result ≡ false }
+    ensures query { commands ≡ false → result ≡ false }
     ensures accepted { commands ≡ true → known ≡ false → is_refused reply.now ≡ false → result ≡ true }
 {
     if refuses(reply) {

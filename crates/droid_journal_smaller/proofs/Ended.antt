@@ -2,25 +2,25 @@
 use Rattle.std.proofs.Common.{◌≡◌, ◌⊎◌, inl, inr, ℕ, ◌==◌, ◌&&◌, ◌||◌, Bool, true, false, cond, nat_lt, List, [], ◌∷◌, ◌++◌, length, Some, refl, sym, ap, subst, ◌∙◌, append_assoc, append-nil, arith}
 use Rattle.std.proofs.lemmas.Bool.{and_parts, cases_Bool, eqb-true, or_cases, ltb-true}
 use Rattle.std.specs.Prelude.{slice_index}
-use Rattle.droid_frame.specs.Bodies.{request_kind}
-use Rattle.droid_frame.specs.Fields.{IsU32}
-use Rattle.droid_frame.specs.Frames.{frame_bytes}
-use Rattle.droid_frame.specs.types.frame.Frame.{Frame}
-use Rattle.droid_frame.specs.types.request.Request.{Request}
-use Rattle.droid_frame.specs.types.request.Request.TheVariants as requests
-use Rattle.droid_core.specs.Histories.{Entry, History, IsLegal, world_of}
-use Rattle.droid_core.specs.Setting.{Setting}
-use Rattle.droid_core_revival.proofs.EndedFiles.{ended_in}
-use Rattle.droid_core_revival.proofs.core.spec.Legal.{GoesOn-push}
-use Rattle.droid_core_revival.specs.BareWorlds.{Bare}
-use Rattle.droid_core_revival.specs.Ending.{Ends, IsEnded}
-use Rattle.droid_journal_chain.specs.Records.{Record}
+use Rattle.droid_journal_recovery.specs.frame.Bodies.{request_kind}
+use Rattle.droid_journal_recovery.specs.frame.Fields.{IsU32}
+use Rattle.droid_journal_recovery.specs.frame.Frames.{frame_bytes}
+use Rattle.droid_journal_recovery.specs.frame.types.frame.Frame.{Frame}
+use Rattle.droid_journal_recovery.specs.frame.types.request.Request.{Request}
+use Rattle.droid_journal_recovery.specs.frame.types.request.Request.TheVariants as requests
+use Rattle.droid_journal_recovery.specs.core.Histories.{Entry, History, IsLegal, world_of}
+use Rattle.droid_journal_recovery.specs.core.Setting.{Setting}
+use Rattle.droid_journal_recovery.proofs.revival.EndedFiles.{ended_in}
+use Rattle.droid_journal_recovery.proofs.core.spec.Legal.{GoesOn-push}
+use Rattle.droid_journal_recovery.specs.revival.BareWorlds.{Bare}
+use Rattle.droid_journal_recovery.specs.revival.Ending.{Ends, IsEnded}
+use Rattle.droid_journal_recovery.specs.chain.Records.{Record}
 use Rattle.droid_journal_recovery.proofs.KeptFrames.{Told, Whole, Piece, Finish, told}
 use Rattle.droid_journal_recovery.specs.BareRecords.{HaveHistory, IsRecordOf, MayBeKept, kept_frame}
 use Rattle.droid_journal_rewriting.specs.Fields.{file_in, is_about, is_end, stamp_in}
 use Rattle.droid_journal_rewriting.specs.Shortening.{ends, has_ended, has_stamp, once}
 use Rattle.droid_journal_smaller.proofs.FrameBytes.{about_kind, file_is}
-use Rattle.droid_journal_smaller.proofs.Smaller.{its_stamp, repeat_stamp, spells}
+use Rattle.droid_journal_smaller.proofs.SmallerRecords.{its_stamp, repeat_stamp, spells}
 use Rattle.droid_journal_smaller.proofs.Stamps.{HaveStamps, no_stamps, stamp_seen, stamp_unseen, stamps_again, stamps_more}
 use Rattle.droid_journal_smaller.specs.BareFiles.{file_number, or_ended}
 

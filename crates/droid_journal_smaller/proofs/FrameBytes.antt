@@ -3,10 +3,10 @@ use Rattle.std.proofs.Common.{◌≡◌, ℕ, ◌+◌, ◌*◌, ◌<◌, ◌≤�
 use Rattle.std.proofs.lemmas.Bool.{eq-eqb, eqb-true, le-ltb}
 use Rattle.std.proofs.lemmas.Nat.{from_be_bytes-to_be_bytes_4, from_be_bytes-to_be_bytes_8}
 use Rattle.std.specs.Prelude.{slice_index}
-use Rattle.droid_frame.specs.Fields.{IsU32, u32_bytes}
-use Rattle.droid_frame.specs.Frames.{frame_bytes}
-use Rattle.droid_frame.specs.Streams.{IsFrame}
-use Rattle.droid_frame.specs.types.frame.Frame.{Frame}
+use Rattle.droid_journal_recovery.specs.frame.Fields.{IsU32, u32_bytes}
+use Rattle.droid_journal_recovery.specs.frame.Frames.{frame_bytes}
+use Rattle.droid_journal_recovery.specs.frame.Streams.{IsFrame}
+use Rattle.droid_journal_recovery.specs.frame.types.frame.Frame.{Frame}
 use Rattle.droid_journal_rewriting.specs.Fields.{client_at, file_in, is_about, number_at, stamp_in}
 use Rattle.droid_journal_smaller.specs.BareFiles.{file_number}
 

@@ -1,5 +1,8 @@
+pub use Rattle.droid_journal_recovery.proofs as recovery
+pub use Rattle.droid_journal_recovery.proofs.core as core
+pub use Rattle.droid_journal_rewriting.proofs as rewriting
 pub mod Ended
 pub mod FrameBytes
-pub mod Smaller
+pub mod SmallerRecords
 pub mod Stamps
 pub mod SmallerFiles

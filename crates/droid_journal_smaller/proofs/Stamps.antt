@@ -3,8 +3,8 @@ use Rattle.std.proofs.Common.{◌≡◌, inl, inr, ℕ, ◌+◌, ◌*◌, ◌<�
 use Rattle.std.specs.List.{list_any}
 use Rattle.std.proofs.lemmas.Bool.{and_parts, eq-eqb, eqb-true, ne_eqb}
 use Rattle.std.proofs.lemmas.List.Folds.{list_any-append}
-use Rattle.droid_core.specs.Histories.{Entry, History, is_under, kept}
-use Rattle.droid_journal_chain.specs.Records.{Record}
+use Rattle.droid_journal_recovery.specs.core.Histories.{Entry, History, is_under, kept}
+use Rattle.droid_journal_recovery.specs.chain.Records.{Record}
 use Rattle.droid_journal_rewriting.specs.Fields.{stamp_in}
 use Rattle.droid_journal_rewriting.specs.Shortening.{has_stamp}
 

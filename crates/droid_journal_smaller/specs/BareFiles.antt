@@ -1,7 +1,7 @@
 -- The files that are bare in a journal that was made smaller (this project's own).
 use Rattle.std.specs.Prelude.{ℕ, ◌+◌, ◌*◌, ◌&&◌, ◌||◌, [], Bool, List, nat_lt}
-use Rattle.droid_core_revival.specs.BareWorlds.{Bare}
-use Rattle.droid_journal_chain.specs.Records.{Record}
+use Rattle.droid_journal_recovery.specs.revival.BareWorlds.{Bare}
+use Rattle.droid_journal_recovery.specs.chain.Records.{Record}
 use Rattle.droid_journal_rewriting.specs.Shortening.{has_ended, once}
 
 -- the number of a file as the rewriting has it: four bytes of its profile, and four of its own

@@ -1,16 +1,15 @@
 //! Laws of smaller journals. Each is the contract of a function that does nothing, and is proved with it.
 
 ghost use Rattle.std.specs.Prelude.{◌≡◌, [], ℕ, Bool, false, true, List};
-ghost use Rattle.droid_core.specs.Histories.{History, world_of};
-ghost use Rattle.droid_core.specs.Setting.{Setting};
-ghost use Rattle.droid_core_revival.specs.BareWorlds.{Bare, HaveEnded};
-ghost use Rattle.droid_core_revival.specs.Ending.{IsEnded};
-ghost use Rattle.droid_journal.specs.Opening.{WasFound};
-ghost use Rattle.droid_journal_chain.specs.Records.{Record};
-ghost use Rattle.droid_journal_recovery.specs.BareRecords.{HaveHistory};
+ghost use Rattle.droid_journal_recovery.specs.core.Histories.{History, world_of};
+ghost use Rattle.droid_journal_recovery.specs.core.Setting.{Setting};
+ghost use Rattle.droid_journal_recovery.specs.revival.BareWorlds.{Bare, HaveEnded};
+ghost use Rattle.droid_journal_recovery.specs.revival.Ending.{IsEnded};
+ghost use Rattle.droid_journal_recovery.specs.journal.Opening.{WasFound};
+ghost use Rattle.droid_journal_recovery.specs.chain.Records.{Record};
 ghost use Rattle.droid_journal_rewriting.specs.Shortening.{IsShortened, IsWhole, has_ended, once, smaller_by};
 ghost use Rattle.droid_journal_smaller.specs.BareFiles.{bare_after, or_ended};
-ghost use Rattle.droid_journal_smaller.specs.Standing.{StandFor};
+ghost use Rattle.droid_journal_recovery.specs.BareRecords.{HaveHistory, LeadTo};
 
 /// Whichever files are made bare, the records of the smaller journal have the history of the old one's.
 pub fn a_smaller_journal_has_the_same_history()
@@ -31,11 +30,11 @@ pub fn its_bare_files_have_ended()
 /// the smaller file, with the bytes that [`droid_journal_rewriting::rewrite`] writes, a service that is made of them stands
 /// for the history of the old file's records.
 pub fn a_smaller_file_stands_for_the_same_history()
-    ensures same { (header file bytes : List ℕ) (setting : Setting) (bare : Bare) (its read : List Record) (history : History) → IsWhole header file its → StandFor setting bare its history
-        → IsShortened header file bytes → WasFound header bytes read → StandFor setting (bare_after bare its) read history }
+    ensures same { (header file bytes : List ℕ) (setting : Setting) (bare : Bare) (its read : List Record) (history : History) → IsWhole header file its → LeadTo setting bare its history
+        → IsShortened header file bytes → WasFound header bytes read → LeadTo setting (bare_after bare its) read history }
     // What `RecoveringMachine::into_service` wants to know of the records.
-    ensures service { (setting : Setting) (bare : Bare) (its : List Record) (history : History) → StandFor setting bare its history
+    ensures service { (setting : Setting) (bare : Bare) (its : List Record) (history : History) → LeadTo setting bare its history
         → HaveHistory setting bare [] its history × HaveEnded bare (world_of setting history) }
     // A journal in which nothing is bare stands for its history.
-    ensures whole { (setting : Setting) (its : List Record) (history : History) → HaveHistory setting (λ profile file. false) [] its history → StandFor setting (λ profile file. false) its history }
+    ensures whole { (setting : Setting) (its : List Record) (history : History) → HaveHistory setting (λ profile file. false) [] its history → LeadTo setting (λ profile file. false) its history }
 {}

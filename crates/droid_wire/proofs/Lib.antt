@@ -1,3 +1,4 @@
+pub use Rattle.droid_wire_journal.proofs.service as journal_service
 pub mod Alone
 pub mod AnswersOnce
 pub mod Ends

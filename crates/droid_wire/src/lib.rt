@@ -13,10 +13,11 @@ mod service_handler;
 
 pub use droid_wire_client::{Client, HearFault, Heard, SubmitFault};
 pub use droid_wire_journal::{
-    Came, Connections, Departure, DiskFault, DiskLog, Drive, DriveError, Fault, FileDrive,
-    FileError, JournalHandler, Limits, LogFile, Pipe, Rules, Served, Service, ServiceJournal,
-    ServiceMachine, Tears, Took, WaitFault, answer_journal, crash_and_reopen, header_for,
-    serve_journal,
+    Came, Connections, Departure, DiskFault, DiskLog, Drive, DriveError, Exchange, Fault,
+    FileDrive, FileError, Folder, JournalHandler, Limits, LogFile, Pipe, RewriteFault, Rules,
+    Served, Service, ServiceJournal, ServiceMachine, Size, Smaller, Tears, Took, Unopened,
+    WaitFault, answer_journal, compact, crash_and_reopen, header_for, is_mostly_ended,
+    journal_laws, replace, rewrite, serve_journal,
 };
 pub use ended::Ended;
 pub use many::serve_many;

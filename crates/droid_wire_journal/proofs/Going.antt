@@ -82,6 +82,7 @@ module _ {F : Type 0} (has : F → List ℕ → Type 0) (kept : F → List ℕ) 
 
   kept_same : (old new : F) (written : List Record) (synced all : History) → kept new ≡ kept old → KeepsHistory kept setting header old written synced all → KeepsHistory kept setting header new written synced all
   kept_same old new written synced all same it = record {
+    base = it.base;
     first = it.first;
     keeps = record { on_disk = same ∙ it.keeps.on_disk; turn = it.keeps.turn; fit = it.keeps.fit };
     on_disk = it.on_disk;

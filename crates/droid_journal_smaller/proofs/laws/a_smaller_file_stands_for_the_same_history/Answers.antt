@@ -1,5 +1,5 @@
-use Rattle.droid_core.specs.Histories.{world_of}
-use Rattle.droid_core_revival.proofs.EndedFiles.{have_ended}
+use Rattle.droid_journal_recovery.specs.core.Histories.{world_of}
+use Rattle.droid_journal_recovery.proofs.revival.EndedFiles.{have_ended}
 use Rattle.droid_journal_smaller.proofs.SmallerFiles.{smaller_file}
 use Rattle.droid_journal_smaller.proofs.laws.a_smaller_file_stands_for_the_same_history.Goals as goal
 

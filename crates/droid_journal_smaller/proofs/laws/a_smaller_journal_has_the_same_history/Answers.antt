@@ -1,5 +1,5 @@
 use Rattle.std.proofs.Common.{[]}
-use Rattle.droid_journal_smaller.proofs.Smaller.{goes}
+use Rattle.droid_journal_smaller.proofs.SmallerRecords.{goes}
 use Rattle.droid_journal_smaller.proofs.Stamps.{no_stamps}
 use Rattle.droid_journal_smaller.proofs.laws.a_smaller_journal_has_the_same_history.Goals as goal
 

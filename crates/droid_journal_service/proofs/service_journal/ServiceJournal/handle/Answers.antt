@@ -1,12 +1,15 @@
 use Rattle.droid_journal_service.proofs.Journals.{answers_in, kept_after}
+use Rattle.droid_journal_service.specs.Histories.{Start}
 use Rattle.droid_journal_service.proofs.service_journal.ServiceJournal.handle.Goals as goal
 
 pub returns-clause-handled : goal.returns-clause-handled
 returns-clause-handled g c = λ setting header synced all stood none.
-    let h = c.handle.ensures.handled setting header stood.first stood.records stood.stands none in
+    let start : Start = record { setting = setting; base = stood.base } in
+    let h = c.handle.ensures.handled start header stood.first stood.records stood.stands none in
     answers_in g.F.LogFile.has g.F.LogFile.kept setting header c.args.self.now.journal c.handle.new.self synced all c.args.frame c.handle.result h.0 h.1 stood h.2 h.3
 
 pub returns-clause-keeps : goal.returns-clause-keeps
 returns-clause-keeps g c = λ setting header synced all stood.
+    let start : Start = record { setting = setting; base = stood.base } in
     kept_after g.F.LogFile.has g.F.LogFile.kept setting header c.args.self.now.journal c.handle.new.self synced all c.args.frame c.handle.result stood c.handle.ensures.kept (λ some. (c.handle.ensures.closed some).0)
-    (c.handle.ensures.handled setting header stood.first stood.records stood.stands) (c.handle.ensures.part setting header stood.first stood.records stood.stands)
+    (c.handle.ensures.handled start header stood.first stood.records stood.stands) (c.handle.ensures.part start header stood.first stood.records stood.stands)

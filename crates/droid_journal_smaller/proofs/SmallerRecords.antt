@@ -2,23 +2,23 @@
 use Rattle.std.proofs.Common.{◌≡◌, inl, inr, ℕ, ◌+◌, ◌<◌, ◌≤◌, ◌^◌, ◌==◌, ◌||◌, if◌then◌else◌, Bool, true, false, nat_lt, map, List, [], ◌∷◌, ◌++◌, length, refl, sym, ap, subst, ◌∙◌, arith}
 use Rattle.std.proofs.lemmas.Bool.{lt-ltb}
 use Rattle.std.proofs.lemmas.List.{length-append}
-use Rattle.droid_frame.specs.Bodies.{SpellsRequest, request_body, request_kind}
-use Rattle.droid_frame.specs.Fields.{IsU32, u32_bytes}
-use Rattle.droid_frame.specs.Frames.{frame_bytes}
-use Rattle.droid_frame.specs.Limits.{body_limit}
-use Rattle.droid_frame.specs.Replies.{reply_bytes}
-use Rattle.droid_frame.specs.ReplyFrames.{reply_frame}
-use Rattle.droid_frame.specs.types.frame.Frame.{Frame}
-use Rattle.droid_frame.specs.types.request.Request.{Request}
-use Rattle.droid_frame.specs.types.request.Request.TheVariants as requests
-use Rattle.droid_frame.proofs.BodyLimits.{limit_at_most}
-use Rattle.droid_frame.proofs.ReplyFrames.{reply_is_short}
-use Rattle.droid_core.specs.Histories.{Entry, History}
-use Rattle.droid_core.specs.Setting.{Setting}
-use Rattle.droid_core_revival.proofs.core.spec.Asked.{asks}
-use Rattle.droid_core_revival.specs.BareWorlds.{Bare}
-use Rattle.droid_journal_bare.specs.BareFrames.{bare_finish, bare_finish_bytes, bare_piece, bare_piece_bytes}
-use Rattle.droid_journal_chain.specs.Records.{Record}
+use Rattle.droid_journal_recovery.specs.frame.Bodies.{SpellsRequest, request_body, request_kind}
+use Rattle.droid_journal_recovery.specs.frame.Fields.{IsU32, u32_bytes}
+use Rattle.droid_journal_recovery.specs.frame.Frames.{frame_bytes}
+use Rattle.droid_journal_recovery.specs.frame.Limits.{body_limit}
+use Rattle.droid_journal_recovery.specs.frame.Replies.{reply_bytes}
+use Rattle.droid_journal_recovery.specs.frame.ReplyFrames.{reply_frame}
+use Rattle.droid_journal_recovery.specs.frame.types.frame.Frame.{Frame}
+use Rattle.droid_journal_recovery.specs.frame.types.request.Request.{Request}
+use Rattle.droid_journal_recovery.specs.frame.types.request.Request.TheVariants as requests
+use Rattle.droid_journal_recovery.proofs.frame.BodyLimits.{limit_at_most}
+use Rattle.droid_journal_recovery.proofs.frame.ReplyFrames.{reply_is_short}
+use Rattle.droid_journal_recovery.specs.core.Histories.{Entry, History}
+use Rattle.droid_journal_recovery.specs.core.Setting.{Setting}
+use Rattle.droid_journal_recovery.proofs.core.spec.Asked.{asks}
+use Rattle.droid_journal_recovery.specs.revival.BareWorlds.{Bare}
+use Rattle.droid_journal_recovery.specs.BareFrames.{bare_finish, bare_finish_bytes, bare_piece, bare_piece_bytes}
+use Rattle.droid_journal_recovery.specs.chain.Records.{Record}
 use Rattle.droid_journal_recovery.proofs.KeptFrames.{kept_readable, shown_as}
 use Rattle.droid_journal_recovery.specs.BareRecords.{HaveHistory, IsRecordOf, IsRepeat, MayBeKept, kept_frame}
 use Rattle.droid_journal_rewriting.specs.Fields.{file_in, is_about, stamp_in}

@@ -1,0 +1,81 @@
+//! The machine that reads a journal that was made small.
+
+ghost use Rattle.std.specs.Prelude.{◌≡◌, ◌≤◌, ◌⊎◌, [], true, IfErr, IfOk};
+ghost use Rattle.droid_journal_smaller.specs.core.Identified.{IsOf};
+ghost use Rattle.droid_journal_smaller.specs.core.state.Standing.{limits_given};
+ghost use Rattle.droid_journal_smaller.specs.recovery.Standing.{Recovery};
+ghost use Rattle.droid_journal_service.specs.Standing.{ReadsRecords};
+
+use droid_journal_disk::{Fault, Handled, Machine};
+use droid_journal_smaller::{BARE_FINISH, BARE_PIECE, Frame, Limits, RecoveringMachine, Registry};
+use std::alloc::Global;
+
+/// Reads a journal that was made small, and notes whether it was: whether a record has a piece or a Finish without the bytes
+/// of the file.
+#[derive(Drop)]
+pub struct SmallReader {
+    /// Takes the records.
+    pub machine: RecoveringMachine,
+    /// Whether such a record came.
+    pub is_small: bool,
+}
+
+impl SmallReader {
+    /// Makes one that has read nothing yet, for a service with this registry and these limits. Fails only if there is no
+    /// memory.
+    pub(crate) fn new(
+        alloc: Global,
+        registry: Registry,
+        limits: Limits,
+    ) -> Result<SmallReader, Fault>
+        requires profiles { limits.profiles ≤ 64 }
+        requires nodes { limits.nodes ≤ 100000 }
+        requires unfinished { limits.unfinished ≤ 64 }
+        ensures empty { IfOk result (λ reader. (recovery : Recovery) → recovery.setting.limits ≡ limits_given limits → IsOf registry recovery.setting → ReadsRecords recovery reader []) }
+        ensures memory { IfErr result (λ fault. fault ≡ Fault.Memory) }
+    {
+        match RecoveringMachine::new(alloc, registry, limits) {
+            Ok(machine) => Ok(SmallReader {
+                machine,
+                is_small: false,
+            }),
+            Err(_) => Err(Fault::Memory),
+        }
+    }
+}
+
+impl Machine for SmallReader {
+    ghost use Rattle.droid_journal_smaller.specs.recovery.Standing.{GivesReply};
+    ghost use Rattle.droid_journal_smaller.specs.recovery.Standing as recovering;
+    ghost use Rattle.droid_journal_service.specs.Standing as standing;
+
+    ghost Setting = { recovering.Recovery };
+
+    ghost stands = { standing.ReadsRecords };
+
+    ghost gives = { GivesReply };
+
+    fn handle(&mut self, frame: Frame) -> Handled {
+        let bare = is_bare(frame.kind);
+        let handled = self.machine.handle(frame);
+        self.is_small = has_bare(self.is_small, bare, handled.accepted);
+        handled
+    }
+}
+
+/// Whether a frame of this kind came without its bytes.
+fn is_bare(kind: u8) -> bool
+    ensures bare { result ≡ true → (kind ≡ 68) ⊎ (kind ≡ 69) }
+    ensures all { (kind ≡ 68) ⊎ (kind ≡ 69) → result ≡ true }
+{
+    kind == BARE_PIECE || kind == BARE_FINISH
+}
+
+/// Whether there is a bare frame among those before and this one.
+fn has_bare(before: bool, bare: bool, accepted: bool) -> bool
+    ensures one { result ≡ true → (before ≡ true) ⊎ ((bare ≡ true) × (accepted ≡ true)) }
+    ensures stays { before ≡ true → result ≡ true }
+    ensures comes { bare ≡ true → accepted ≡ true → result ≡ true }
+{
+    before || (bare && accepted)
+}
