@@ -4,8 +4,9 @@ use Rattle.md5.specs.Md5.{md5}
 use Rattle.droid_desk_service.specs.Endings.{IsProgramSetting}
 use Rattle.droid_pronom.specs.Registry.{Contents}
 use Rattle.droid_pronom.specs.RegistryFile.{File}
-use Rattle.droid_wire.specs.with_journal.service.Histories.{LeadTo, GivesReply, HasBare, IsHistoryOf, no_base}
+use Rattle.droid_wire.specs.with_journal.service.Histories.{GivesReply, HasBare, IsHistoryOf, no_base}
 use Rattle.droid_wire.specs.with_journal.service.BareWorlds.{Bare}
+use Rattle.droid_wire.specs.with_journal.service.recovery.BareRecords.{LeadTo}
 use Rattle.droid_wire.specs.with_journal.service.recovery.Standing.{GivesReply as GivesRecord}
 use Rattle.droid_wire.specs.with_journal.service.Standing.{StandsForHistory}
 use Rattle.droid_wire.specs.with_journal.service.chain.Records.{Record}

@@ -8,6 +8,7 @@ ghost use Rattle.droid_wire.specs.with_journal.service.journal.Opening.{HasHeade
 use crate::journal::header_text;
 use droid_wire::{
     Exchange, Fault, LogFile, RewriteFault, Smaller, compact, header_for, is_mostly_ended,
+    journal_laws,
 };
 use std::alloc::Global;
 
@@ -33,6 +34,7 @@ fn header_of<F: LogFile>(alloc: Global, file: &F, registry: &[u8]) -> Result<Vec
 /// gives that the name of the old one; the journal's header has the MD5 of these bytes of a registry.
 ///
 /// A crash at any moment leaves the old journal under the name, or the smaller one with all its bytes; also where this fails.
+/// A service that is made of the smaller one stands for the history that it had with the old one.
 pub fn make_smaller<F: LogFile, N: LogFile + Drop, X: Exchange<N>>(
     alloc: Global,
     old: &F,
@@ -56,6 +58,7 @@ pub fn make_smaller<F: LogFile, N: LogFile + Drop, X: Exchange<N>>(
         Ok(header) => header,
         Err(fault) => return Err(fault),
     };
+    journal_laws::a_smaller_file_leads_to_the_same_history();
     compact(alloc, old, &header, new, exchange)
 }
 

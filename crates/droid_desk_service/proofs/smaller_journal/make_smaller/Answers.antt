@@ -9,18 +9,18 @@ returns-clause-at_any_moment g c = λ s bytes here empty leads.
     let its : IsHeaderOf c.args.registry.now c.deref.result.now = subst (λ (h : List ℕ). IsHeaderOf c.args.registry.now h) (sym c.deref.ensures.value) (c.in-Ok.ensures.is_of s here) in
     elim (c.compact.ensures.at_any_moment s bytes here empty leads) [
       | inl old ↦ inl old
-      | inr new ↦ inr (record { header = c.deref.result.now; is_of = its; shortened = new })
+      | inr new ↦ inr (record { header = c.deref.result.now; is_of = its; shortened = new; same = λ setting base one read history behind whole found. c.a_smaller_file_leads_to_the_same_history.ensures c.deref.result.now s bytes setting base one read history behind whole new found })
     ]
 
 pub returns-clause-smaller : goal.returns-clause-smaller
 returns-clause-smaller g c = λ s bytes here empty.
     let its : IsHeaderOf c.args.registry.now c.deref.result.now = subst (λ (h : List ℕ). IsHeaderOf c.args.registry.now h) (sym c.deref.ensures.value) (c.in-Ok.ensures.is_of s here) in
-    on_ok_weaker c.compact.result (λ new leads. record { header = c.deref.result.now; is_of = its; shortened = new leads }) (c.compact.ensures.compacted s bytes here empty)
+    on_ok_weaker c.compact.result (λ new leads. record { header = c.deref.result.now; is_of = its; shortened = new leads; same = λ setting base one read history behind whole found. c.a_smaller_file_leads_to_the_same_history.ensures c.deref.result.now s bytes setting base one read history behind whole (new leads) found }) (c.compact.ensures.compacted s bytes here empty)
 
 pub returns-clause-on_disk : goal.returns-clause-on_disk
 returns-clause-on_disk g c = λ s here empty.
     let its : IsHeaderOf c.args.registry.now c.deref.result.now = subst (λ (h : List ℕ). IsHeaderOf c.args.registry.now h) (sym c.deref.ensures.value) (c.in-Ok.ensures.is_of s here) in
-    IfOk-weaker c.compact.result _ _ (λ it new. (record { header = c.deref.result.now; is_of = its; shortened = new.0 }, new.1)) (c.compact.ensures.on_disk s here empty)
+    IfOk-weaker c.compact.result _ _ (λ it new. (record { header = c.deref.result.now; is_of = its; shortened = new.0; same = λ setting base one read history behind whole found. c.a_smaller_file_leads_to_the_same_history.ensures c.deref.result.now s (g.N.LogFile.kept it.file) setting base one read history behind whole new.0 found }, new.1)) (c.compact.ensures.on_disk s here empty)
 
 pub returns-clause-sizes : goal.returns-clause-sizes
 returns-clause-sizes g c = λ s here empty.
