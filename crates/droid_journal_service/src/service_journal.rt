@@ -1,8 +1,6 @@
 //! A service with its journal, in histories.
 
 ghost use Rattle.std.specs.Prelude.{◌≡◌, ◌≢◌, ◌≤◌, ◌++◌, ◌⊎◌, ℕ, List, [], None, IfErr, IfOk, IfSome, IsErr, IsErrOf, IsSome, OnErr, OnOk, length};
-ghost use Rattle.std.specs.NonZero.{non_zero_usize_get};
-ghost use Rattle.droid_journal_smaller.specs.core.Cached.{cache_size_of};
 ghost use Rattle.droid_journal_smaller.specs.core.Histories.{History};
 ghost use Rattle.droid_journal_smaller.specs.core.Identified.{IsOf};
 ghost use Rattle.droid_journal_smaller.specs.core.Setting.{Setting};
@@ -109,7 +107,6 @@ impl<F: LogFile + Drop> ServiceJournal<F> {
             × ((bare : Bare) (history : History) → LeadTo setting bare its history → StandsForHistory F.has F.kept setting header.now it.journal history history))) }
         ensures whole { (setting : Setting) (s : List ℕ) → setting.limits ≡ limits_given limits → IsOf registry setting → F.has file s
             → IfOk result (λ o. o ≡ None → (its : List Record) × WasFound header.now s its × (HasBare its → ⊥)) }
-        ensures cache { IfOk result (λ o. IfSome o (λ it. cache_size_of it.journal.machine.service ≡ non_zero_usize_get places)) }
         // So it does after it went on and crashed: no more is lost than of a journal that was never made small.
         ensures reopened { (setting : Setting) (s : List ℕ) (synced all : History) → setting.limits ≡ limits_given limits → IsOf registry setting → F.has file s → IsLeft setting header.now s synced all
             → IfOk result (λ o. IfSome o (λ it. (history : History) × StandsForHistory F.has F.kept setting header.now it.journal history history × IsBetween synced history all)) }
@@ -139,7 +136,6 @@ impl<F: LogFile + Drop> ServiceJournal<F> {
         ensures whole { (recovery : Recovery) (header : List ℕ) (its : List Record) → IsReady F.has F.kept (ReadsRecords recovery) header file opened its → IfOk result (λ o. o ≡ None → HasBare its → ⊥) }
         ensures stands { (setting : Setting) (bare : Bare) (header : List ℕ) (its : List Record) (history : History) → IsReady F.has F.kept (ReadsRecords (record { setting = setting; bare = bare })) header file opened its
             → LeadTo setting bare its history → IfOk result (λ o. IfSome o (λ it. StandsForHistory F.has F.kept setting header it.journal history history)) }
-        ensures cache { IfOk result (λ o. IfSome o (λ it. cache_size_of it.journal.machine.service ≡ non_zero_usize_get places)) }
         ensures fault { IfErr result (λ fault. fault ≡ Fault.Memory) }
     {
         let (reader, opened) = opened.with(());
