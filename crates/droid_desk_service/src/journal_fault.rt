@@ -104,9 +104,6 @@ impl JournalFault {
             JournalFault::NotSmaller(None) => eprintln!(rt;
                 "{path}.new: could not be written: is the disk full? {path} is as it was"
             ),
-            JournalFault::NotExchanged => eprintln!(rt;
-                "{path}.new: could not be synced or renamed: {path} has all its records: try again"
-            ),
             other => eprintln!(rt; "{path}: {}", advice_of(other)),
         }
     }
@@ -125,6 +122,10 @@ fn advice_of(fault: &JournalFault) -> &'static str {
             "out of memory: close other programs, or allow this one more, and start again"
         }
         JournalFault::Closed(Fault::Read) => "could not be read: is the disk well?",
+        JournalFault::NotSmaller(_) => "could not be made smaller",
+        JournalFault::NotExchanged => {
+            "has all its records, but the smaller journal could not be synced or renamed: try again"
+        }
         JournalFault::Closed(_) => {
             "could not be written, so nothing more is answered: is the disk full? Make room, and start again"
         }
