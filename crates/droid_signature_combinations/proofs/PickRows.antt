@@ -10,22 +10,11 @@ use Rattle.droid_signature_tables.specs.Choices.{ways}
 use Rattle.droid_signature_tables.specs.choice_types.choices.Choices.{Choices}
 use Rattle.droid_signature_tables.specs.RegistryTables.{SequenceRow, SignatureRow, sequence_fields, signature_fields, signature_lines}
 use Rattle.droid_signature_combinations.specs.Combinations.{Pick, further_fields, lines_below, pick, pick_rows, picks}
-use Rattle.droid_signature_combinations.specs.SignatureRows.{combination, rows_below, ways_of}
+use Rattle.droid_signature_combinations.specs.SignatureRows.{AreAllWritten, AreWritten, combination, rows_below, ways_of}
 use Rattle.droid_signature_combinations.proofs.Counting.{quotient_below, remainder_below}
 
 abbrev pub pick_of : SequenceRow → Pick
 pick_of row = record { offsets = row.offsets; text = row.text }
-
--- rows with the offsets and the texts of choices
-pub record AreWritten (choices : Choices) (rows : List SequenceRow) : Type 0 where
-  pub texts : map (λ row. row.text) rows ≡ choices.texts
-  pub offsets : AllByRecursion (λ row. row.offsets ≡ choices.offsets) rows
-
-abbrev pub AreAllWritten : List Choices → List (List SequenceRow) → Type 0
-AreAllWritten [] [] = Unit {0}
-AreAllWritten [] (rows ∷ lists) = ⊥
-AreAllWritten (choices ∷ all) [] = ⊥
-AreAllWritten (choices ∷ all) (rows ∷ lists) = AreWritten choices rows × AreAllWritten all lists
 
 pub written_length : (choices : Choices) (rows : List SequenceRow) → AreWritten choices rows → length rows ≡ length choices.texts
 written_length choices rows are = sym (length-map rows (λ (row : SequenceRow). row.text)) ∙ ap length are.texts

@@ -6,7 +6,7 @@ use Rattle.std.proofs.lemmas.List.Concat.{flat_map-append}
 use Rattle.droid_signature_tables.specs.Csv.{line}
 use Rattle.droid_signature_tables.specs.Patterns.{Element}
 use Rattle.droid_signature_tables.specs.pronom_types.rows.Offsets.{Offsets}
-use Rattle.droid_signature_tables.specs.Choices.{AreAllTaken, AreReadAs, IsTaken}
+use Rattle.droid_signature_tables.specs.Choices.{AreAllTaken, AreReadAs, AreTaken, IsTaken}
 use Rattle.droid_signature_tables.specs.Parts.{row_patterns}
 use Rattle.droid_signature_tables.specs.choice_types.choices.Choices.{Choices}
 use Rattle.droid_signature_tables.specs.RegistryTables.{SequenceFits, SequenceRow, SignatureRow, sequence_count, sequence_of, signature_fields, signature_lines}
@@ -18,12 +18,11 @@ use Rattle.droid_signature_tables.specs.declared.left_out.LeftOut.{LeftOut}
 use Rattle.droid_signature_tables.specs.declared.left_out.Why.{Why}
 use Rattle.droid_signature_tables.specs.declared.left_out.Why.TheVariants as why
 use Rattle.droid_signature_tables.proofs.Sifting.{by_place_more}
-use Rattle.droid_signature_combinations.specs.SignatureRows.{AreRowsFor, RowsFor, combination, flat, rows_below, rows_of, ways_of}
+use Rattle.droid_signature_combinations.specs.SignatureRows.{AreAllWritten, AreRowsFor, AreWritten, RowsFor, combination, flat, rows_below, rows_of, ways_of}
 use Rattle.droid_signature_combinations.specs.SignatureTables.{HasLeft, IsNew}
 use Rattle.droid_signature_combinations.specs.Signatures.{IsOnlySignature, IsReasonOfId, IsReasonOfSignature, LeavesSignature, Named, Signs, TakesSignature}
 use Rattle.droid_signature_combinations.specs.declared.signature_table.SignatureTable.{SignatureTable}
 use Rattle.droid_signature_combinations.proofs.Counting.{quotient_below, remainder_below}
-use Rattle.droid_signature_combinations.proofs.PickRows.{AreAllWritten, AreWritten}
 
 -- ---- the registry's rows for what is taken
 
@@ -152,11 +151,11 @@ signs_left signatures xs it reason old new signs has holds = record {
   sequences = has.sequences ∙ signs.sequences;
 }
 
-pub signs_taken : (signatures : List SignatureRecord) (xs : List Named) (it : Named) (at : ℕ) (signature : SignatureRecord) (lists : List (List SequenceRow)) (old new : SignatureTable) → Signs signatures xs old
-    → IsOnlySignature signatures it.id at signature → AreRowsFor signature.sequences lists → 0 < length lists
+pub signs_taken : (signatures : List SignatureRecord) (xs : List Named) (it : Named) (at : ℕ) (signature : SignatureRecord) (all : List Choices) (lists : List (List SequenceRow)) (old new : SignatureTable) → Signs signatures xs old
+    → IsOnlySignature signatures it.id at signature → AreTaken signature.sequences all → AreAllWritten all lists → AreRowsFor signature.sequences lists → 0 < length lists
     → new.text.items ≡ old.text.items ++ signature_lines (rows_of it.place (puid_in it.of.format) lists) → new.taken ≡ min (old.taken + 1) (2 ^ 64 - 1) → new.count ≡ old.count + ways_of lists → new.sequences ≡ old.sequences + ways_of lists * length lists
     → new.left_out.items ≡ old.left_out.items → new.count ≤ 16384 → new.sequences ≤ 32768 → Signs signatures (xs ++ it ∷ []) new
-signs_taken signatures xs it at signature lists old new signs only stand some text one_more count sequences left few fewer =
+signs_taken signatures xs it at signature all lists old new signs only becomes written stand some text one_more count sequences left few fewer =
     let rows = rows_of it.place (puid_in it.of.format) lists in
     let grown = flat_push signs.rows rows in
     let one = rows_length it.place (puid_in it.of.format) lists (ways_of lists) in
@@ -171,7 +170,7 @@ signs_taken signatures xs it at signature lists old new signs only stand some te
       rows = signs.rows ++ rows ∷ [];
       sifted =
           subst (λ (l : List LeftOut). Sifted (TakesSignature signatures) (LeavesSignature signatures) (xs ++ it ∷ []) (signs.rows ++ rows ∷ []) l) (sym left)
-          (taken signs.sifted (record { at = at; signature = signature; only = only; lists = lists; stand = stand; some = some; same = refl; few_signatures = omega arith; few_sequences = omega arith }));
+          (taken signs.sifted (record { at = at; signature = signature; only = only; all = all; becomes = becomes; lists = lists; written = written; stand = stand; some = some; same = refl; few_signatures = omega arith; few_sequences = omega arith }));
       text = text ∙ ap (λ t. t ++ signature_lines rows) signs.text ∙ sym (lines_push (flat signs.rows) rows) ∙ ap signature_lines (sym grown);
       taken = omega arith;
       count = omega arith;

@@ -3,9 +3,22 @@ use Rattle.std.specs.Prelude.{◌≡◌, ℕ, zero, suc, ◌*◌, ◌/◌, ◌%�
 use Rattle.std.specs.List.{AllByRecursion, flat_map}
 use Rattle.droid_signature_tables.specs.Patterns.{Element}
 use Rattle.droid_signature_tables.specs.pronom_types.rows.Offsets.{Offsets}
+use Rattle.droid_signature_tables.specs.choice_types.choices.Choices.{Choices}
 use Rattle.droid_signature_tables.specs.RegistryTables.{SequenceFits, SequenceRow, SignatureRow, sequence_of}
 use Rattle.droid_signature_tables.specs.Records.{ByteSequenceRecord}
 use Rattle.droid_signature_tables.specs.Sequences.{StandFor, choices}
+
+-- the rows of what a byte sequence becomes: one for each text, with its offsets
+pub record AreWritten (choices : Choices) (rows : List SequenceRow) : Type 0 where
+  pub texts : map (λ row. row.text) rows ≡ choices.texts
+  pub offsets : AllByRecursion (λ row. row.offsets ≡ choices.offsets) rows
+
+-- such rows for all byte sequences of a signature
+abbrev pub AreAllWritten : List Choices → List (List SequenceRow) → Type 0
+AreAllWritten [] [] = ⊤
+AreAllWritten [] (rows ∷ lists) = ⊥
+AreAllWritten (choices ∷ all) [] = ⊥
+AreAllWritten (choices ∷ all) (rows ∷ lists) = AreWritten choices rows × AreAllWritten all lists
 
 -- any of the rows has to hit where a byte sequence of the file does, and a registry takes each of them
 pub record RowsFor (sequence : ByteSequenceRecord) (rows : List SequenceRow) : Type 0 where

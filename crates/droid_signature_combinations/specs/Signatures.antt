@@ -1,6 +1,7 @@
 -- Which signatures the registry has.
 use Rattle.std.specs.Prelude.{◌≡◌, ◌⊎◌, ℕ, ◌+◌, ◌-◌, ◌*◌, ◌^◌, ◌<◌, ◌≤◌, min, List, [], ◌∷◌, length, map, Some, slice_get}
-use Rattle.droid_signature_tables.specs.Choices.{IsReasonOf}
+use Rattle.droid_signature_tables.specs.Choices.{AreTaken, IsReasonOf, ways}
+use Rattle.droid_signature_tables.specs.choice_types.choices.Choices.{Choices}
 use Rattle.droid_signature_tables.specs.RegistryTables.{SequenceRow, SignatureRow, sequence_count, signature_lines}
 use Rattle.droid_signature_tables.specs.Records.{SignatureRecord}
 use Rattle.droid_signature_tables.specs.Formats.{Placed, puid_in}
@@ -11,7 +12,7 @@ use Rattle.droid_signature_tables.specs.declared.left_out.Item.TheVariants as it
 use Rattle.droid_signature_tables.specs.declared.left_out.LeftOut.{LeftOut}
 use Rattle.droid_signature_tables.specs.declared.left_out.Why.{Why}
 use Rattle.droid_signature_tables.specs.declared.left_out.Why.TheVariants as why
-use Rattle.droid_signature_combinations.specs.SignatureRows.{AreRowsFor, flat, rows_of, ways_of}
+use Rattle.droid_signature_combinations.specs.SignatureRows.{AreAllWritten, AreRowsFor, flat, rows_of, ways_of}
 use Rattle.droid_signature_combinations.specs.declared.signature_table.SignatureTable.{SignatureTable}
 
 -- a signature of a format: the place in the registry of the format, the format, and the signature's ID
@@ -37,26 +38,29 @@ pub record IsOnlySignature (signatures : List SignatureRecord) (id at : ℕ) (si
   pub held : holder id (ids_of signatures) ≡ Only at
   pub there : slice_get signatures at ≡ Some signature
 
--- a registry that has these signatures takes it
+-- A registry that has these signatures takes it. Its rows are those of what the signature becomes, and no others.
 pub record TakesSignature (signatures : List SignatureRecord) (before : List (List SignatureRow)) (it : Named) (rows : List SignatureRow) : Type 0 where
   pub at : ℕ
   pub signature : SignatureRecord
   pub only : IsOnlySignature signatures it.id at signature
+  pub all : List Choices
+  pub becomes : AreTaken signature.sequences all
   pub lists : List (List SequenceRow)
+  pub written : AreAllWritten all lists
   pub stand : AreRowsFor signature.sequences lists
   pub some : 0 < length lists
   pub same : rows ≡ rows_of it.place (puid_in it.of.format) lists
   pub few_signatures : length (flat before) + ways_of lists ≤ 16384
   pub few_sequences : sequence_count (flat before) + ways_of lists * length lists ≤ 32768
 
--- a registry that has these signatures is too full for another that stands for a signature of the file
+-- a registry that has these signatures is too full for what another signature of the file becomes
 pub record IsFull (signatures : List SignatureRecord) (before : List (List SignatureRow)) (id : ℕ) : Type 0 where
   pub at : ℕ
   pub signature : SignatureRecord
   pub only : IsOnlySignature signatures id at signature
-  pub lists : List (List SequenceRow)
-  pub stand : AreRowsFor signature.sequences lists
-  pub full : (16384 < length (flat before) + ways_of lists) ⊎ (32768 < sequence_count (flat before) + ways_of lists * length lists)
+  pub all : List Choices
+  pub becomes : AreTaken signature.sequences all
+  pub full : (16384 < length (flat before) + ways all) ⊎ (32768 < sequence_count (flat before) + ways all * length all)
 
 -- why nothing stands for the signature with an ID
 abbrev pub IsReasonOfId : List SignatureRecord → ℕ → Why → Type 0

@@ -72,7 +72,7 @@ fn items_of(alloc: Global, text: &[u8]) -> Result<(Vec<TextItem>, &[u8]), TextFa
     ensures only { (all : List Atom) (end : List ℕ) → AtomsTo text.now all end → IfOk result (λ found. (all ≡ map atom_of found.0.items) × (end ≡ found.1.now)) }
     ensures bad { IsErrOf result TextFault.BadText → (all : List Atom) (end : List ℕ) → AtomsTo text.now all end → 0 < length all → ⊥ }
 {
-    let mut items = Vec::new(alloc);
+    let mut items = Vec::with_capacity(alloc, 1)?;
     let mut rest = text;
     while !stops(rest) {
         let (item, after) = item_of(alloc, rest)?;

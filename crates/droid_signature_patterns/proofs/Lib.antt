@@ -8,3 +8,4 @@ pub mod Ways
 pub mod Taken
 pub mod SequenceReads
 pub mod Ends
+pub mod FirstPositions

@@ -1,5 +1,5 @@
 -- A byte sequence whose subsequences are read.
-use Rattle.std.proofs.Common.{◌≡◌, ◌↔◌, ℕ, suc, ◌<◌, Bool, false, List, [], ◌∷◌, length, refl, sym, ap, ◌∙◌, subst, arith}
+use Rattle.std.proofs.Common.{◌≡◌, ◌↔◌, ℕ, suc, ◌<◌, Bool, true, false, List, [], ◌∷◌, length, refl, sym, ap, ◌∙◌, subst, arith}
 use Rattle.std.specs.Bool.{IsTrue}
 use Rattle.std.proofs.lemmas.Bool.{false≢true}
 use Rattle.droid_signature_texts.specs.pronom_types.rows.Anchor.{Anchor}
@@ -10,6 +10,7 @@ use Rattle.droid_signature_texts.specs.record_types.sequence.Reference.TheVarian
 use Rattle.droid_signature_texts.specs.Sequences.{IsAnchorOf}
 use Rattle.droid_signature_texts.specs.declared.reason.Reason.{Reason}
 use Rattle.droid_signature_patterns.specs.Parts.{ReadPart}
+use Rattle.droid_signature_patterns.specs.Positions.{are_numbered}
 use Rattle.droid_signature_patterns.specs.Reasons.{AreRead, IsRead, IsReasonOfParts}
 
 -- one subsequence alone, from the end
@@ -18,9 +19,9 @@ alone [] t reference n says is long end = refl
 alone (x ∷ further) t reference n says is long end = absurd (false≢true (sym is ∙ says.1 (end, omega arith)))
 
 pub is_read : (sequence : ByteSequenceRecord) (reference : Reference) (anchor : Anchor) (parts : List SubSequenceRecord) (part : SubSequenceRecord) (further : List SubSequenceRecord) (offsets : Offsets) (first : ReadPart) (rest : List ReadPart)
-    (t : Bool) (n : ℕ) → reference ≡ sequence.reference → parts ≡ sequence.parts → parts ≡ part ∷ further → IsAnchorOf reference anchor → IsTrue t ↔ ((reference ≡ End) × (1 < n)) → t ≡ false → n ≡ length parts
+    (t : Bool) (n : ℕ) → reference ≡ sequence.reference → parts ≡ sequence.parts → parts ≡ part ∷ further → IsAnchorOf reference anchor → IsTrue t ↔ ((reference ≡ End) × (1 < n)) → t ≡ false → n ≡ length parts → are_numbered 1 parts ≡ true
     → AreRead anchor part further offsets first rest → IsRead sequence offsets first rest
-is_read sequence reference anchor parts part further offsets first rest t n same listed split from says is long read =
+is_read sequence reference anchor parts part further offsets first rest t n same listed split from says is long numbered read =
     let A : Anchor → Type 0 = λ a. IsAnchorOf sequence.reference a in
     let R : Reference → Type 0 = λ r. IsAnchorOf r anchor in
     let Q : Anchor → Type 0 = λ a. AreRead a part further offsets first rest in
@@ -30,6 +31,7 @@ is_read sequence reference anchor parts part further offsets first rest t n same
       parts = sym listed ∙ split;
       anchor = subst A (sym read.same) (subst R same from);
       alone = λ end. alone further t reference n says is (long ∙ ap length split) (same ∙ end);
+      numbered = ap (are_numbered 1) (sym listed) ∙ numbered;
       are_read = subst Q (sym read.same) read;
     }
 

@@ -53,6 +53,7 @@ is_taken sequence taken first rest is written small ends =
       texts = written;
       small = small;
       stand = stands sequence taken.offsets first rest is;
+      ends = ends;
       read = subst Q (sym written) (read_as (row_patterns first rest) (row_can is.part is.further first rest is.are_read.is_first is.are_read.are_rest) (subst S written small.short) (ap (list_all ends_in_byte) (sym written) ∙ ends));
     }
 

@@ -1,6 +1,6 @@
 -- What a signature becomes.
-use Rattle.std.specs.Prelude.{◌≡◌, ◌⊎◌, ℕ, ◌*◌, ◌<◌, ◌≤◌, List, [], ◌∷◌, length, take, ⊤}
-use Rattle.std.specs.List.{Any}
+use Rattle.std.specs.Prelude.{◌≡◌, ◌⊎◌, ℕ, ◌*◌, ◌<◌, ◌≤◌, true, List, [], ◌∷◌, length, take, ⊤}
+use Rattle.std.specs.List.{Any, list_all}
 use Rattle.droid_signature_texts.specs.Patterns.{Element}
 use Rattle.droid_signature_texts.specs.PatternText.{Spells}
 use Rattle.droid_signature_texts.specs.Records.{ByteSequenceRecord}
@@ -9,6 +9,7 @@ use Rattle.droid_signature_texts.specs.declared.reason.Reason.{Reason}
 use Rattle.droid_signature_texts.specs.declared.reason.Reason.TheVariants as reasons
 use Rattle.droid_signature_texts.specs.Texts.{AreSmall}
 use Rattle.droid_signature_texts.specs.Written.{written_each}
+use Rattle.droid_signature_patterns.specs.Ends.{ends_in_byte}
 use Rattle.droid_signature_patterns.specs.Parts.{ReadPart, row_patterns}
 use Rattle.droid_signature_patterns.specs.Reasons.{IsRead, IsReasonOfOne}
 use Rattle.droid_signature_patterns.specs.declared.choices.Choices.{Choices}
@@ -29,6 +30,8 @@ pub record IsTaken (sequence : ByteSequenceRecord) (taken : Choices) : Type 0 wh
   pub small : AreSmall taken.texts
   pub stand : StandFor sequence taken.offsets (row_patterns first rest)
   pub read : AreReadAs taken.texts (row_patterns first rest)
+  -- none is empty or ends in a gap
+  pub ends : list_all ends_in_byte taken.texts ≡ true
 
 -- the byte sequences of a signature become these, one after the other
 abbrev pub AreAllTaken : List ByteSequenceRecord → List Choices → Type 0

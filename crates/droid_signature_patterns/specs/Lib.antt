@@ -9,6 +9,8 @@ pub use Rattle.droid_signature_texts.specs.FileOutcomes
 pub use Rattle.droid_signature_texts.specs.declared as reason_types
 -- Subsequences whose texts are read, and the patterns that they are written as.
 pub mod Parts
+-- The positions of subsequences and fragments.
+pub mod Positions
 -- How a pattern's text ends.
 pub mod Ends
 -- Why a registry cannot hold a byte sequence.

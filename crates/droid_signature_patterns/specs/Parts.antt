@@ -10,6 +10,7 @@ use Rattle.droid_signature_texts.specs.Expansions.{joined, patterns_of}
 use Rattle.droid_signature_texts.specs.Meaning.{TextMatches, lowest}
 use Rattle.droid_signature_texts.specs.Pieces.{IsSide, Piece, Side, gap_patterns}
 use Rattle.droid_signature_texts.specs.Sequences.{ArePatternsOf}
+use Rattle.droid_signature_patterns.specs.Positions.{ArePositions}
 use Rattle.droid_signature_patterns.specs.declared.part_texts.Way.{Way}
 use Rattle.droid_signature_patterns.specs.declared.part_texts.Way.TheVariants as way
 
@@ -52,13 +53,15 @@ AreReadFragments [] (it ∷ its) = ⊥
 AreReadFragments (fragment ∷ fragments) [] = ⊥
 AreReadFragments (fragment ∷ fragments) (it ∷ its) = IsReadFragment fragment it × AreReadFragments fragments its
 
--- A subsequence is read as this.
+-- A subsequence is read as this. No position of its fragments is left out.
 pub record IsReadPart (part : SubSequenceRecord) (read : ReadPart) : Type 0 where
   pub least : read.least ≡ lowest part.offsets
   pub small : read.least ≤ 65535
   pub left : AreReadFragments part.left read.left
   pub text : IsReadText part.text read.terms
   pub right : AreReadFragments part.right read.right
+  pub left_positions : ArePositions part.left
+  pub right_positions : ArePositions part.right
 
 abbrev pub AreReadParts : List SubSequenceRecord → List ReadPart → Type 0
 AreReadParts [] [] = ⊤

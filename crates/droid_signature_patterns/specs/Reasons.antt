@@ -17,6 +17,7 @@ use Rattle.droid_signature_texts.specs.Written.{written_all, written_each}
 use Rattle.droid_signature_texts.specs.declared.reason.Reason.{Reason}
 use Rattle.droid_signature_texts.specs.declared.reason.Reason.TheVariants as reasons
 use Rattle.droid_signature_patterns.specs.Parts.{AreReadParts, IsReadPart, ReadFragment, ReadPart, level, next_levels, part_levels, row_levels, row_patterns, side_levels}
+use Rattle.droid_signature_patterns.specs.Positions.{are_numbered, has_position}
 use Rattle.droid_signature_patterns.specs.Ends.{ends_in_byte}
 use Rattle.droid_signature_patterns.specs.declared.part_texts.Way.{Way}
 use Rattle.droid_signature_patterns.specs.declared.part_texts.Way.TheVariants as way
@@ -32,10 +33,6 @@ IsReasonOfUpper offsets (Some most) reason = ((reason ≡ reasons.LargeOffset) �
 
 abbrev pub IsReasonOfBounds : OffsetRange → Reason → Type 0
 IsReasonOfBounds offsets reason = IsReasonOfLower offsets reason ⊎ IsReasonOfUpper offsets offsets.max reason
-
--- whether a fragment has this position
-abbrev pub has_position : ℕ → List Fragment → Bool
-has_position position fragments = list_any (λ it. it.position == position) fragments
 
 -- a fragment's position is 0 or over 64, or no fragment has a position below the outermost
 abbrev pub IsReasonOfPosition : Reason → Fragment → Type 0
@@ -71,11 +68,6 @@ HasNoUpper part = unwrap_or part.offsets.max 0 ≡ 0
 
 abbrev pub IsReasonOfFurther : Reason → SubSequenceRecord → Type 0
 IsReasonOfFurther reason part = ((reason ≡ reasons.FurtherUpperOffset) × HasUpper part) ⊎ IsReasonOfPart reason part
-
--- whether the positions are n, the number behind n, and so on
-abbrev pub are_numbered : ℕ → List SubSequenceRecord → Bool
-are_numbered n [] = true
-are_numbered n (part ∷ parts) = (part.position == n) && are_numbered (suc n) parts
 
 -- why a byte sequence is not read
 abbrev pub IsReasonOfParts : Reason → List SubSequenceRecord → Type 0
@@ -127,13 +119,14 @@ pub record AreRead (anchor : Anchor) (part : SubSequenceRecord) (further : List 
   pub are_rest : AreReadParts further rest
   pub plain : AllByRecursion HasNoUpper further
 
--- A byte sequence is read as these subsequences, with these offsets.
+-- A byte sequence is read as these subsequences, with these offsets. Their positions are 1, 2, 3 and so on.
 pub record IsRead (sequence : ByteSequenceRecord) (offsets : Offsets) (first : ReadPart) (rest : List ReadPart) : Type 0 where
   pub part : SubSequenceRecord
   pub further : List SubSequenceRecord
   pub parts : sequence.parts ≡ part ∷ further
   pub anchor : IsAnchorOf sequence.reference offsets.anchor
   pub alone : sequence.reference ≡ End → further ≡ []
+  pub numbered : are_numbered 1 sequence.parts ≡ true
   pub are_read : AreRead offsets.anchor part further offsets first rest
 
 -- why a registry cannot hold a byte sequence: it is not read, or what was read is not written

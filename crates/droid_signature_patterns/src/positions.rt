@@ -1,8 +1,10 @@
 //! The positions of fragments and subsequences.
 
-ghost use Rattle.std.specs.Prelude.{◌≡◌, IfErr};
+ghost use Rattle.std.specs.Prelude.{◌≡◌, IfErr, OnOk};
 ghost use Rattle.droid_signature_texts.specs.Meaning.{outermost};
-ghost use Rattle.droid_signature_patterns.specs.Reasons as spec;
+ghost use Rattle.droid_signature_patterns.specs.Positions as spec;
+ghost use Rattle.droid_signature_patterns.specs.Positions.{ArePositions, AreWhole};
+ghost use Rattle.droid_signature_patterns.specs.Reasons.{IsReasonOfPositions};
 
 use droid_signature_texts::{Fragment, Reason, SubSequence};
 
@@ -11,7 +13,8 @@ const LARGEST_POSITION: u32 = 64;
 
 /// Checks that the fragments' positions are 1 to the largest, each at least once, and at most 64.
 pub(crate) fn see_positions(fragments: &[Fragment]) -> Result<(), Reason>
-    ensures { IfErr result (spec.IsReasonOfPositions fragments.now) }
+    ensures ok { OnOk result (ArePositions fragments.now) }
+    ensures err { IfErr result (IsReasonOfPositions fragments.now) }
 {
     for fragment in fragments {
         if fragment.position == 0 {
@@ -27,7 +30,8 @@ pub(crate) fn see_positions(fragments: &[Fragment]) -> Result<(), Reason>
 
 /// Checks that each position from 1 to the largest has a fragment.
 fn see_each(fragments: &[Fragment]) -> Result<(), Reason>
-    ensures { IfErr result (spec.IsReasonOfPositions fragments.now) }
+    ensures ok { OnOk result (AreWhole fragments.now) }
+    ensures err { IfErr result (IsReasonOfPositions fragments.now) }
 {
     let last = outermost(fragments);
     for inner in 0..last {

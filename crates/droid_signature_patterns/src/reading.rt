@@ -7,6 +7,7 @@ ghost use Rattle.droid_signature_texts.specs.TermValues.{term_of};
 ghost use Rattle.droid_signature_texts.specs.Outcomes.{IfLeftOut};
 ghost use Rattle.droid_signature_texts.specs.declared.reason.Reason.TheVariants as reasons;
 ghost use Rattle.droid_signature_patterns.specs.Parts.{AreReadFragments, AreReadParts, IsReadFragment, IsReadPart, IsReadText};
+ghost use Rattle.droid_signature_patterns.specs.Positions.{ArePositions};
 ghost use Rattle.droid_signature_patterns.specs.Reasons.{AreRead, HasNoUpper, IsRead, IsReasonOfFragment, IsReasonOfFurther, IsReasonOfPart, IsReasonOfParts, IsReasonOfSequence, IsReasonOfSide, IsReasonOfText};
 ghost use Rattle.std.specs.List.{AllByRecursion, Any};
 
@@ -133,6 +134,7 @@ fn read_part(alloc: Global, part: &SubSequence) -> Result<ReadPart, Stop>
 /// Reads the fragments on one side.
 fn read_fragments(alloc: Global, fragments: &[Fragment]) -> Result<Vec<ReadFragment>, Stop>
     ensures ok { IfOk result (λ read. AreReadFragments fragments.now read.items) }
+    ensures positions { OnOk result (ArePositions fragments.now) }
     ensures err { IfLeftOut result (IsReasonOfSide fragments.now) }
 {
     see_positions(fragments)?;

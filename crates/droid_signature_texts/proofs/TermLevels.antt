@@ -18,7 +18,7 @@ use Rattle.droid_signature_texts.specs.Texts.{joined, joined_all}
 use Rattle.droid_signature_texts.specs.Written.{pair, written, written_all, written_each, one_text, is_run, marked}
 use Rattle.droid_signature_texts.specs.Outcomes.{AreTooMuch, IsTooMuch, IsReasonOfAtoms, IsReasonOfTerms}
 use Rattle.droid_signature_texts.specs.declared.reason.Reason.{Reason}
-use Rattle.droid_signature_texts.proofs.Joined.{joined_all_more, written_joined}
+use Rattle.droid_signature_texts.proofs.Joined.{joined_all_more, joined_one, written_joined}
 
 abbrev pub term_level : Term → List (List ℕ)
 term_level t = written_each (patterns_of_term t)
@@ -33,6 +33,12 @@ terms_levels (t ∷ ts) = ap (joined (term_level t)) (terms_levels ts) ∙ sym (
 pub atoms_levels : (atoms : List Atom) → joined_all (map atom_level atoms) ≡ written_each (patterns_of_atoms atoms)
 atoms_levels [] = refl
 atoms_levels (a ∷ atoms) = ap (joined (atom_level a)) (atoms_levels atoms) ∙ sym (written_joined (patterns_of_atom a) (patterns_of_atoms atoms))
+
+-- one item alone
+pub one_level : (items : List TextItem) (item : TextItem) → length items ≡ 1 → item ≡ get_or items 0 item → atom_level (atom_of item) ≡ written_each (patterns_of_atoms (map atom_of items))
+one_level [] item one is = absurd (omega arith)
+one_level (x ∷ []) item one is = ap (λ y. atom_level (atom_of y)) is ∙ sym (joined_one (atom_level (atom_of x))) ∙ atoms_levels (atom_of x ∷ [])
+one_level (x ∷ y ∷ items) item one is = absurd (omega arith)
 
 -- one more of the lists that terms or items are written as
 pub levels_more : {X Y : Type 0} (g : Y → List (List ℕ)) (f : X → Y) (xs : List X) (i : ℕ) (x : X) (done new level : List (List ℕ)) → i < length xs → x ≡ get_or xs i x

@@ -1,6 +1,6 @@
 //! The texts of the patterns that stand for the terms of a sequence's or a fragment's text.
 
-ghost use Rattle.std.specs.Prelude.{◌≡◌, ◌+◌, ◌≤◌, ◌++◌, ◌∷◌, [], IfOk, OnOk, length, map};
+ghost use Rattle.std.specs.Prelude.{◌≡◌, ◌+◌, ◌≤◌, ◌++◌, ◌∷◌, [], IsTrue, IfOk, OnOk, length, map};
 ghost use Rattle.std.specs.List.{flat_map, list_all};
 ghost use Rattle.droid_signature_parser.specs.Patterns.{Choice};
 ghost use Rattle.droid_signature_parser.specs.TermValues.{atom_of, term_of};
@@ -229,11 +229,22 @@ fn each_texts(alloc: Global, alternatives: &[Vec<TextItem>]) -> Result<PatternTe
     Ok(texts)
 }
 
+/// Returns whether there is one item, and it is no run of bytes: its texts are short, and need not grow.
+fn is_one_class(items: &[TextItem]) -> bool
+    ensures { IsTrue result → length items.now ≡ 1 }
+{
+    items.len() == 1 && !is_run(&items[0])
+}
+
 /// Returns the texts of the patterns that stand for items.
 fn items_texts(alloc: Global, items: &[TextItem]) -> Result<PatternTexts, Stop>
     ensures ok { IfOk result (λ texts. texts ≡ written_each (patterns_of_atoms (map atom_of items.now))) }
     ensures err { IfLeftOut result (λ reason. IsReasonOfAtoms reason (map atom_of items.now)) }
 {
+    if is_one_class(items) {
+        let own = item_texts(alloc, &items[0])?;
+        return Ok(own);
+    }
     let mut growing = Growing::new(alloc)?;
     for item in items {
         let level = item_texts(alloc, item)?;

@@ -109,6 +109,27 @@ class Command(unittest.TestCase):
             done = subprocess.run([PROGRAM, "registry", self.file], stdout=full, stderr=subprocess.PIPE, check=False, timeout=60)
         self.assertEqual((done.returncode, done.stderr.split(b"\n")[0]), (NO_OUTPUT, b"fault: Write"))
 
+    def test_note_that_cannot_be_created(self):
+        """The registry is complete, and the sentence says so."""
+        os.mkdir(self.output + ".txt")
+        ended, out, said = run(self.file, "--output", self.output)
+        self.assertEqual((ended, out, said.splitlines()[0]), (NO_OUTPUT, b"", "fault: Output"))
+        self.assertTrue(said.splitlines()[1].startswith(f"{self.output}.txt: "), said)
+        os.rmdir(self.output + ".txt")
+        self.assertEqual(self.files(), {"registry.csv": ROWS})
+
+    def test_note_in_the_place_of_the_signature_file(self):
+        """It is refused, and the file stays. The registry is complete."""
+        output = self.path("signatures")
+        os.rename(self.file, output + ".txt")
+        self.assertEqual(run(output + ".txt", "--output", output)[0], NO_OUTPUT)
+        self.assertEqual(self.files(), {"signatures": ROWS, "signatures.txt": SMALL})
+
+    def test_file_that_cannot_be_read(self):
+        """A file that opens, and whose first read fails."""
+        self.fault(NO_SIGNATURE_FILE, "Read", "/proc/self/mem", "--output", self.output)
+        self.assertEqual(self.files(), {})
+
     def test_no_signature_files(self):
         self.fault(NO_SIGNATURE_FILE, "Read", self.path("none.xml"))
         self.fault(NO_SIGNATURE_FILE, "Read", self.folder)

@@ -10,7 +10,7 @@ use Rattle.droid_signature_parser.proofs.parser.items_of.Goals as goal
 pub returns-in_err-item-clause-bad : goal.returns-in_err-item-clause-bad
 returns-in_err-item-clause-bad c = λ was all end h some.
     items_bad c.args.text.now (map atom_of c.loop-alloc.items.items) c.loop-alloc.rest.now (sym c.loop-alloc-test.ensures)
-    (c.in_err-item.ensures.bad (passed_on c.from_residual.result _ c.from_residual.ensures.1 was)) c.loop-alloc.invariant all end h
+    (c.in_err-item.ensures.bad (passed_on c.from_residual-in_err-item.result _ c.from_residual-in_err-item.ensures.1 was)) c.loop-alloc.invariant all end h
 
 pub loop-alloc-preserved : goal.loop-alloc-preserved
 loop-alloc-preserved c =

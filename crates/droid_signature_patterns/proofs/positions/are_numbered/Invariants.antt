@@ -1,6 +1,6 @@
 -- Whether the rest is numbered decides.
 use Rattle.std.proofs.Common.{◌≡◌, ◌+◌, drop}
-use Rattle.droid_signature_patterns.specs.Reasons.{are_numbered}
+use Rattle.droid_signature_patterns.specs.Positions.{are_numbered}
 use Rattle.droid_signature_patterns.proofs.positions.are_numbered.Given as goal
 
 abbrev pub invariant-loop-place : goal.invariant-loop-place

@@ -10,7 +10,7 @@ use Rattle.droid_signature_patterns.proofs.ReadTexts.{fragments_more}
 use Rattle.droid_signature_patterns.proofs.reading.read_fragments.Goals as goal
 
 pub returns-in_err-see_positions-clause-err : goal.returns-in_err-see_positions-clause-err
-returns-in_err-see_positions-clause-err c = left_out (IsReasonOfSide c.args.fragments.now) c.from_residual.result _ c.from_residual.ensures.1 (inl c.in_err-see_positions.ensures)
+returns-in_err-see_positions-clause-err c = left_out (IsReasonOfSide c.args.fragments.now) c.from_residual.result _ c.from_residual.ensures.1 (inl c.in_err-see_positions.ensures.err)
 
 pub returns-in_err-more-clause-err : goal.returns-in_err-more-clause-err
 returns-in_err-more-clause-err c = passed_on (IsReasonOfSide c.args.fragments.now) (λ reason. IsReasonOfFragment reason c.fragment-item.result) c.from_residual-in_err-more.result _ c.from_residual-in_err-more.ensures.1

@@ -27,4 +27,6 @@ returns-clause-ok c =
       left = rw c.left.ensures at c.in_ok-left.ensures.ok;
       text = rw c.text.ensures at c.in_ok-terms.ensures.ok;
       right = rw c.right.ensures at c.in_ok-right.ensures.ok;
+      left_positions = rw c.left.ensures at c.in_ok-left.ensures.positions;
+      right_positions = rw c.right.ensures at c.in_ok-right.ensures.positions;
     })

@@ -5,7 +5,7 @@ use Rattle.droid_signature_parser.specs.TermValues.{atom_of}
 use Rattle.droid_signature_texts.specs.Texts.{joined, joined_all}
 use Rattle.droid_signature_texts.specs.Outcomes.{IsTooMuch, IsReasonOfAtom, IsReasonOfAtoms}
 use Rattle.droid_signature_texts.proofs.Exits.{any_map, passed_on}
-use Rattle.droid_signature_texts.proofs.TermLevels.{exceed, levels_more, atom_level, atoms_exceed, atoms_levels}
+use Rattle.droid_signature_texts.proofs.TermLevels.{exceed, levels_more, atom_level, atoms_exceed, atoms_levels, one_level}
 use Rattle.droid_signature_texts.proofs.term_texts.items_texts.Goals as goal
 
 pub loop-item-preserved : goal.loop-item-preserved
@@ -34,3 +34,10 @@ returns-clause-ok c =
     let all = map atom_level (map atom_of c.args.items.now) in
     let whole = take_all c.loop-item.item-index all (omega (arith, length-map c.args.items.now atom_of, length-map (map atom_of c.args.items.now) atom_level)) in
     c.in_ok-texts.ensures.ok ∙ c.loop-item.invariant ∙ ap joined_all whole ∙ atoms_levels (map atom_of c.args.items.now)
+
+pub returns-in_err-own-clause-err : goal.returns-in_err-own-clause-err
+returns-in_err-own-clause-err c = passed_on (λ reason. IsReasonOfAtoms reason (map atom_of c.args.items.now)) (λ reason. IsReasonOfAtom reason (atom_of c.index-items-0.result)) c.from_residual.result _ c.from_residual.ensures.1
+    (λ reason h. inl (any_map (IsReasonOfAtom reason) atom_of c.args.items.now 0 c.index-items-0.result (omega arith) c.index-items-0.is h)) c.in_err-own.ensures.err
+
+pub returns-then-is_one_class-clause-ok : goal.returns-then-is_one_class-clause-ok
+returns-then-is_one_class-clause-ok c = c.in_ok-own.ensures.ok ∙ one_level c.args.items.now c.index-items-0.result (c.is_one_class.ensures c.if-is_one_class.true) c.index-items-0.is

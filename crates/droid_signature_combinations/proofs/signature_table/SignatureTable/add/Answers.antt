@@ -16,20 +16,18 @@ use Rattle.droid_signature_combinations.proofs.signature_table.SignatureTable.ad
 pub returns-then-is_full : goal.returns-then-is_full
 returns-then-is_full c = λ signatures xs place at signature only taken signs.
     let it : Named = record { place = place; of = kept_of c.args.of.now; id = c.args.id } in
-    let rows = written signature.sequences c.args.all.now taken.each in
+    let all = c.args.all.now in
     let few = taken.few in
-    let same = written_ways c.args.all.now rows.lists rows.are in
-    let long = written_count c.args.all.now rows.lists rows.are in
-    let count : c.ways-count.result ≡ ways_of rows.lists = omega arith in
-    let product : c.ways-count.result * length c.args.all.now ≡ ways_of rows.lists * length rows.lists = ap (λ n. n * length c.args.all.now) count ∙ ap (λ n. ways_of rows.lists * n) (sym long) in
+    let count : c.ways-count.result ≡ ways all = omega arith in
+    let product : c.ways-count.result * length all ≡ ways all * length all = ap (λ n. n * length all) count in
     let over = c.is_full.ensures.over c.if-is_full.true in
     signs_left signatures xs it why.Full c.args.self.now c.leave_out.new.self signs c.in_ok-leave_out.ensures
     (λ before counted more. record {
       at = at;
       signature = signature;
       only = only;
-      lists = rows.lists;
-      stand = rows.stand;
+      all = all;
+      becomes = taken;
       full = elim over [ inl large ↦ inl (omega arith) | inr large ↦ inr (omega arith) ];
     })
 
@@ -49,7 +47,7 @@ returns c = λ signatures xs place at signature only taken signs.
     let puid = puid_in c.args.of.now.format.now in
     let old = c.args.self.now.text.items in
     let new : SignatureTable = record { text = c.push_combinations.new.text; taken = c.saturating_add-self.result; count = c.saturating_add-signatures.result; sequences = c.saturating_add-sequences.result; left_out = c.args.self.now.left_out } in
-    signs_taken signatures xs it at signature rows.lists c.args.self.now new signs only rows.stand (omega arith)
+    signs_taken signatures xs it at signature all rows.lists c.args.self.now new signs only taken rows.are rows.stand (omega arith)
     (c.in_ok-push_combinations.ensures
     ∙ ap (λ p. old ++ lines_below p all c.ways-count.result) c.puid_of.ensures
     ∙ ap (λ n. old ++ lines_below puid all n) whole
