@@ -193,7 +193,7 @@ def socket_end(stream):
 
 
 def until_closed(stream):
-    assert is_closed(stream, 3)
+    assert is_closed(stream)
 
 
 class Unit(unittest.TestCase):
