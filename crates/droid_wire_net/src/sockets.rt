@@ -160,7 +160,8 @@ impl<'a, R: Clock + Eprint + Net> Sockets<'a, R> {
         }
     }
 
-    /// Waits a little for more requests, so that they share a sync. The last turn's replies were written at `now`.
+    /// Waits a little for more requests if one has come, so that they share a sync. The last turn's replies were written at
+    /// `now`.
     fn gather(&mut self, now: u64, limit: u64)
         ensures { self.new.tally ≡ self.old.tally }
     {
@@ -169,7 +170,7 @@ impl<'a, R: Clock + Eprint + Net> Sockets<'a, R> {
             return;
         }
         let before = awaited(&self.guests);
-        if before == 0 || !self.grace.is_due() {
+        if before == 0 || !has_come(&self.guests) || !self.grace.is_due() {
             return;
         }
         self.wait_for_answered(now.saturating_add(time));
@@ -363,6 +364,11 @@ fn note_one(guests: &mut Vec<Guest>, id: u64, readable: bool, writable: bool, en
 /// Returns of how many connections the next request is awaited.
 fn awaited(guests: &[Guest]) -> usize {
     guests.iter().filter(|guest| guest.is_awaited()).count()
+}
+
+/// Whether something has come of a connection.
+fn has_come(guests: &[Guest]) -> bool {
+    guests.iter().any(|guest| guest.readable)
 }
 
 /// Notes that no connection took bytes in this turn.
