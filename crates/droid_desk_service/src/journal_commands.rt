@@ -126,6 +126,7 @@ where
         Ok(sockets) => sockets,
         Err(error) => return Ended::unconnected(port, error.kind()),
     };
+    sockets.share_syncs();
     if println!(rt; "listening {port}").is_err() {
         return Ended::at(Ending::Stream(ServeFault::Write { written: 0 }), port);
     }

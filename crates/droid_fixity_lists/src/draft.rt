@@ -1,6 +1,6 @@
 //! A list that is being read.
 
-ghost use Rattle.std.specs.Prelude.{◌≡◌, OnOk};
+ghost use Rattle.std.specs.Prelude.{◌≡◌, OnOk, Some};
 ghost use Rattle.std.specs.Option.{option_copied, option_map};
 ghost use Rattle.csv.specs.Records.{fields_of};
 ghost use Rattle.droid_fixity_lists.specs.Profiles as profiles;
@@ -12,6 +12,7 @@ use csv::ByteRecord;
 use droid_fixity::Item;
 use droid_frame::HashKind;
 use std::alloc::{AllocError, Global};
+use std::mem;
 
 /// What was read so far.
 #[derive(Drop)]
@@ -38,13 +39,13 @@ impl Draft {
         }
     }
 
-    /// Adds a record: the header first, then the rows.
-    pub(crate) fn take(&mut self, alloc: Global, row: ByteRecord) -> Result<(), ListFault>
-        ensures { Leaves result (draft_of self.new) (taken (draft_of self.old) (fields_of row)) }
+    /// Adds a record: the header first, then the rows. The record may then have other fields, to be read into again.
+    pub(crate) fn take(&mut self, alloc: Global, row: &mut ByteRecord) -> Result<(), ListFault>
+        ensures { Leaves result (draft_of self.new) (taken (draft_of self.old) (fields_of row.old)) }
     {
         match self.digest {
             Some(digest) => self.take_row(alloc, digest, row),
-            None => self.take_header(alloc, &row),
+            None => self.take_header(alloc, row),
         }
     }
 
@@ -67,20 +68,20 @@ impl Draft {
         &mut self,
         alloc: Global,
         digest: HashKind,
-        row: ByteRecord,
+        row: &mut ByteRecord,
     ) -> Result<(), ListFault>
-        ensures { Leaves result (draft_of self.new) (profiles.with_row (draft_of self.old) (fields_of row) (profiles.item_of digest (fields_of row))) }
+        ensures { Leaves result (draft_of self.new) (profiles.with_row (draft_of self.old) (fields_of row.old) (profiles.item_of digest (fields_of row.old))) }
     {
         // No memory holds that many records.
         let Some(record) = self.records.checked_add(1) else {
             return Err(ListFault::Memory);
         };
-        match item_of(alloc, digest, &row)? {
+        match item_of(alloc, digest, row)? {
             Some(item) => {
-                let repeated = repeats(self.last.as_ref(), &row);
+                let repeated = repeats(self.last.as_ref(), row);
                 note_item(&mut self.items, item, repeated)?;
                 self.records = record;
-                self.last = Some(row);
+                keep_last(alloc, &mut self.last, row);
                 Ok(())
             }
             None => Err(ListFault::Record { record }),
@@ -96,6 +97,16 @@ impl Draft {
             Some(_) => Ok(items),
             None => Err(ListFault::Header),
         }
+    }
+}
+
+/// Keeps a row as the last one. Its place gets the last one before it, so that no row takes new memory.
+fn keep_last(alloc: Global, last: &mut Option<ByteRecord>, row: &mut ByteRecord)
+    ensures { option_map fields_of last.new ≡ Some (fields_of row.old) }
+{
+    match last {
+        Some(last) => mem::swap(last, row),
+        None => *last = Some(mem::replace(row, ByteRecord::new(alloc))),
     }
 }
 

@@ -9,7 +9,7 @@ ghost use Rattle.droid_fixity_lists.specs.Profiles.{profile_of};
 use crate::csv_error::csv_fault;
 use crate::draft::Draft;
 use crate::fault::ListFault;
-use csv::ReaderBuilder;
+use csv::{ByteRecord, ReaderBuilder};
 use droid_fixity::Item;
 use std::alloc::Global;
 
@@ -22,20 +22,23 @@ pub fn read_profile(alloc: Global, text: &[u8]) -> Result<Vec<Item>, ListFault>
     ensures { (records : List (List (List ℕ))) → AreRecords default_config st.StartRecord (strip_bom text.now) records → Gives result (profile_of records) }
 {
     // `Draft::take` judges the number of fields, so the reader accepts any number.
-    let reader = ReaderBuilder::new()
+    let mut reader = ReaderBuilder::new()
         .has_headers(false)
         .flexible(true)
         .from_reader(alloc, text);
     let mut draft = Draft::new(alloc);
-    for row in reader.into_byte_records() {
-        match row {
+    let mut row = ByteRecord::new(alloc);
+    for _ in 0..u64::MAX {
+        match reader.read_byte_record(&mut row) {
             Err(error) => return Err(csv_fault(error)),
-            Ok(row) => {
-                if let Err(fault) = draft.take(alloc, row) {
+            Ok(false) => return draft.finish(),
+            Ok(true) => {
+                if let Err(fault) = draft.take(alloc, &mut row) {
                     return Err(fault);
                 }
             }
         }
     }
-    draft.finish()
+    // No memory holds that many records.
+    Err(ListFault::Memory)
 }

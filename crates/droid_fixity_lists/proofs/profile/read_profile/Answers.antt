@@ -1,60 +1,34 @@
-use Rattle.std.proofs.Common.{◌∙◌, [], refl, inl, inr}
-use Rattle.csv.specs.Reading.{error_kind, strip_bom}
+use Rattle.std.proofs.Common.{◌∙◌, inl}
 use Rattle.csv.specs.Records.{fields_of}
 use Rattle.droid_fixity_lists.specs.Calls.{draft_of}
 use Rattle.droid_fixity_lists.specs.Profiles.{profile_of}
-use Rattle.droid_fixity_lists.proofs.Reading.{ends_reading, left_end, left_fault, left_more, next_read}
+use Rattle.droid_fixity_lists.proofs.Reading.{left_end, left_fault, left_more, next_read}
 use Rattle.droid_fixity_lists.proofs.profile.read_profile.Goals as goal
 
-pub loop-row-init : goal.loop-row-init
-loop-row-init c =
-    let fr = c.from_reader-reader.ensures in
-    let e = c.has_headers.ensures in
-    let f = c.flexible.ensures in
-    let start = c.into_iter-row-iterator.ensures.into_iter_gives ∙ refl in
-    let rdr = c.into_byte_records-row-items.ensures.rdr in
-    let left = c.into_byte_records-row-items.ensures.left in
-    rw (start, rdr) (
-      rw (f, e) at fr.trim ∙ c.new.ensures.trim,
-      inr (inr (rw (f, e) at fr.has_headers, fr.headers)),
-      left,
-      rw (f, e) at fr.config ∙ c.new.ensures.config,
-      rw f at fr.flexible,
-      strip_bom c.args.text.now,
-      fr.source,
-      λ records are. rw (c.new-draft.ensures, fr.state) (records, are, refl),
-    )
-
-pub loop-row-preserved : goal.loop-row-preserved
-loop-row-preserved c =
-    let inv = c.loop-row.invariant in
-    let s = rw (c.in-Some.is, c.in-Ok.is) at ((c.next.ensures.steps inv.2 inv.0).0 inv.1) in
-    let n = next_read c.loop-row.row-iterator.rdr c.next.new.self.rdr inv.5 (fields_of c.in-Ok.row) inv.3 inv.6 s.0 in (
-      s.0.3 ∙ inv.0,
-      inl s.1,
-      s.2,
-      s.0.2 ∙ inv.3,
-      rw (c.in-Some.is, c.in-Ok.is) at ((c.next.ensures.steps inv.2 inv.0).3) ∙ inv.4,
+pub loop-preserved : goal.loop-preserved
+loop-preserved c =
+    let inv = c.loop.invariant in
+    let read = rw c.in-Ok-true.field-0-test at (c.in-Ok-true.ensures.reads inv.0 inv.1) in
+    let n = next_read c.loop.reader c.read_byte_record.new.self inv.4 (fields_of c.read_byte_record.new.row) inv.2 inv.5 read in (
+      read.3 ∙ inv.0,
+      inl (c.in-Ok-true.ensures.ready inv.0),
+      read.2 ∙ inv.2,
+      c.in-Ok-true.ensures.flexible ∙ inv.3,
       n.rest,
       n.source,
-      λ records are. left_more c.loop-row.row-iterator.rdr c.next.new.self.rdr inv.5 (fields_of c.in-Ok.row) n (draft_of c.loop-row.draft) (draft_of c.take.new.self) (profile_of records) c.in_default.ensures (inv.7 records are),
+      λ records are. left_more c.loop.reader c.read_byte_record.new.self inv.4 (fields_of c.read_byte_record.new.row) n (draft_of c.loop.draft) (draft_of c.take.new.self) (profile_of records) c.in_default.ensures (inv.6 records are),
     )
 
-pub returns : goal.returns
-returns c = λ records are.
-    let inv = c.loop-row.invariant in
-    let s = rw c.in-None.is at ((c.next.ensures.steps inv.2 inv.0).0 inv.1) in
-    let whole = left_end c.loop-row.row-iterator.rdr c.next.new.self.rdr inv.5 [] (draft_of c.loop-row.draft) (profile_of records) inv.3 inv.6 s (inv.7 records are) in
+pub returns-in-Ok-false : goal.returns-in-Ok-false
+returns-in-Ok-false c = λ records are.
+    let inv = c.loop.invariant in
+    let read = rw c.in-Ok-false.field-0-test at (c.in-Ok-false.ensures.reads inv.0 inv.1) in
+    let whole = left_end c.loop.reader c.read_byte_record.new.self inv.4 (fields_of c.read_byte_record.new.row) (draft_of c.loop.draft) (profile_of records) inv.2 inv.5 read (inv.6 records are) in
     rw whole c.finish.ensures
 
 pub returns-in-Err-take : goal.returns-in-Err-take
 returns-in-Err-take c = λ records are some.
-    let inv = c.loop-row.invariant in
-    let s = rw (c.in-Some.is, c.in-Ok.is) at ((c.next.ensures.steps inv.2 inv.0).0 inv.1) in
-    let n = next_read c.loop-row.row-iterator.rdr c.next.new.self.rdr inv.5 (fields_of c.in-Ok.row) inv.3 inv.6 s.0 in
-    left_fault c.loop-row.row-iterator.rdr c.next.new.self.rdr inv.5 (fields_of c.in-Ok.row) n (draft_of c.loop-row.draft) c.in-Err-take.fault (profile_of records) (c.in-Err-take.ensures some) (inv.7 records are)
-
-pub csv_fault-requires : goal.csv_fault-requires
-csv_fault-requires c =
-    let inv = c.loop-row.invariant in
-    ends_reading c.loop-row.row-iterator.rdr c.next.new.self.rdr (error_kind c.in-Err.error) inv.4 (rw (c.in-Some.is, c.in-Err.is) at ((c.next.ensures.steps inv.2 inv.0).0 inv.1))
+    let inv = c.loop.invariant in
+    let read = rw c.in-Ok-true.field-0-test at (c.in-Ok-true.ensures.reads inv.0 inv.1) in
+    let n = next_read c.loop.reader c.read_byte_record.new.self inv.4 (fields_of c.read_byte_record.new.row) inv.2 inv.5 read in
+    left_fault c.loop.reader c.read_byte_record.new.self inv.4 (fields_of c.read_byte_record.new.row) n (draft_of c.loop.draft) c.in-Err-take.fault (profile_of records) (c.in-Err-take.ensures some) (inv.6 records are)
