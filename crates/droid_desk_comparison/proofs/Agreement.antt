@@ -54,7 +54,7 @@ one_list result items others is also = cc
 
 module _ (agree : (listed : Result (List Item) ListFault) (items found : List Item) (seen : Seen) → listed ≡ Ok items → IsPermutation items found → Sees listed found (Ok seen) → seen.differences.items ≡ []) where
   pub no_difference : (bytes : List _) (shown : List Record) (listed : List Item) (checked : Checked) → Lists bytes (exports.items_of shown) → Says Profile bytes (Ok listed)
-      → IsInventory (readable_in [] listed) checked.listed → IsInventory (items_of false shown) checked.found → IsReport checked.listed checked.found checked.differences.items → checked.differences.items ≡ []
+      → IsInventory (readable_in [] listed) checked.listed → IsInventory (readable_in [] (items_of false shown)) checked.found → IsReport checked.listed checked.found checked.differences.items → checked.differences.items ≡ []
   no_difference bytes shown listed checked lists says readable found report =
       let items = exports.items_of shown in
       let comes = says lists.0 lists.1 in
@@ -64,7 +64,7 @@ module _ (agree : (listed : Result (List Item) ListFault) (items found : List It
       let seen : Seen = record { differences = checked.differences; listed = checked.listed; found = checked.found } in
       let sees : Sees (profile_of lists.0) items (Ok seen) = (
         record { items = items; are = lists.2; has = record { same = IsPermutation-trans items listed checked.listed first second; in_order = readable.in_order } },
-        record { same = subst (λ (its : List Item). IsPermutation its checked.found) (same_items shown) found.same; in_order = found.in_order },
+        record { same = subst (λ (its : List Item). IsPermutation its checked.found) (all_read (items_of false shown) ∙ same_items shown) found.same; in_order = found.in_order },
         report,
       ) in
       agree (profile_of lists.0) items items seen lists.2 (IsPermutation-refl items) sees

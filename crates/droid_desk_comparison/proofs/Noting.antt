@@ -13,12 +13,6 @@ is_text name utf8 = sym (is_utf8-from_IsUtf8 name utf8)
 pub is_no_text : (name : List ℕ) → ¬ (IsUtf8 name) → false ≡ is_utf8 name
 is_no_text name other = sym (false_from_ne_true (is_utf8 name) (λ e. other (IsUtf8-from_is_utf8 name e)))
 
--- its name is text
-pub named : (entry : FolderEntry) → IsTrue (is_noted entry) → ¬ (IsUtf8 entry.name) → ⊥
-named entry noted other =
-    let parts = and_parts (is_regular entry.kind && is_utf8 entry.name) (is_moment entry.modified) noted in
-    other (IsUtf8-from_is_utf8 entry.name (and_parts (is_regular entry.kind) (is_utf8 entry.name) parts.0).1)
-
 -- its moment can be written
 pub written : (entry : FolderEntry) → IsTrue (is_noted entry) → IsTrue (is_moment entry.modified)
 written entry noted = (and_parts (is_regular entry.kind && is_utf8 entry.name) (is_moment entry.modified) noted).1

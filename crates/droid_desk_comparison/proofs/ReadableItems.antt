@@ -8,6 +8,7 @@ use Rattle.std.specs.Str.{bytes_eq}
 use Rattle.std.specs.declared.cmp.Ordering.TheVariants.{Less, Equal}
 use Rattle.std.proofs.lemmas.Bool.{false_from_ne_true}
 use Rattle.std.proofs.lemmas.Cmp.{nat_list_cmp_total, tied_itself}
+use Rattle.std.proofs.lemmas.List.Filters.{sum_by-filter_both}
 use Rattle.std.proofs.lemmas.List.Sorted.{IsPermutation-refl}
 use Rattle.std.proofs.lemmas.List.Sums.{sum_by-cons}
 use Rattle.std.proofs.lemmas.Slice.Eq.{bytes_eq-Decides}
@@ -89,6 +90,13 @@ pub never_twice : (items : List Item) (path : List ℕ) → AreInOrder (paths it
 never_twice items path in_order twice =
     let most : having path items ≤ 1 = at_most_once path items in_order in
     omega (arith, most, twice)
+
+-- a path that two of the items have that could be read is that of two of all
+pub twice_among : (unreadable : List SkippedEntry) (items : List Item) (path : List ℕ) → IsTwice (readable_in unreadable items) path → IsTwice items path
+twice_among unreadable items path twice =
+    let parts : having path (readable_in unreadable items) + having path (filter (λ item. not (is_readable unreadable item)) items) ≡ having path items =
+    sum_by-filter_both (is_readable unreadable) (λ item. not (is_readable unreadable item)) (λ item. refl) (λ item. one_if (bytes_eq path item.path)) items in
+    omega (arith, parts, twice)
 
 -- ---- where nothing is unreadable, all items could be read
 

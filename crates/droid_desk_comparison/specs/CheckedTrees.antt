@@ -77,12 +77,13 @@ IsAfterWalk faults.Numbers found = ⊥
 IsAfterWalk (faults.Twice same) found = IsTwice found same.path
 
 -- The recorder has all that was skipped, and keeps what is unreadable. The report has exactly the differences between the
--- items of the list that could be read and these items.
+-- items of the list that could be read and those of these items that could: a folder that was found and could not be listed
+-- later is unreadable, and nothing else is reported of it and of what lies below it.
 pub record Compares {W : Type 0} (listed found : List Item) (checked : Checked) (old new : Recorder W) : Type 0 where
   pub has_all : old.has_all ≡ true
   pub unreadable : new.skipped.items ≡ unreadable_in old.skipped.items
   pub listed_are : IsInventory (readable_in new.skipped.items listed) checked.listed
-  pub found_are : IsInventory found checked.found
+  pub found_are : IsInventory (readable_in new.skipped.items found) checked.found
   pub report : IsReport checked.listed checked.found checked.differences.items
 
 module _ {T W : Type 0} (observes : T → Observation → T → Type 0) (hears : W → Heard → W → Type 0) (registry : Contents) (options : Options) (files_only identify : Bool) where
@@ -107,8 +108,8 @@ module _ {T W : Type 0} (observes : T → Observation → T → Type 0) (hears :
   items_found walks = items_of files_only (records_of registry options walks.profiled.visits)
 
   -- The tree was walked to its end, and the recorder learned of all that was skipped, behind what it had. It keeps what is
-  -- unreadable. The report has exactly the differences between the items of the list that could be read, and the items of
-  -- the tree as it was read. If formats are kept, the keeper has those that were found in each file that was read.
+  -- unreadable. The report has exactly the differences between the items of the list and those of the tree as it was read, of
+  -- both those that could be read. If formats are kept, the keeper has those that were found in each file that was read.
   pub record ChecksTree (listed : List Item) (checked : Checked) (old new : Made) : Type 0 where
     pub walked : Recorder W
     pub walks : WalksTree old new walked

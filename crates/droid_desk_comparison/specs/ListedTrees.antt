@@ -41,8 +41,8 @@ module _ {T W : Type 0} (observes : T → Observation → T → Type 0) (hears :
   items_listed {noted = noted} lists = items_of files_only (records_of registry options lists.profiled.visits) ++ noted.files.items
 
   -- The tree was walked to its end, and the recorder learned of all that was skipped, behind what it had. It keeps what is
-  -- unreadable. The report has exactly the differences between the items of the list that could be read, and the items of
-  -- the tree as it was listed.
+  -- unreadable. The report has exactly the differences between the items of the list and those of the tree as it was listed,
+  -- of both those that could be read.
   pub record ChecksListing (listed : List Item) (checked : Checked) (old new : Made) : Type 0 where
     pub noted : NotedFiles T
     pub walked : Recorder W

@@ -1,5 +1,5 @@
 -- Files that are noted as their folders are listed, and not read (this project's own).
-use Rattle.std.specs.Prelude.{◌≡◌, ◌&&◌, Bool, true, false, not, List, [], ◌∷◌, ◌++◌, ℕ, filter, if◌then◌else◌}
+use Rattle.std.specs.Prelude.{◌≡◌, ◌&&◌, Bool, true, false, not, List, [], ◌∷◌, ◌++◌, ℕ, IsPermutation, filter, if◌then◌else◌}
 use Rattle.std.specs.List.{flat_map}
 use Rattle.std.specs.Str.{is_utf8}
 use Rattle.droid_frame.specs.types.hash_value.HashValue.TheVariants as hashes
@@ -39,10 +39,16 @@ items_listed path entries = flat_map (items_of_entry path) entries
 abbrev pub is_left : FolderEntry → Bool
 is_left entry = not (is_noted entry)
 
+-- Of a listing, which may have been put in another order, the files were noted behind those that were noted before, and all
+-- else was left.
+abbrev pub NotesEntries : List ℕ → List FolderEntry → List Item → List Item → List FolderEntry → Type 0
+NotesEntries path all before after left =
+    (ordered : List FolderEntry) × IsPermutation all ordered × (left ≡ filter is_left ordered) × (after ≡ before ++ items_listed path ordered)
+
 -- The whole tree returned the same, but that a listing has the files too that were noted.
 abbrev pub NotesFiles : {T : Type 0} → (T → Observation → T → Type 0) → NotedFiles T → Observation → NotedFiles T → Type 0
 NotesFiles observes old (Listed path entries) new =
-    (all : List FolderEntry) × (entries ≡ filter is_left all) × (new.files.items ≡ old.files.items ++ items_listed path all) × observes old.tree (Listed path all) new.tree
+    (all : List FolderEntry) × NotesEntries path all old.files.items new.files.items entries × observes old.tree (Listed path all) new.tree
 NotesFiles observes old (Unlisted path) new = (new.files.items ≡ old.files.items) × observes old.tree (Unlisted path) new.tree
 NotesFiles observes old (Opened path) new = (new.files.items ≡ old.files.items) × observes old.tree (Opened path) new.tree
 NotesFiles observes old (Unopened path) new = (new.files.items ≡ old.files.items) × observes old.tree (Unopened path) new.tree

@@ -37,7 +37,7 @@ pub fn a_profile_agrees_with_its_tree()
     ensures form { (registry : Contents) (criteria : Filter) (hash : HashKind) (nodes : List Record) (in_bag : Bool) → form_of in_bag (text registry criteria hash nodes) ≡ Profile }
     ensures agrees { (registry : Contents) (criteria : Filter) (hash : HashKind) (nodes : List Record) (in_bag : Bool) (listed : Listed) (checked : Checked) → AreRecordsOf hash nodes
         → ListSays in_bag (text registry criteria hash nodes) (Ok listed) → IsInventory (readable_in [] listed.items) checked.listed
-        → IsInventory (items_of false (filter (meets criteria) nodes)) checked.found → IsReport checked.listed checked.found checked.differences.items → checked.differences.items ≡ [] }
+        → IsInventory (readable_in [] (items_of false (filter (meets criteria) nodes))) checked.found → IsReport checked.listed checked.found checked.differences.items → checked.differences.items ≡ [] }
 {
     export_lists_its_records();
     the_items_of_the_list_agree();

@@ -2,16 +2,17 @@
 
 ghost use Rattle.std.specs.Prelude.{◌≡◌, ◌++◌, IfOk, IsTrue, OnOk, filter};
 ghost use Rattle.std.specs.Str.{is_utf8};
-ghost use Rattle.droid_desk_comparison.specs.NotedFiles.{NotesFiles, is_left, is_noted, is_regular, items_listed, items_of_entry, noted_item};
+ghost use Rattle.droid_desk_comparison.specs.NotedFiles.{NotesEntries, NotesFiles, is_left, is_noted, is_regular, items_listed, items_of_entry, noted_item};
 ghost use Rattle.droid_desk_profile.specs.Conditions.{is_moment};
 ghost use Rattle.droid_fixity_profile.specs.Nodes.{item_of};
 ghost use Rattle.droid_frame.specs.types.hash_value.HashValue.TheVariants as hashes;
 ghost use Rattle.droid_frame.specs.types.node_kind.NodeKind.TheVariants as nodes;
+ghost use Rattle.droid_tree.specs.Paths.{below};
 
 use droid_fixity_forms::Item;
 use droid_fixity_profile::item_of_node;
-use droid_frame::{HashValue, NodeKind};
-use droid_tree::{EntryKind, FolderEntry, Tree, TreeFault, name_of, path_below};
+use droid_frame::{Blob, HashValue, NodeKind};
+use droid_tree::{EntryKind, FolderEntry, Tree, TreeFault, name_of};
 use std::alloc::{AllocError, Global};
 
 /// A tree whose files are noted as their folders are listed. A walk sees its folders, and the entries that it skips.
@@ -19,7 +20,7 @@ use std::alloc::{AllocError, Global};
 pub struct NotedFiles<T> {
     /// The whole tree.
     pub tree: T,
-    /// The files that were listed, in the order of the listings.
+    /// The files that were listed, in the order of the listings, those of one listing by name.
     pub files: Vec<Item>,
 }
 
@@ -28,12 +29,10 @@ impl<T: Tree> Tree for NotedFiles<T> {
 
     fn entries(&mut self, alloc: Global, path: &str) -> Result<Vec<FolderEntry>, TreeFault> {
         let mut entries = self.tree.entries(alloc, path)?;
-        match note_files(alloc, &mut self.files, path, entries.as_slice()) {
-            Ok(()) => {}
-            Err(_) => return Err(TreeFault::Memory),
+        match take_files(alloc, &mut self.files, path, &mut entries) {
+            Ok(()) => Ok(entries),
+            Err(_) => Err(TreeFault::Memory),
         }
-        keep_left(&mut entries);
-        Ok(entries)
     }
 
     fn see_folder(&mut self, alloc: Global, path: &str) -> Result<(), TreeFault> {
@@ -50,6 +49,22 @@ impl<T: Tree> Tree for NotedFiles<T> {
     ) -> Result<(), TreeFault> {
         self.tree.read(path, entry, from, wanted, bytes)
     }
+}
+
+/// Notes the files among these entries of the folder at this path, and removes them. They are sorted by name first: the names
+/// of one folder take less time than whole paths, and the comparison then meets files in order.
+fn take_files(
+    alloc: Global,
+    files: &mut Vec<Item>,
+    path: &str,
+    entries: &mut Vec<FolderEntry>,
+) -> Result<(), AllocError>
+    ensures { OnOk result (NotesEntries path.now entries.old.items files.old.items files.new.items entries.new.items) }
+{
+    entries.sort_by(|first, second| first.name.as_slice().cmp(second.name.as_slice()))?;
+    note_files(alloc, files, path, entries.as_slice())?;
+    keep_left(entries);
+    Ok(())
 }
 
 /// Removes the files that are noted.
@@ -98,37 +113,50 @@ fn note_file(
 }
 
 /// Returns the item of a file that is noted.
-#[tactic(auto, using(crate::proofs::Noting::named, crate::proofs::Noting::written))]
+#[tactic(auto, using(crate::proofs::Noting::written))]
 fn noted_item(alloc: Global, path: &str, entry: &FolderEntry) -> Result<Item, AllocError>
     requires { IsTrue (is_noted entry.now) }
     ensures { IfOk result (λ item. item ≡ noted_item path.now entry.now) }
 {
-    match name_of(entry) {
-        Some(name) => {
-            let path = path_below(alloc, path, name)?;
-            let item = item_at(alloc, path.as_str(), entry)?;
-            Ok(item)
-        }
-        None => unreachable!(),
-    }
+    let path = path_in(alloc, path, entry.name.as_slice())?;
+    let item = item_at(alloc, path, entry)?;
+    Ok(item)
 }
 
-/// Returns the item of a file at this path.
+/// Returns the path of this name in a folder.
+fn path_in(alloc: Global, folder: &str, name: &[u8]) -> Result<Blob, AllocError>
+    ensures { IfOk result (λ path. path ≡ below folder.now name.now) }
+{
+    let room = folder.len().saturating_add(name.len()).saturating_add(1);
+    let mut path = Vec::with_capacity(alloc, room)?;
+    path.extend_from_slice(folder.as_bytes())?;
+    path.push(b'/')?;
+    path.extend_from_slice(name)?;
+    Ok(Blob::from(path))
+}
+
+/// Returns the item of a file at this path, which it takes over.
 #[tactic(auto, using(crate::proofs::Moments::moment_written))]
-fn item_at(alloc: Global, path: &str, entry: &FolderEntry) -> Result<Item, AllocError>
+fn item_at(alloc: Global, path: Blob, entry: &FolderEntry) -> Result<Item, AllocError>
     requires { IsTrue (is_moment entry.now.modified) }
-    ensures { IfOk result (λ item. item ≡ item_of path.now nodes.File entry.now.len entry.now.modified hashes.Nothing) }
+    ensures { IfOk result (λ item. item ≡ item_of path nodes.File entry.now.len entry.now.modified hashes.Nothing) }
 {
     let kind = NodeKind::File;
     match item_of_node(
         alloc,
-        path,
+        "",
         kind,
         entry.len,
         entry.modified,
         HashValue::Nothing,
     )? {
-        Some(item) => Ok(item),
+        Some(item) => Ok(Item {
+            path,
+            kind: item.kind,
+            length: item.length,
+            modified: item.modified,
+            hash: item.hash,
+        }),
         None => unreachable!(),
     }
 }

@@ -1,4 +1,4 @@
-//! The items of a list that could be read.
+//! The items that could be read, of a list and of what was found.
 
 ghost use Rattle.std.specs.Prelude.{◌≡◌, ◌++◌, ℕ, List, [], ◌∷◌, IfOk, OnOk, map};
 ghost use Rattle.droid_desk_profile.specs.SkippedPaths.{has_path, is_held};
@@ -59,6 +59,35 @@ fn readable_in(
         add_readable(alloc, &mut readable, &paths, item)?;
     }
     Ok(readable)
+}
+
+/// Removes the items that are unreadable, and those below an unreadable folder.
+pub(crate) fn keep_readable(
+    alloc: Global,
+    unreadable: &[SkippedEntry],
+    items: &mut Vec<Item>,
+) -> Result<(), AllocError>
+    ensures { OnOk result (items.new.items ≡ readable_in unreadable.now items.old.items) }
+{
+    if 0 < unreadable.len() {
+        let paths = paths_of(alloc, unreadable)?;
+        retain_readable(&paths, items);
+    }
+    Ok(())
+}
+
+/// Removes the items that could not be read.
+fn retain_readable(paths: &SkippedPaths<'_>, items: &mut Vec<Item>)
+    ensures { (unreadable : List SkippedEntry) → ((path : List ℕ) → is_held paths.now path ≡ has_path unreadable path) → items.new.items ≡ readable_in unreadable items.old.items }
+{
+    items.retain(|item| is_readable(paths, item));
+}
+
+/// Returns whether an item could be read.
+fn is_readable(paths: &SkippedPaths<'_>, item: &Item) -> bool
+    ensures { (unreadable : List SkippedEntry) → ((path : List ℕ) → is_held paths.now path ≡ has_path unreadable path) → result ≡ is_readable unreadable item.now }
+{
+    !holds_above(paths, item.path.as_slice())
 }
 
 /// Appends a copy of an item, if it could be read.

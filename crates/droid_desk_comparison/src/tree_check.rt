@@ -7,7 +7,7 @@ ghost use Rattle.droid_fixity_forms.specs.Reports.{IsReport};
 ghost use Rattle.droid_fixity_forms.specs.Listings.{IsInventory};
 
 use crate::item_keeper::ItemKeeper;
-use crate::readable_items::readable_of;
+use crate::readable_items::{keep_readable, readable_of};
 use droid_desk_profile::{
     Options, ProfileFault, Profiler, Recorder, Registry, SkippedEntry, profile,
 };
@@ -24,7 +24,7 @@ pub struct Checked {
     pub differences: Vec<Difference>,
     /// The items of the list that could be read.
     pub listed: Inventory,
-    /// The items of the tree.
+    /// The items of the tree that could be read: a folder that was found may not be listed later.
     pub found: Inventory,
 }
 
@@ -154,7 +154,7 @@ fn is_unreadable(why: Skipped) -> bool
     }
 }
 
-/// Compares the items of a list that could be read with those that were found.
+/// Compares the items of a list that could be read with those that were found. What is unreadable is on neither side.
 fn compare_readable(
     alloc: Global,
     unreadable: &[SkippedEntry],
@@ -162,10 +162,12 @@ fn compare_readable(
     items: Vec<Item>,
 ) -> Result<Checked, CheckFault>
     ensures listed { IfOk result (λ checked. IsInventory (readable_in unreadable.now listed) checked.listed) }
-    ensures found { IfOk result (λ checked. IsInventory items.items checked.found) }
+    ensures found { IfOk result (λ checked. IsInventory (readable_in unreadable.now items.items) checked.found) }
     ensures report { IfOk result (λ checked. IsReport checked.listed checked.found checked.differences.items) }
     ensures ended { IfErr result (λ fault. IsAfterWalk fault items.items) }
 {
+    let mut items = items;
+    keep_readable(alloc, unreadable, &mut items)?;
     let found = match Inventory::of(items) {
         Ok(found) => found,
         Err(same) => return Err(CheckFault::Twice(same)),

@@ -1,6 +1,7 @@
 /* Preloaded into a program, this lets one of its calls of the file system fail, by environment variables:
  *   CALLS_FROM   calls count from the first one on that has this path
  *   CALL_FAILS   the call of this number fails as on a broken disk, counted from 1
+ *   CALLS_FAIL   and all behind it
  *   CALLS_FILE   this file gets a byte for each call that counts */
 #define _GNU_SOURCE
 #include <dirent.h>
@@ -33,7 +34,9 @@ static int fails(const char *path) {
         if (syscall(SYS_write, counted, ".", 1) != 1) abort();
         syscall(SYS_close, counted);
     }
-    if (++calls != atol(text("CALL_FAILS"))) return 0;
+    long number = atol(text("CALL_FAILS"));
+    calls++;
+    if (!number || calls < number || (calls > number && !*text("CALLS_FAIL"))) return 0;
     errno = EIO;
     return 1;
 }

@@ -20,14 +20,14 @@ class Calls(InFolder):
         self.listed = self.work + b"/list.csv"
         self.assertEqual(profile(self.top, "--output", self.listed, "--quiet")[0], 0)
 
-    def each_in_turn(self, command):
-        """Runs a command with each of its calls failing, and yields what came of it."""
+    def each_in_turn(self, command, for_a_file=4):
+        """Runs a command with each of its calls failing, and yields what came of it. There are at least so many for a file."""
         counted = self.work + b"/calls"
         how = os.environ | {"LD_PRELOAD": os.environ["PRELOAD_CALLS"], "CALLS_FROM": os.fsdecode(self.top)}
         command(how | {"CALLS_FILE": os.fsdecode(counted)})
         count = os.path.getsize(counted)
-        # at least a look, an opening and a listing for each folder, and two looks, an opening and a read for each file
-        self.assertGreaterEqual(count, 4 * 3 + 5 * 4)
+        # a look, an opening and a listing for each folder, and two looks, an opening and a read for each file that is read
+        self.assertGreaterEqual(count, 4 * 3 + 5 * for_a_file)
         return [command(how | {"CALL_FAILS": str(number)}) for number in range(1, count + 1)]
 
     def skipped_in(self, said):
@@ -69,6 +69,23 @@ class Calls(InFolder):
             self.assertEqual((rows_in(out), status), (expected(items, items, "md5", True, skipped), status_of(skipped)), said)
         self.assertLess(faults, FEW)
         self.assertEqual(seen, set(items))
+
+    def test_verify_from_a_call_on(self):
+        """From one call on all fail, as on a disk that is torn out: what could not be listed or read is unreadable, and
+        nothing else is reported of it and of what lies below it."""
+        for words, for_a_file in (([], 4), (["--quick"], 1)):
+            kinds, folders = set(), set()
+            from_each = self.each_in_turn(lambda env: verify(self.top, "--against", self.listed, *words, env=env | {"CALLS_FAIL": "1"}), for_a_file)
+            for status, out, said in from_each:
+                if status in (3, 4):
+                    self.assertEqual(out, b"", said)
+                    continue
+                paths = [row[1] for row in rows_in(out)]
+                self.assertEqual(status, 5 if paths else 0, said)
+                self.assertEqual([path for path in paths if is_below(os.path.dirname(path), paths)], [], said)
+                kinds |= {row[0] for row in rows_in(out)}
+                folders |= {path for path in paths if os.path.isdir(self.top + path)}
+            self.assertEqual((kinds, folders), ({b"unreadable"}, {b"/in", b"/in/deep", b"/out"}))
 
 
 def is_below(path, skipped):

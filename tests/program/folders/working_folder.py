@@ -214,8 +214,8 @@ class Failing(WorkingFolder):
                         # files are not read
                         skipped = {path for path in skipped if os.path.isdir(self.top + path)}
                     due = expected(items, items, "md5", True, dict.fromkeys(skipped, UNREAD), (when, when) if words else None)
-                    # (a folder that was there, and that can't be listed later, is new too)
-                    self.assertEqual(([row for row in rows_in(out) if row[0] != b"new"], status), (due, 5 if skipped else 0), said)
+                    # (of a folder that was there, and that can't be listed later, nothing else is reported)
+                    self.assertEqual((rows_in(out), status), (due, 5 if skipped else 0), said)
 
     def test_submit(self):
         """A submission is refused or skips what it can't read, and writes no file in another place."""
