@@ -152,8 +152,16 @@ def many_pieces(size, pieces=64):
         yield finish(number, node)
 
 
+def cached(path):
+    """Reads a file, so that the system has what it is asked for next."""
+    with open(path, "rb") as read:
+        while read.read(1 << 24):
+            pass
+
+
 def start(folder, frames):
-    """Seconds of a start over the journal of these requests, and those of the requests through `run`."""
+    """Seconds of a start over the journal of these requests, and those of the requests through `run`. Each file was read just
+    before, so that no disk is measured."""
     asked, path = os.path.join(folder, "asked"), os.path.join(folder, "desk.journal")
     with open(asked, "wb") as made:
         made.writelines(frames)
@@ -162,9 +170,11 @@ def start(folder, frames):
         with open(given, "rb") as read:
             subprocess.run([PROGRAM, "run", *more], stdin=read, stdout=subprocess.DEVNULL, stderr=subprocess.DEVNULL, check=True)
 
+    cached(asked)
     plain = timed(lambda: through(asked))
     written = timed(lambda: through(asked, "--journal", path))
     os.remove(asked)
+    cached(path)
     begun = timed(lambda: through(os.devnull, "--journal", path))
     size = os.path.getsize(path)
     os.remove(path)
