@@ -188,7 +188,7 @@ class Compaction(InJournal):
 
     def test_no_registry(self):
         self.before = self.make(ASKED)
-        self.stays(compact(self.path, registry=["--registry", os.path.join(self.folder, "none")]), 3, "Registry")
+        self.stays(compact(self.path, registry=["--registry", os.path.join(self.folder, "none")]), 3, "Read")
 
     def test_a_file_beside_it(self):
         """One that is left over is removed, also where it is longer; one that another process has open is not, nor a folder."""
