@@ -134,7 +134,7 @@ class Compaction(InJournal):
         self.assertEqual((contents(self.path), contents(self.path + ".torn")), (smaller_of(old), b"\1\0\0"))
 
     def test_faults_of_a_start(self):
-        """Another registry, no journal, damage, and a reply that no service gives."""
+        """Another registry, no journal, and damage."""
         data = self.make(ASKED)
         changed = bytearray(data)
         changed[header_size() + 30] ^= 1
@@ -142,14 +142,19 @@ class Compaction(InJournal):
             (data, "Journal at 0", ["--registry", EVERYDAY]),
             (sample_bytes(), "Journal at 0", REGISTRY),
             (bytes(changed), "Journal at 1", REGISTRY),
-            (self.with_another_reply(data), "Journal at 4", REGISTRY),
         ):
             store(self.path, given)
             self.before = given
             self.stays(compact(self.path, registry=registry), 3, fault)
 
+    def test_a_reply_that_was_changed(self):
+        """A record has a reply that no service gives, and a right check value: it keeps it, and no service begins with it."""
+        store(self.path, self.with_another_reply(self.make(ASKED)))
+        self.becomes_smaller()
+        self.ends(run_journal(self.path, ASKED[0]), 3, "fault: Journal at 4")
+
     def with_another_reply(self, data):
-        """The fourth record has another reply, and a right check value."""
+        """The fourth record of these bytes has another reply."""
         made = data[: header_size()]
         start = check = md5(made)
         for at, it in enumerate(read(data).records):
@@ -183,7 +188,7 @@ class Compaction(InJournal):
 
     def test_no_registry(self):
         self.before = self.make(ASKED)
-        self.stays(compact(self.path, registry=["--registry", os.path.join(self.folder, "none")]), 3, "Registry")
+        self.stays(compact(self.path, registry=["--registry", os.path.join(self.folder, "none")]), 3, "Read")
 
     def test_a_file_beside_it(self):
         """One that is left over is removed, also where it is longer; one that another process has open is not, nor a folder."""
