@@ -1,6 +1,7 @@
 """What a journal costs: `submit`, folders by clients that wait for their replies, and a start; beside the same without a
 journal, and beside a loop that writes 300 bytes and calls fdatasync. That is measured once as this disk is, and once where
-each fdatasync, the service's and the loop's, takes two milliseconds (slow_sync.c)."""
+each fdatasync, the service's and the loop's, takes two milliseconds (slow_sync.c). And what it costs to make it smaller,
+beside `cp`."""
 
 import os
 import subprocess
@@ -22,6 +23,8 @@ FOLDERS = int(os.environ.get("FOLDERS", "20000"))
 ALONE = 2_000
 STARTED = int(os.environ.get("STARTED", "1000000"))
 PIECES = int(os.environ.get("PIECES", str(4 << 30)))
+# so many finished files have these pieces where the journal is made smaller
+FINISHED = 1_000
 # as long as a sync takes on a common disk that writes before it answers
 SLOW = 2_000
 # a profile has at most this many nodes
@@ -134,23 +137,31 @@ def many_folders(count):
             yield folder(number, b"%d" % name, profile=profile)
 
 
-def many_pieces(size):
-    """The frames of files of 64 MiB in pieces of 1 MiB."""
+def many_pieces(size, pieces=64):
+    """The frames of files of so many pieces of 1 MiB."""
     content = os.urandom(1 << 20)
     yield create(1)
     number = 1
-    for node in range(1, size // (64 << 20) + 1):
+    for node in range(1, size // (pieces << 20) + 1):
         number += 1
-        yield file(number, b"%d" % node, 64 << 20, 1 << 20)
-        for index in range(64):
+        yield file(number, b"%d" % node, pieces << 20, 1 << 20)
+        for index in range(pieces):
             number += 1
             yield piece(number, node, index, content)
         number += 1
         yield finish(number, node)
 
 
+def cached(path):
+    """Reads a file, so that the system has what it is asked for next."""
+    with open(path, "rb") as read:
+        while read.read(1 << 24):
+            pass
+
+
 def start(folder, frames):
-    """Seconds of a start over the journal of these requests, and those of the requests through `run`."""
+    """Seconds of a start over the journal of these requests, and those of the requests through `run`. Each file was read just
+    before, so that no disk is measured."""
     asked, path = os.path.join(folder, "asked"), os.path.join(folder, "desk.journal")
     with open(asked, "wb") as made:
         made.writelines(frames)
@@ -159,13 +170,32 @@ def start(folder, frames):
         with open(given, "rb") as read:
             subprocess.run([PROGRAM, "run", *more], stdin=read, stdout=subprocess.DEVNULL, stderr=subprocess.DEVNULL, check=True)
 
+    cached(asked)
     plain = timed(lambda: through(asked))
     written = timed(lambda: through(asked, "--journal", path))
     os.remove(asked)
+    cached(path)
     begun = timed(lambda: through(os.devnull, "--journal", path))
     size = os.path.getsize(path)
     os.remove(path)
     return begun, plain, written, size
+
+
+def compaction(folder):
+    """Seconds of `compact` over a journal of finished files, and those of `cp` of it, and its size before and after."""
+    path, copy = os.path.join(folder, "desk.journal"), os.path.join(folder, "copy.journal")
+    with subprocess.Popen([PROGRAM, "run", "--journal", path], stdin=subprocess.PIPE, stdout=subprocess.DEVNULL, stderr=subprocess.DEVNULL) as written:
+        for frame in many_pieces(PIECES, max(1, (PIECES >> 20) // FINISHED)):
+            written.stdin.write(frame)
+    assert written.returncode == 0
+    copied, compacted = [], []
+    for _ in range(ROUNDS):
+        copied.append(timed(lambda: subprocess.run(["cp", path, copy], check=True)))
+        compacted.append(timed(lambda: subprocess.run([PROGRAM, "compact", "--quiet", copy], check=True, stderr=subprocess.DEVNULL)))
+    sizes = os.path.getsize(path), os.path.getsize(copy)
+    os.remove(path)
+    os.remove(copy)
+    return middle(compacted), middle(copied), *sizes
 
 
 def main():
@@ -188,6 +218,8 @@ def main():
         for what, frames in (f"{STARTED} folders", many_folders(STARTED)), (f"{PIECES >> 20} MiB of pieces", many_pieces(PIECES)):
             begun, through, written, size = start(folder_of_all, frames)
             print(f"a start over {what}: {begun:.2f} s ({size} bytes), `run` {through:.2f} s: {begun / through:.2f} (1.2); with a journal {written:.2f} s")
+        compacted, copied, before, after = compaction(folder_of_all)
+        print(f"compaction of {before} bytes to {after} (at most 5000000): {compacted:.2f} s, `cp` {copied:.2f} s: {compacted / copied:.2f} (2)")
 
 
 if __name__ == "__main__":

@@ -25,6 +25,12 @@ def most_resident(process):
     return bytes_of(process.pid, "status", "VmHWM")
 
 
+def is_asleep(process):
+    """Whether the process waits for something, and not for a processor."""
+    with open(f"/proc/{process.pid}/stat", encoding="ascii") as file:
+        return file.read().rsplit(")", 1)[1].split()[0] == "S"
+
+
 def processor_seconds(process):
     """The seconds that the process used a processor so far, in ticks of the kernel's clock."""
     with open(f"/proc/{process.pid}/stat", encoding="ascii") as file:

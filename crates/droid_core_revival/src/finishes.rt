@@ -81,7 +81,7 @@ fn keep_reply(
 }
 
 /// Checks that the file is unfinished, and that the store can keep this hash and these identifiers of it.
-#[tactic(auto, using(crate::proofs::Words::words_of, crate::proofs::Words::words_seen))]
+#[tactic(auto, using(crate::proofs::WordLists::words_of, crate::proofs::WordLists::words_seen))]
 fn see_file(
     store: &mut Store,
     profile: u32,

@@ -7,9 +7,9 @@ use droid_desk_arguments::{
 use droid_desk_folders::{report_profile, submit_folder};
 use droid_desk_registry::registry_command;
 use droid_desk_service::{
-    Ended, no_registry, note_formats, registry_bytes, run_command, run_journal_command,
-    script_command, send_command, serve_command, serve_journal_command, serve_many_command,
-    serve_many_journal_command,
+    Ended, compact_command, no_registry, note_formats, registry_bytes, run_command,
+    run_journal_command, script_command, send_command, serve_command, serve_journal_command,
+    serve_many_command, serve_many_journal_command,
 };
 use droid_desk_verify::{NamedRegistry, profile_folder, verify_folder};
 use std::process::ExitCode;
@@ -58,6 +58,11 @@ fn fulfil(rt: &HostRuntime, asked: Asked<'_>, on_terminal: bool) -> ExitCode {
             client,
             first,
         } => end(rt, &send_command(rt, port, client, first)),
+        Asked::Compact {
+            registry,
+            file,
+            quiet,
+        } => end(rt, &compact_command(rt, registry, file, quiet)),
     }
 }
 

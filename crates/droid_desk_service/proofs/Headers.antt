@@ -51,3 +51,6 @@ no_record fault n of is = subst IsMemoryOrRead is of
 
 pub no_header : (fault : Fault) → IsMemoryOrRead fault → fault ≡ faults.Header → ⊥
 no_header fault of is = subst IsMemoryOrRead is of
+
+pub no_write : (fault : Fault) (n : ℕ) → fault ≡ faults.Record n → fault ≡ faults.Write → ⊥
+no_write fault n is write = absurd (let same : faults.Record n ≡ faults.Write = sym is ∙ write in cc)

@@ -77,6 +77,11 @@ IsUnopened (NoService fault) = Unit {0}
 IsUnopened (Journal fault) = Unit {0}
 IsUnopened _ = ⊥
 
+-- the journal was made smaller; or no registry could be read, no service be made, or the journal not be opened or made smaller
+abbrev pub IsCompactionEnd : Ending → Type 0
+IsCompactionEnd Done = Unit {0}
+IsCompactionEnd ending = IsUnopened ending
+
 -- connections were served so, whatever is known of the file
 abbrev pub ServesSteps : Rules → Served → Type 0
 ServesSteps rules served = (steps : List Step) × ServesAll rules served steps

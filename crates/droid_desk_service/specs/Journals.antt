@@ -1,7 +1,13 @@
 -- The journal of the program's service (this project's own).
-use Rattle.std.specs.Prelude.{◌≡◌, ℕ, List, [], ◌∷◌, ◌++◌, codes, length}
+use Rattle.std.specs.Prelude.{◌≡◌, ◌⊎◌, ℕ, List, [], ◌∷◌, ◌++◌, Ok, codes, length}
 use Rattle.md5.specs.Md5.{md5}
-use Rattle.droid_wire.specs.with_journal.service.Histories.{GivesReply, IsHistoryOf}
+use Rattle.droid_desk_service.specs.Endings.{IsProgramSetting}
+use Rattle.droid_pronom.specs.Registry.{Contents}
+use Rattle.droid_pronom.specs.RegistryFile.{File}
+use Rattle.droid_wire.specs.with_journal.service.Histories.{GivesReply, HasBare, IsHistoryOf, no_base}
+use Rattle.droid_wire.specs.with_journal.service.BareWorlds.{Bare}
+use Rattle.droid_wire.specs.with_journal.service.recovery.BareRecords.{LeadTo}
+use Rattle.droid_wire.specs.with_journal.service.recovery.Standing.{GivesReply as GivesRecord}
 use Rattle.droid_wire.specs.with_journal.service.Standing.{StandsForHistory}
 use Rattle.droid_wire.specs.with_journal.service.chain.Records.{Record}
 use Rattle.droid_wire.specs.with_journal.service.declared.service_machine.ServiceMachine.{ServiceMachine}
@@ -21,16 +27,26 @@ pub record IsHeaderOf (registry header : List ℕ) : Type 0 where
   pub size : length random ≡ 16
   pub parts : header ≡ header_text registry ++ random
 
--- A journal with a header of this registry was opened. These records were found in the file; the service stands for their
--- history, and all of it is on the disk.
+-- a service of this setting identifies by the registry that has these bytes, and has the program's limits
+abbrev pub IsSettingFor : List ℕ → Setting → Type 0
+IsSettingFor bytes setting = (registry : Contents) → File bytes (Ok registry) → IsProgramSetting registry setting
+
+-- the service stands for each history that these records have, all of it on the disk
+abbrev pub StandsForSmall : {F : Type 0} (has : F → List ℕ → Type 0) (kept : F → List ℕ) (setting : Setting) (header : List ℕ) (its : List Record) (journal : Journal F ServiceMachine) → Type 0
+StandsForSmall has kept setting header its journal = (bare : Bare) (history : History) → LeadTo setting bare its history → StandsForHistory has kept setting header journal history history
+
+-- the service stands for the history of these records, all of it on the disk
+abbrev pub StandsForWhole : {F : Type 0} (has : F → List ℕ → Type 0) (kept : F → List ℕ) (setting : Setting) (header : List ℕ) (its : List Record) (journal : Journal F ServiceMachine) → Type 0
+StandsForWhole has kept setting header its journal = (history : History) × IsHistoryOf setting its history × StandsForHistory has kept setting header journal history history
+
+-- A journal with a header of this registry was opened, and these records were found in the file. The service stands for their
+-- history. If a record is of a journal that was made small, it stands for each that they have.
 pub record IsOpened {F : Type 0} (has : F → List ℕ → Type 0) (kept : F → List ℕ) (registry : List ℕ) (setting : Setting) (file : List ℕ) (journal : Journal F ServiceMachine) : Type 0 where
   pub header : List ℕ
   pub is_of : IsHeaderOf registry header
   pub its : List Record
   pub found : WasFound header file its
-  pub history : History
-  pub accepted : IsHistoryOf setting its history
-  pub stands : StandsForHistory has kept setting header journal history history
+  pub stands : StandsForWhole has kept setting header its journal ⊎ (HasBare its × StandsForSmall has kept setting header its journal)
 
 -- behind so many records of the file a later one shows that it was damaged
 pub record IsDamaged (registry file : List ℕ) (count : ℕ) : Type 0 where
@@ -38,8 +54,13 @@ pub record IsDamaged (registry file : List ℕ) (count : ℕ) : Type 0 where
   pub is_of : IsHeaderOf registry header
   pub damaged : WasDamaged header file count
 
--- no service of this setting got the request of this record behind those before it, or not with its reply
+-- the record of a journal that was made small goes on no history of those before it, whichever files have no bytes
+abbrev pub RefutesSmall : Setting → List ℕ → List ℕ → ℕ → Type 0
+RefutesSmall setting header file number = (bare : Bare) → WasRefuted (GivesRecord (record { setting = setting; bare = bare })) header file number
+
+-- No service of this setting got the request of this record behind those before it, or not with its reply; or it is no record
+-- of a journal that was made small.
 pub record IsRefuted (setting : Setting) (registry file : List ℕ) (number : ℕ) : Type 0 where
   pub header : List ℕ
   pub is_of : IsHeaderOf registry header
-  pub refuted : WasRefuted (GivesReply setting) header file number
+  pub refuted : WasRefuted (GivesReply setting (no_base setting)) header file number ⊎ RefutesSmall setting header file number

@@ -5,4 +5,5 @@ pub mod Journals
 pub mod Many
 pub mod Sample
 pub mod Sends
+pub mod SmallerJournals
 pub mod Streams

@@ -1,18 +1,25 @@
 //! The journal of the program's service.
 
-ghost use Rattle.std.specs.Prelude.{◌≡◌, ◌≤◌, ℕ, List, [], IfOk, IsErrOf, length};
+ghost use Rattle.std.specs.Prelude.{◌≡◌, ◌⊎◌, ◌≤◌, ℕ, List, [], IfErr, IfOk, IsErrOf, length};
 ghost use Rattle.md5.specs.Md5.{md5};
-ghost use Rattle.droid_desk_service.specs.Journals.{IsDamaged, IsHeaderOf, IsOpened, IsRefuted, header_text};
-ghost use Rattle.droid_wire.specs.with_journal.service.Histories.{IsBetween};
+ghost use Rattle.droid_desk_service.specs.Journals.{IsDamaged, IsHeaderOf, IsOpened, IsRefuted, IsSettingFor, RefutesSmall, StandsForSmall, header_text};
+ghost use Rattle.droid_wire.specs.with_journal.service.Histories.{HasBare, IsBetween};
 ghost use Rattle.droid_wire.specs.with_journal.service.Standing.{IsLeft, StandsForHistory};
-ghost use Rattle.droid_wire.specs.with_journal.service.journal.Opening.{HasHeader, IsKept};
+ghost use Rattle.droid_wire.specs.with_journal.service.chain.Records.{Record};
+ghost use Rattle.droid_wire.specs.with_journal.service.journal.Opening.{HasHeader, IsBegun, IsKept, WasDamaged, WasFound};
 ghost use Rattle.droid_wire.specs.Histories.{History};
 ghost use Rattle.droid_wire.specs.Setting.{Setting};
 ghost use Rattle.droid_wire.specs.Standing.{StandsFor};
 
-use droid_wire::{Fault, LogFile, Service, ServiceJournal, header_for};
+use crate::fresh::LIMITS;
+use droid_pronom::Registry;
+use droid_wire::{Fault, LogFile, Service, ServiceJournal, Unopened, header_for};
 use md5::{Digest, Md5};
 use std::alloc::{AllocError, Global};
+use std::num::NonZeroUsize;
+
+/// How many replies a service caches that is made from a journal that was made small.
+const CACHED: usize = 256;
 
 /// The first lines of a journal: what it is, and the limits of the service that wrote it.
 const FIRST_LINES: &str = "\
@@ -21,7 +28,7 @@ droid_desk journal 2
 ";
 
 /// Spells what the header of a journal begins with: its first lines, and the MD5 of the registry's bytes.
-fn header_text(alloc: Global, registry: &[u8]) -> Result<Vec<u8>, AllocError>
+pub(crate) fn header_text(alloc: Global, registry: &[u8]) -> Result<Vec<u8>, AllocError>
     ensures text { IfOk result (λ text. text.items ≡ header_text registry.now) }
     ensures size { IfOk result (λ text. length text.items ≤ 4080) }
 {
@@ -41,7 +48,8 @@ fn digest_of(bytes: &[u8]) -> [u8; 16]
 }
 
 /// Makes a service from the records of a journal's file, whose header has the MD5 of these bytes of a registry; `service`
-/// has that registry and has accepted nothing yet. An empty file is made a journal; `random` then ends its header.
+/// has that registry and has accepted nothing yet. An empty file is made a journal; `random` then ends its header. A journal
+/// that was made small is opened too.
 ///
 /// Nothing is written or cut before everything was read and found right.
 pub fn open_journal<F: LogFile + Drop>(
@@ -54,11 +62,12 @@ pub fn open_journal<F: LogFile + Drop>(
     requires found { F.is_found file }
     // What is kept of a file that has such a header was written by a journal.
     requires kept { (s header : List ℕ) → F.has file s → IsHeaderOf registry.now header → HasHeader header s → IsKept header (F.kept file) }
-    // The service stands for the history of the records in the file.
-    ensures opened { (setting : Setting) (s : List ℕ) → StandsFor setting service [] → F.has file s → IfOk result (λ it. IsOpened F.has F.kept registry.now setting s it.journal) }
+    // The service stands for the history of the records in the file, or for each history that they have, if some of them
+    // have no bytes.
+    ensures opened { (setting : Setting) (s : List ℕ) → StandsFor setting service [] → IsSettingFor registry.now setting → F.has file s → IfOk result (λ it. IsOpened F.has F.kept registry.now setting s it.journal) }
     // After a crash it stands for a history that goes on from the one on the disk and is the first of the one that was
     // accepted. So whoever holds a reply that was sent gets it again.
-    ensures reopened { (setting : Setting) (s header : List ℕ) (synced all : History) → StandsFor setting service [] → F.has file s → IsHeaderOf registry.now header → IsLeft setting header s synced all
+    ensures reopened { (setting : Setting) (s header : List ℕ) (synced all : History) → StandsFor setting service [] → IsSettingFor registry.now setting → F.has file s → IsHeaderOf registry.now header → IsLeft setting header s synced all
         → IfOk result (λ it. (history : History) × StandsForHistory F.has F.kept setting header it.journal history history × IsBetween synced history all) }
     // A crash is not taken for damage, nor for another registry.
     ensures lawful { (n : ℕ) (setting : Setting) (s header : List ℕ) (synced all : History) → F.has file s → IsHeaderOf registry.now header → IsLeft setting header s synced all → IsErrOf result (Fault.Damage n) → ⊥ }
@@ -67,12 +76,53 @@ pub fn open_journal<F: LogFile + Drop>(
     ensures damage { (n : ℕ) → IsErrOf result (Fault.Damage n) → (s : List ℕ) → F.has file s → IsDamaged registry.now s n }
     // A record is told only if no service of this registry and these limits got its request behind those before it, or not
     // with its reply.
-    ensures refuted { (n : ℕ) → IsErrOf result (Fault.Record n) → (setting : Setting) (s : List ℕ) → StandsFor setting service [] → F.has file s → IsRefuted setting registry.now s n }
+    ensures refuted { (n : ℕ) → IsErrOf result (Fault.Record n) → (setting : Setting) (s : List ℕ) → StandsFor setting service [] → IsSettingFor registry.now setting → F.has file s → IsRefuted setting registry.now s n }
 {
     let text = header_text(alloc, registry)?;
     let header = match header_for(alloc, &file, &text, random) {
         Ok(header) => header,
         Err(fault) => return Err(fault),
     };
-    ServiceJournal::open(alloc, file, &header, service)
+    let unopened = match ServiceJournal::open(alloc, file, &header, service) {
+        Ok(journal) => return Ok(journal),
+        Err(unopened) => unopened,
+    };
+    let Unopened { fault, file } = unopened;
+    match fault {
+        Fault::Record(number) => open_small(alloc, file, &header, registry, number),
+        _ => Err(fault),
+    }
+}
+
+/// Makes a service from the records of a journal that was made small. If it was not, the record with this number is at fault.
+fn open_small<F: LogFile + Drop>(
+    alloc: Global,
+    file: F,
+    header: &[u8],
+    registry: &[u8],
+    number: u64,
+) -> Result<ServiceJournal<F>, Fault>
+    requires found { F.is_found file }
+    requires header { length header.now ≤ 4096 }
+    requires kept { (s : List ℕ) → F.has file s → HasHeader header.now s → IsKept header.now (F.kept file) }
+    ensures opened { (setting : Setting) (s : List ℕ) → IsSettingFor registry.now setting → F.has file s → IfOk result (λ it. (its : List Record) × WasFound header.now s its × HasBare its
+        × StandsForSmall F.has F.kept setting header.now its it.journal) }
+    ensures reopened { (setting : Setting) (s : List ℕ) (synced all : History) → IsSettingFor registry.now setting → F.has file s → IsLeft setting header.now s synced all
+        → IfOk result (λ it. (history : History) × StandsForHistory F.has F.kept setting header.now it.journal history history × IsBetween synced history all) }
+    ensures lawful { (n : ℕ) (setting : Setting) (s : List ℕ) (synced all : History) → F.has file s → IsLeft setting header.now s synced all → IsErrOf result (Fault.Damage n) → ⊥ }
+    ensures damage { (n : ℕ) → IsErrOf result (Fault.Damage n) → (s : List ℕ) → F.has file s → WasDamaged header.now s n }
+    ensures refuted { (n : ℕ) → IsErrOf result (Fault.Record n) → (setting : Setting) (s : List ℕ) → IsSettingFor registry.now setting → F.has file s
+        → (n ≡ number) ⊎ RefutesSmall setting header.now s n }
+    ensures other_header { IsErrOf result Fault.Header → (s : List ℕ) → F.has file s → (HasHeader header.now s → ⊥) × ((count : ℕ) → IsBegun header.now s count → ⊥) }
+{
+    // The registry was read before, so this fails only if there is no memory.
+    let Ok(registry) = Registry::parse(alloc, registry) else {
+        return Err(Fault::Memory);
+    };
+    let places = NonZeroUsize::new(CACHED).unwrap();
+    match ServiceJournal::open_small(alloc, file, header, registry, LIMITS, places) {
+        Ok(Some(journal)) => Ok(journal),
+        Ok(None) => Err(Fault::Record(number)),
+        Err(fault) => Err(fault),
+    }
 }

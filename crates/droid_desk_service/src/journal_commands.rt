@@ -5,6 +5,7 @@ ghost use Rattle.droid_desk_service.specs.JournalEndings.{IsUnopened, JournalEnd
 ghost use Rattle.droid_desk_service.specs.Many.{rules_named};
 
 use crate::commands::note_sample;
+use crate::compaction::light_journal_for;
 use crate::ended::Ended;
 use crate::ending::Ending;
 use crate::fresh::fresh_service;
@@ -33,6 +34,9 @@ const REGISTRY_LIMIT: usize = 16_777_216;
 
 /// What gives random bytes.
 const RANDOM: &str = "/dev/urandom";
+
+/// A service with a journal in a file of this machine.
+pub(crate) type MachineJournal<'a, R> = ServiceJournal<DiskLog<FileDrive<'a, R>>>;
 
 /// Answers the frames of standard input on standard output, by a service with a journal.
 pub fn run_journal_command<'a, R>(rt: &'a R, source: RegistrySource<'a>, path: &'a str) -> Ended<'a>
@@ -99,7 +103,7 @@ where
     ensures { JournalEndsAs rules result.ending result.cause }
 {
     note_sample(rt, source);
-    match journal_for(rt, source, path) {
+    match light_journal_for(rt, source, path) {
         Ok(journal) => serve_port(rt, journal, port, rules, verbosity, path),
         Err(ended) => ended,
     }
@@ -108,7 +112,7 @@ where
 /// Listens on a port, prints so, and serves connections in turns.
 fn serve_port<'a, R>(
     rt: &'a R,
-    journal: ServiceJournal<DiskLog<FileDrive<'a, R>>>,
+    journal: MachineJournal<'a, R>,
     port: u16,
     rules: Rules,
     verbosity: Verbosity,
@@ -122,6 +126,7 @@ where
         Ok(sockets) => sockets,
         Err(error) => return Ended::unconnected(port, error.kind()),
     };
+    sockets.share_syncs();
     if println!(rt; "listening {port}").is_err() {
         return Ended::at(Ending::Stream(ServeFault::Write { written: 0 }), port);
     }
@@ -134,11 +139,26 @@ where
 }
 
 /// Reads this registry, and opens the journal at a path over a new service with it.
-fn journal_for<'a, R>(
+pub(crate) fn journal_for<'a, R>(
     rt: &'a R,
     source: RegistrySource<'a>,
     path: &'a str,
-) -> Result<ServiceJournal<DiskLog<FileDrive<'a, R>>>, Ended<'a>>
+) -> Result<MachineJournal<'a, R>, Ended<'a>>
+where
+    R: Files<File = File> + Eprint + AllocGlobal,
+    ensures { IfErr result (λ ended. IsUnopened ended.ending) }
+{
+    match registry_and_service(rt, source) {
+        Ok((registry, service)) => journal_over(rt, path, &registry, service),
+        Err(ended) => Err(ended),
+    }
+}
+
+/// Reads this registry, and makes a new service with it. Returns the registry's bytes too.
+pub(crate) fn registry_and_service<'a, R>(
+    rt: &'a R,
+    source: RegistrySource<'a>,
+) -> Result<(Vec<u8>, Service), Ended<'a>>
 where
     R: Files<File = File> + Eprint + AllocGlobal,
     ensures { IfErr result (λ ended. IsUnopened ended.ending) }
@@ -155,19 +175,63 @@ where
     if let RegistrySource::File(name) = source {
         note_formats(rt, name, formats);
     }
-    match journal_at(rt, path, &registry, service) {
+    Ok((registry, service))
+}
+
+/// Opens the journal at a path over a new service with the registry that has these bytes.
+pub(crate) fn journal_over<'a, R>(
+    rt: &'a R,
+    path: &'a str,
+    registry: &[u8],
+    service: Service,
+) -> Result<MachineJournal<'a, R>, Ended<'a>>
+where
+    R: Files<File = File> + Eprint + AllocGlobal,
+    ensures { IfErr result (λ ended. IsUnopened ended.ending) }
+{
+    match journal_at(rt, path, registry, service) {
         Ok(journal) => Ok(journal),
         Err(fault) => Err(Ended::by_journal(fault, path)),
     }
 }
 
-/// Opens the journal at a path over a new service with the registry that has these bytes.
+/// Opens the journal at a path, and says why it could not.
 fn journal_at<'a, R>(
     rt: &'a R,
     path: &'a str,
     registry: &[u8],
     service: Service,
-) -> Result<ServiceJournal<DiskLog<FileDrive<'a, R>>>, JournalFault>
+) -> Result<MachineJournal<'a, R>, JournalFault>
+where
+    R: Files<File = File> + Eprint + AllocGlobal,
+{
+    match file_at(rt, path) {
+        Ok(file) => journal_in(rt, file, registry, service),
+        Err(fault) => Err(fault),
+    }
+}
+
+/// Opens the file at a path, and makes it if it is not there.
+pub(crate) fn file_at<'a, R>(
+    rt: &'a R,
+    path: &'a str,
+) -> Result<DiskLog<FileDrive<'a, R>>, JournalFault>
+where
+    R: Files<File = File> + Eprint + AllocGlobal,
+{
+    match FileDrive::open(rt, path) {
+        Ok(drive) => Ok(DiskLog { drive }),
+        Err(fault) => Err(JournalFault::of_disk(fault)),
+    }
+}
+
+/// Opens the journal in a file over a new service with the registry that has these bytes.
+pub(crate) fn journal_in<'a, R>(
+    rt: &'a R,
+    file: DiskLog<FileDrive<'a, R>>,
+    registry: &[u8],
+    service: Service,
+) -> Result<MachineJournal<'a, R>, JournalFault>
 where
     R: Files<File = File> + Eprint + AllocGlobal,
 {
@@ -175,11 +239,7 @@ where
         Ok(random) => random,
         Err(kind) => return Err(JournalFault::Unopened(kind)),
     };
-    let drive = match FileDrive::open(rt, path) {
-        Ok(drive) => drive,
-        Err(fault) => return Err(JournalFault::of_disk(fault)),
-    };
-    match open_journal(rt.alloc(), DiskLog { drive }, registry, &random, service) {
+    match open_journal(rt.alloc(), file, registry, &random, service) {
         Ok(journal) => Ok(journal),
         Err(fault) => Err(JournalFault::Closed(fault)),
     }

@@ -3,7 +3,7 @@
 ghost use Rattle.std.specs.Prelude.{◌≡◌};
 ghost use Rattle.droid_desk_service.specs.Endings.{journal_status_of};
 
-use droid_wire::{DiskFault, Fault};
+use droid_wire::{DiskFault, Fault, RewriteFault};
 use std::io::{self, ErrorKind};
 
 /// Why a journal ends the program.
@@ -17,6 +17,10 @@ pub enum JournalFault {
     Unopened(ErrorKind),
     /// The journal could not be opened, or answers nothing more.
     Closed(Fault),
+    /// The smaller journal beside the file could not be made or written. The file is as it was.
+    NotSmaller(Option<ErrorKind>),
+    /// The smaller journal did not get the name of the file for sure. The name leads to one of them.
+    NotExchanged,
 }
 
 impl JournalFault {
@@ -26,6 +30,18 @@ impl JournalFault {
             DiskFault::InUse => JournalFault::InUse,
             DiskFault::NotAFile => JournalFault::NotAFile,
             DiskFault::Unopened(kind) => JournalFault::Unopened(kind),
+        }
+    }
+
+    /// Says why a journal could not be made smaller.
+    pub(crate) fn of_rewriting(fault: RewriteFault) -> JournalFault {
+        match fault {
+            RewriteFault::Memory => JournalFault::Closed(Fault::Memory),
+            RewriteFault::Read => JournalFault::Closed(Fault::Read),
+            RewriteFault::Write => JournalFault::NotSmaller(None),
+            RewriteFault::Header => JournalFault::Closed(Fault::Header),
+            RewriteFault::Behind(records) => JournalFault::Closed(Fault::Damage(records)),
+            RewriteFault::Exchange => JournalFault::NotExchanged,
         }
     }
 
@@ -43,6 +59,8 @@ impl JournalFault {
             JournalFault::Closed(Fault::Memory) => 4,
             JournalFault::Closed(Fault::Read) => 4,
             JournalFault::Closed(Fault::Write) => 4,
+            JournalFault::NotSmaller(_) => 4,
+            JournalFault::NotExchanged => 4,
         }
     }
 
@@ -61,6 +79,8 @@ impl JournalFault {
             JournalFault::Closed(Fault::Memory) => eprintln!(rt; "fault: Memory"),
             JournalFault::Closed(Fault::Read) => eprintln!(rt; "fault: Journal"),
             JournalFault::Closed(Fault::Write) => eprintln!(rt; "fault: Journal"),
+            JournalFault::NotSmaller(_) => eprintln!(rt; "fault: Journal"),
+            JournalFault::NotExchanged => eprintln!(rt; "fault: Journal"),
         }
     }
 
@@ -77,6 +97,12 @@ impl JournalFault {
             }
             JournalFault::Closed(Fault::Damage(records)) => eprintln!(rt;
                 "{path}: damaged behind record {records}, and whole records follow: restore a copy of the file"
+            ),
+            JournalFault::NotSmaller(Some(kind)) => {
+                eprintln!(rt; "{path}.new: {kind}: {path} is as it was")
+            }
+            JournalFault::NotSmaller(None) => eprintln!(rt;
+                "{path}.new: could not be written: is the disk full? {path} is as it was"
             ),
             other => eprintln!(rt; "{path}: {}", advice_of(other)),
         }
@@ -96,6 +122,10 @@ fn advice_of(fault: &JournalFault) -> &'static str {
             "out of memory: close other programs, or allow this one more, and start again"
         }
         JournalFault::Closed(Fault::Read) => "could not be read: is the disk well?",
+        JournalFault::NotSmaller(_) => "could not be made smaller",
+        JournalFault::NotExchanged => {
+            "has all its records, but the smaller journal could not be synced or renamed: try again"
+        }
         JournalFault::Closed(_) => {
             "could not be written, so nothing more is answered: is the disk full? Make room, and start again"
         }

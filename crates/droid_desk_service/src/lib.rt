@@ -6,6 +6,7 @@
 mod advice;
 mod client;
 mod commands;
+mod compaction;
 mod connections;
 mod ended;
 mod ending;
@@ -19,9 +20,11 @@ mod port;
 mod registry;
 mod sample;
 mod scripts;
+mod smaller_journal;
 mod stream;
 
 pub use commands::{run_command, script_command, send_command, serve_command};
+pub use compaction::compact_command;
 pub use ended::Ended;
 pub use ending::Ending;
 pub use journal_commands::{

@@ -9,6 +9,11 @@ pub none_there : {A : Type 0} (P : A → Type 0) (o : Option A) → (IsSome o �
 none_there P None none = tt
 none_there P (Some x) none = absurd (none refl)
 
+-- there is one
+pub some_there : {A : Type 0} (o : Option A) → (o ≡ None → ⊥) → IsSome o
+some_there None not = absurd (not refl)
+some_there (Some x) not = refl
+
 pub some_weaker : {A : Type 0} (P Q : A → Type 0) (o : Option A) → ((x : A) → P x → Q x) → IfSome o P → IfSome o Q
 some_weaker P Q None more if = tt
 some_weaker P Q (Some x) more if = more x if

@@ -110,6 +110,9 @@ impl<F: LogFile + Drop> ServiceJournal<F> {
         // So it does after it went on and crashed: no more is lost than of a journal that was never made small.
         ensures reopened { (setting : Setting) (s : List ℕ) (synced all : History) → setting.limits ≡ limits_given limits → IsOf registry setting → F.has file s → IsLeft setting header.now s synced all
             → IfOk result (λ o. IfSome o (λ it. (history : History) × StandsForHistory F.has F.kept setting header.now it.journal history history × IsBetween synced history all)) }
+        // Nor does a crash make it seem whole.
+        ensures small { (setting : Setting) (s : List ℕ) (synced all : History) → setting.limits ≡ limits_given limits → IsOf registry setting → F.has file s → (left : IsLeft setting header.now s synced all)
+            → HasBare left.first → IfOk result (λ o. IsSome o) }
         ensures lawful { (n : ℕ) (setting : Setting) (s : List ℕ) (synced all : History) → F.has file s → IsLeft setting header.now s synced all → IsErrOf result (Fault.Damage n) → ⊥ }
         ensures damage { (n : ℕ) → IsErrOf result (Fault.Damage n) → (s : List ℕ) → F.has file s → WasDamaged header.now s n }
         // A record is told only if it is none that goes on a history of those before it, whichever files have no bytes.

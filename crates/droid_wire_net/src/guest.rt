@@ -25,6 +25,8 @@ pub(crate) struct Guest {
     pub(crate) writable: bool,
     /// Whether the system said that the input has ended or failed. Only a further read tells so.
     pub(crate) ending: bool,
+    /// Whether it took bytes since the last turn began.
+    pub(crate) answered: bool,
     /// How many bytes came.
     pub(crate) came: u64,
     /// How many bytes it took.
@@ -61,6 +63,11 @@ impl Guest {
         Came::Broken
     }
 
+    /// Whether it was just answered, and has not sent anything since.
+    pub(crate) fn is_awaited(&self) -> bool {
+        self.answered && !self.readable
+    }
+
     /// Writes some of these bytes, if the system said that it takes some.
     pub(crate) fn write(&mut self, bytes: &[u8]) -> Took
         ensures { TookWithin result (length bytes.now) }
@@ -72,6 +79,7 @@ impl Guest {
             match self.stream.write(bytes) {
                 Ok(0) => return Took::Broken,
                 Ok(size) => {
+                    self.answered = true;
                     self.went = count(self.went, size);
                     return Took::Bytes(size);
                 }

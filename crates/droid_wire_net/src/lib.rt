@@ -4,6 +4,7 @@
 //! that is silent costs no call of the system.
 #![tactic(auto)]
 
+mod grace;
 mod guest;
 mod report;
 mod sockets;

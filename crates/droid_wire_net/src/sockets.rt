@@ -3,6 +3,7 @@
 ghost use Rattle.std.specs.Prelude.{◌≡◌, ◌<◌, IfOk, IfSome, length};
 ghost use Rattle.droid_wire_turns.specs.Events.{CameWithin, TookWithin};
 
+use crate::grace::Grace;
 use crate::guest::Guest;
 use crate::report::{MINUTE, Verbosity, print_ended, print_minute};
 use crate::tally::{Tally, count};
@@ -20,6 +21,9 @@ const DOOR: usize = usize::MAX;
 /// How often accepting is tried again that failed.
 const TRIES: u32 = 16;
 
+/// How often at most a turn waits for more.
+const MOST_WAITS: u32 = 1_000;
+
 /// The connections to a port of this machine.
 #[derive(Drop)]
 pub struct Sockets<'a, R> {
@@ -36,6 +40,7 @@ pub struct Sockets<'a, R> {
     begun: Option<Instant>,
     /// What the clock said last, in milliseconds since then.
     time: u64,
+    grace: Grace,
     tally: Tally,
     verbosity: Verbosity,
     /// What was counted when the last line on all connections was printed, and when that was.
@@ -72,12 +77,22 @@ impl<'a, R: Clock + Eprint + Net> Sockets<'a, R> {
             has_left: false,
             begun: Instant::now(runtime).ok(),
             time: 0,
+            grace: Grace::none(),
             tally: Tally::new(),
             verbosity,
             printed: Tally::new(),
             printed_at: 0,
             frames: 0,
         })
+    }
+
+    /// Has requests that come soon after each other share a sync. Where the last turn took a millisecond or more, and not all
+    /// that it answered have sent their next request when the first of these comes, `wait` waits for the others too: no
+    /// longer than half as long as that turn took, and never for a connection that is alone.
+    pub fn share_syncs(&mut self)
+        ensures { self.new.tally ≡ self.old.tally }
+    {
+        self.grace.is_given = true;
     }
 
     /// Prints a line on all connections, if a minute is over since the last one.
@@ -103,11 +118,73 @@ impl<'a, R: Clock + Eprint + Net> Sockets<'a, R> {
         self.frames = 0;
     }
 
-    /// Returns the time since the clock was first read, in milliseconds.
-    fn milliseconds(&self) -> Option<u64> {
+    /// Returns the time since the clock was first read, in microseconds.
+    fn microseconds(&self) -> Option<u64> {
         let begun = self.begun?;
         let now = Instant::now(self.runtime).ok()?;
-        u64::try_from(now.saturating_duration_since(begun).as_millis()).ok()
+        u64::try_from(now.saturating_duration_since(begun).as_micros()).ok()
+    }
+
+    /// Waits until the system reports something, but at most so many milliseconds. Returns whether it did.
+    fn poll_for(&mut self, limit: u64) -> Result<bool, WaitFault>
+        ensures { self.new.tally ≡ self.old.tally }
+    {
+        let timeout = Duration::from_millis(limit);
+        match self.poll.poll(&mut self.events, Some(timeout)) {
+            Ok(()) => {
+                let knocks = note_ready(&self.events, &mut self.guests);
+                self.is_knocking = self.is_knocking || knocks;
+                Ok(!self.events.is_empty())
+            }
+            Err(_) => Err(WaitFault),
+        }
+    }
+
+    /// Waits for the next requests of those that were answered in the last turn: until each of them sent something, nothing
+    /// was reported for a millisecond, or the time is up.
+    fn wait_for_answered(&mut self, until: u64)
+        ensures { self.new.tally ≡ self.old.tally }
+    {
+        for _ in 0..MOST_WAITS {
+            if awaited(&self.guests) == 0 {
+                return;
+            }
+            match self.microseconds() {
+                Some(now) if now < until => {}
+                _ => return,
+            }
+            match self.poll_for(1) {
+                Ok(true) => {}
+                _ => return,
+            }
+        }
+    }
+
+    /// Waits a little for more requests if one has come, so that they share a sync. The last turn's replies were written at
+    /// `now`.
+    fn gather(&mut self, now: u64, limit: u64)
+        ensures { self.new.tally ≡ self.old.tally }
+    {
+        let time = self.grace.microseconds(now, limit);
+        if time == 0 {
+            return;
+        }
+        let before = awaited(&self.guests);
+        if before == 0 || !has_come(&self.guests) || !self.grace.is_due() {
+            return;
+        }
+        self.wait_for_answered(now.saturating_add(time));
+        self.grace.note(awaited(&self.guests) < before);
+    }
+
+    /// Notes that a turn begins.
+    fn begin_turn(&mut self)
+        ensures { self.new.tally ≡ self.old.tally }
+    {
+        forget_answers(&mut self.guests);
+        if let Some(now) = self.microseconds() {
+            self.grace.begin(now);
+        }
     }
 }
 
@@ -126,20 +203,21 @@ impl<R: Clock + Eprint + Net> Connections for Sockets<'_, R> {
             limit
         };
         self.has_left = false;
-        let timeout = Duration::from_millis(limit);
-        match self.poll.poll(&mut self.events, Some(timeout)) {
-            Ok(()) => {
-                let knocks = note_ready(&self.events, &mut self.guests);
-                self.is_knocking = self.is_knocking || knocks;
-                Ok(())
-            }
-            Err(_) => Err(WaitFault),
+        let answered = self.microseconds();
+        match self.poll_for(limit) {
+            Ok(_) => {}
+            Err(fault) => return Err(fault),
         }
+        if let Some(answered) = answered {
+            self.gather(answered, limit);
+        }
+        self.begin_turn();
+        Ok(())
     }
 
     fn now(&mut self) -> u64 {
-        if let Some(time) = self.milliseconds() {
-            self.time = time;
+        if let Some(time) = self.microseconds() {
+            self.time = time / 1_000;
         }
         self.time
     }
@@ -249,6 +327,7 @@ fn take_in(
             readable: true,
             writable: true,
             ending: false,
+            answered: false,
             came: 0,
             went: 0,
         })
@@ -279,6 +358,23 @@ fn note_one(guests: &mut Vec<Guest>, id: u64, readable: bool, writable: bool, en
         guest.readable = guest.readable || readable;
         guest.writable = guest.writable || writable;
         guest.ending = guest.ending || ending;
+    }
+}
+
+/// Returns of how many connections the next request is awaited.
+fn awaited(guests: &[Guest]) -> usize {
+    guests.iter().filter(|guest| guest.is_awaited()).count()
+}
+
+/// Whether something has come of a connection.
+fn has_come(guests: &[Guest]) -> bool {
+    guests.iter().any(|guest| guest.readable)
+}
+
+/// Notes that no connection took bytes in this turn.
+fn forget_answers(guests: &mut Vec<Guest>) {
+    for guest in guests.iter_mut() {
+        guest.answered = false;
     }
 }
 

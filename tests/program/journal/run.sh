@@ -1,10 +1,11 @@
 #!/bin/sh
 # Tests `run` and `serve` with a journal: run.sh PROGRAM
-# KILLS is how often the service is killed (of journal_kills; 300 for all), STEP of how many bytes one is changed (of
-# journal_damage; 1 for all).
+# KILLS is how often the service is killed (of journal_kills; 300 for all) and `compact` (of journal_compact), STEP of how many
+# bytes one is changed (of journal_damage; 1 for all).
 set -u
 tests=$(cd "$(dirname "$0")/../.." && pwd)
 . "$tests/lib/modules.sh"
-export PRELOAD_SYNCED="$work/synced.so" PYTHONPATH="$tests:$tests/program/model:$tests/program/wire"
+export PRELOAD_SYNCED="$work/synced.so" PRELOAD_PACED="$work/paced.so" PYTHONPATH="$tests:$tests/program/model:$tests/program/wire"
 build_library synced.c "$PRELOAD_SYNCED"
-run_modules journal_files journal_damage journal_full journal_kills
+build_library paced.c "$PRELOAD_PACED"
+run_modules journal_files journal_smaller journal_compact journal_damage journal_full journal_kills shared_syncs

@@ -1,5 +1,6 @@
 """`send` and `serve` on streams that are interrupted, cut short, failing or reset (../streams.c)."""
 
+import contextlib
 import itertools
 import os
 import subprocess
@@ -11,6 +12,8 @@ from lib.frames import ADD_FOLDER, CREATE_PROFILE, LIMITS, NODE, in_version, lin
 from lib.program import PROGRAM, Serve, faults, preloaded, send
 from run_command import ENDS, REPLIED, session_in
 from send_faults import made
+from serve_at_once import lasting
+from serve_options import next_line
 
 LINES = b"create 65536 0\nfolder 1 0 0 in\n"
 PRINTED = b"made 1\nnode 1\n"
@@ -179,6 +182,62 @@ class ServeStreams(unittest.TestCase):
                 (f"SEND_INTERRUPTED_AT={each_at(REPLIED[:4], 64)}", 85),
                 ("SEND_INTERRUPTED_AT=5:64,30:65", 30),
                 ("SEND_FAILS_ONCE=50", 50),
+            ]
+        )
+
+
+class ServeStreamsAtOnce(unittest.TestCase):
+    """`serve --at-once` tries each read and each write 65 times, and closes a connection where all of them were interrupted.
+    Each request is sent when the reply before it has come, since a read gets all that was sent."""
+
+    def ends(self, rows_of):
+        """Checks rows of variables, the number of bytes of replies that come, and why the connection ends. The next one is
+        always served."""
+        for version in LIMITS:
+            requests, replies = session_in(version)
+            for row, replied, reason in rows_of(ENDS[version]):
+                environment = preloaded("STREAMS", **variables(row))
+                with self.subTest(version=version, row=row), lasting(1, "--verbose", env=environment) as service:
+                    self.assertEqual(self.come_in_turn(service.port, version), replies[:replied])
+                    self.assertEqual(next_line(service, b"connection ").rsplit(", ", 1)[1], f"{reason}\n")
+                    with connect(service.port) as stream:
+                        stream.sendall(requests)
+                        self.assertEqual(read_exactly(stream, len(replies)), replies)
+
+    @staticmethod
+    def come_in_turn(port, version):
+        """Sends the requests one by one while replies come, and returns these."""
+        requests, _ = session_in(version)
+        came = b""
+        with connect(port) as stream:
+            for start, end, due in zip(ENDS[version], ENDS[version][1:], REPLIED[1:]):
+                with contextlib.suppress(ConnectionError):
+                    stream.sendall(requests[start:end])
+                came += read_until_reset(stream, due - len(came))
+                if len(came) < due:
+                    break
+        return came
+
+    def test_frames(self):
+        self.ends(
+            lambda ends: [
+                ("RECEIVE_INTERRUPTIONS=64", 85, "closed"),
+                ("RECEIVE_INTERRUPTIONS=65", 0, "read"),
+                (f"RECEIVE_INTERRUPTED_AT={each_at(ends[:4], 64)}", 85, "closed"),
+                (f"RECEIVE_INTERRUPTED_AT=0:64,{ends[2]}:65", 44, "read"),
+                (f"RECEIVE_INTERRUPTED_AT={ends[3]}:65", 66, "read"),
+            ]
+        )
+
+    def test_replies(self):
+        self.ends(
+            lambda _: [
+                ("SEND_INTERRUPTIONS=64", 85, "closed"),
+                ("SEND_INTERRUPTIONS=65", 0, "write"),
+                ("SEND_INTERRUPTED_AT=5:64,30:64", 85, "closed"),
+                (f"SEND_INTERRUPTED_AT={each_at(REPLIED[:4], 64)}", 85, "closed"),
+                ("SEND_INTERRUPTED_AT=5:64,30:65", 30, "write"),
+                (f"SEND_INTERRUPTED_AT={REPLIED[2]}:65", 44, "write"),
             ]
         )
 

@@ -82,42 +82,40 @@ class ServeAtOnce(unittest.TestCase):
                 with self.assertRaises(TimeoutError):
                     second.recv(1)
                 first.close()
+                # long before the first one would have been idle
                 second.settimeout(SECONDS)
-                begun = time.monotonic()
                 self.assertEqual(read_frame(second)[0], REFUSED)
-                self.assertLess(time.monotonic() - begun, 1)
 
     def test_an_idle_one_is_closed(self):
-        with at_once(2, "--idle", "1", connections=2) as service:
+        """After two seconds, and not before, while another one asks all the time."""
+        with at_once(2, "--idle", "2", connections=2) as service:
+            begun = time.monotonic()
             with connect(service.port) as idle, connect(service.port) as other:
-                begun = time.monotonic()
                 idle.sendall(REQUESTS[:10])
-                while time.monotonic() - begun < 0.8:
+                while not select.select([idle], [], [], 0)[0]:
                     other.sendall(NOTHING)
                     self.assertEqual(read_frame(other)[0], REFUSED)
-                idle.settimeout(0.01)
-                with self.assertRaises(TimeoutError):
-                    idle.recv(1)
-                self.assertTrue(is_closed(idle, 2))
-                self.assertLess(time.monotonic() - begun, 2)
+                    self.assertLess(time.monotonic() - begun, SECONDS)
+                self.assertGreater(time.monotonic() - begun, 1.99)
+                self.assertTrue(is_closed(idle))
 
     def test_idle_ones_of_each_kind(self):
         """One that is silent, one within a header, one within a body, and one that was answered: each is closed after a
         second, and not before."""
         with lasting(4, "--idle", "1") as service:
-            streams = [connect(service.port) for _ in range(4)]
             begun = time.monotonic()
+            streams = [connect(service.port) for _ in range(4)]
             for stream, sent in zip(streams, (b"", NOTHING[:7], NOTHING[:-1], NOTHING)):
                 stream.sendall(sent)
             self.assertEqual(read_frame(streams[3])[0], REFUSED)
-            self.assertEqual(select.select(streams, [], [], 0.8)[0], [])
+            self.assertNotEqual(select.select(streams, [], [], SECONDS)[0], [])
+            self.assertGreater(time.monotonic() - begun, 0.99)
             for stream in streams:
-                self.assertTrue(is_closed(stream, 2))
+                self.assertTrue(is_closed(stream))
                 stream.close()
-            self.assertLess(time.monotonic() - begun, 2)
 
     def test_one_that_takes_nothing(self):
-        """A desk that reads no reply and sends nothing more is closed after two seconds, and not before: then the next one
+        """A desk that reads no reply and sends nothing more is closed after two seconds, and not at once: then the next one
         has its seat. The service has read all that it sent."""
         asked = 350_000
         with lasting(1, "--idle", "2", "--verbose") as service, slow_reader(service.port) as deaf, connect(service.port) as waits:
@@ -126,34 +124,33 @@ class ServeAtOnce(unittest.TestCase):
             begun = time.monotonic()
             deaf.sendall(NOTHING)
             self.assertEqual(read_frame(waits)[0], REFUSED)
-            self.assertGreaterEqual(time.monotonic() - begun, 1.8)
+            # (a turn whose clock was read before may have read its last byte)
+            self.assertGreater(time.monotonic() - begun, 1)
             line = service.process.stderr.readline()
             while not line.startswith(b"connection "):
                 line = service.process.stderr.readline()
             self.assertRegex(line.decode(), rf": {asked} frames, {asked * len(NOTHING)} bytes in, \d+ bytes out, idle\n$")
 
-    def test_a_byte_a_second(self):
-        """A desk that sends a byte a second is not idle; one that takes a byte a second gets all replies; and neither
-        holds up another one."""
-        asked = 200_000
+    def test_a_byte_now_and_then(self):
+        """A desk that sends a byte every half second is not idle; one that takes so many gets all replies; and neither holds
+        up another one."""
+        asked, times = 200_000, 6
         with lasting(4, "--idle", "2") as impatient, lasting(4) as service:
             with connect(impatient.port) as writes, slow_reader(service.port) as reads, connect(service.port) as asks:
                 sender = threading.Thread(target=reads.sendall, args=(NOTHING * asked,), daemon=True)
                 sender.start()
-                for place in range(4):
+                for place in range(times):
                     writes.sendall(NOTHING[place : place + 1])
                     self.assertEqual(len(reads.recv(1)), 1)
-                    begun = time.monotonic()
                     for _ in range(100):
                         asks.sendall(NOTHING)
                         self.assertEqual(read_frame(asks)[0], REFUSED)
-                    self.assertLess(time.monotonic() - begun, 1)
-                    time.sleep(1)
-                writes.sendall(NOTHING[4:])
+                    time.sleep(0.5)
+                writes.sendall(NOTHING[times:])
                 reply = read_exactly(writes, len(NO_PROFILE))
                 self.assertEqual(reply, NO_PROFILE)
-                replies = read_exactly(reads, asked * len(reply) - 4)
-                self.assertTrue(replies == (reply * asked)[4:], len(replies))
+                replies = read_exactly(reads, asked * len(reply) - times)
+                self.assertTrue(replies == (reply * asked)[times:], len(replies))
                 sender.join(SECONDS)
 
     def test_a_port_scan(self):

@@ -12,6 +12,7 @@ import unittest
 
 from lib.connections import SECONDS, connect, free_port, read_exactly, read_frame, reset
 from lib.frames import HEADER, LIMITS, REFUSED, STATUS, frame
+from lib.processes import is_asleep
 from lib.program import PROGRAM, SAMPLE_NOTE, TOP, preloaded
 from serve_at_once import NOTHING, NO_PROFILE, is_closed, lasting, slow_reader
 
@@ -123,7 +124,7 @@ class Verbose(unittest.TestCase):
         """One that reads no reply is not read any more, and then it breaks. Some bytes were written to it, but not all."""
         with lasting(1, "--verbose") as service:
             stream = slow_reader(service.port)
-            fill(stream)
+            fill(service, stream)
             reset(stream)
             line = next_line(service, b"connection ")
             found = re.fullmatch(r"connection 127\.0\.0\.1:\d+: (\d+) frames, (\d+) bytes in, (\d+) bytes out, write\n", line)
@@ -179,13 +180,17 @@ class Verbose(unittest.TestCase):
             self.assertEqual(service.process.stderr.read(), SAMPLE_NOTE)
 
 
-def fill(stream):
-    """Sends requests and reads no reply, until nothing more is taken for some seconds."""
-    requests, sent = NOTHING * 10_000, 0
+def fill(service, stream):
+    """Sends requests and reads no reply, until nothing more is taken although the service has nothing to do."""
+    requests, sent, waited = NOTHING * 10_000, 0, 0
     stream.setblocking(False)
-    while select.select([], [stream], [], 3)[1]:
-        with contextlib.suppress(BlockingIOError):
-            sent = (sent + stream.send(requests[sent:])) % len(requests)
+    while waited < 5:
+        if select.select([], [stream], [], 0.2)[1]:
+            waited = 0
+            with contextlib.suppress(BlockingIOError):
+                sent = (sent + stream.send(requests[sent:])) % len(requests)
+        elif is_asleep(service.process):
+            waited += 1
 
 
 def socket_end(stream):
@@ -193,7 +198,7 @@ def socket_end(stream):
 
 
 def until_closed(stream):
-    assert is_closed(stream, 3)
+    assert is_closed(stream)
 
 
 class Unit(unittest.TestCase):

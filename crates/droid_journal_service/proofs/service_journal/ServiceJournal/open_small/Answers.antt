@@ -10,8 +10,8 @@ use Rattle.droid_journal_smaller.specs.recovery.BareRecords.{LeadTo}
 use Rattle.droid_journal_service.specs.Histories.{HasBare, IsBetween}
 use Rattle.droid_journal_service.specs.Standing.{ReadsRecords, StandsForHistory}
 use Rattle.droid_journal_service.specs.declared.service_journal.ServiceJournal.{ServiceJournal}
-use Rattle.droid_journal_service.proofs.HistoryLaws.{as_behind_nothing, as_history, none_small, some_history}
-use Rattle.droid_journal_service.proofs.Results.{both_there, each_there, none_there, only_memory, some_weaker}
+use Rattle.droid_journal_service.proofs.HistoryLaws.{as_behind_nothing, as_history, bare_front, none_small, some_history}
+use Rattle.droid_journal_service.proofs.Results.{both_there, each_there, none_there, only_memory, some_there, some_weaker}
 use Rattle.droid_journal_service.proofs.SmallHistories.{found_small}
 use Rattle.droid_journal_service.proofs.service_journal.ServiceJournal.open_small.Goals as goal
 
@@ -52,6 +52,12 @@ returns-in-Ok-clause-reopened g c = λ setting s synced all limits of here left.
           (c.revived.ensures.stands setting small.0 c.args.header.now opened.0 found.history opened.1 found.small)
           )
     ]
+
+pub returns-in-Ok-clause-small : goal.returns-in-Ok-clause-small
+returns-in-Ok-clause-small g c = λ setting s synced all limits of here left bare.
+    let recovery : Recovery = record { setting = setting; bare = λ profile file. false } in
+    let opened = c.in-Ok.ensures.reopened recovery s left.first left.written here (c.in_ok-reader.ensures.empty recovery limits of) left.fit left.front left.chance in
+    IfOk-weaker c.revived.result _ _ (λ o none. some_there o (λ is. none is (bare_front left.first opened.0 opened.2 bare))) (c.revived.ensures.whole recovery c.args.header.now opened.0 opened.1)
 
 pub returns-in-Ok-clause-lawful : goal.returns-in-Ok-clause-lawful
 returns-in-Ok-clause-lawful g c = λ n setting s synced all here left told. let is = only_memory c.revived.result (faults.Damage n) c.revived.ensures.fault told in absurd cc

@@ -1,0 +1,80 @@
+//! Making the journal of the program's service smaller.
+
+ghost use Rattle.std.specs.Prelude.{◌≡◌, ◌≢◌, ◌⊎◌, ℕ, [], List, IfErr, IfOk, IsErrOf, OnOk};
+ghost use Rattle.droid_desk_service.specs.Journals.{IsHeaderOf};
+ghost use Rattle.droid_desk_service.specs.SmallerJournals.{AreSizesOf, HasBytesBehind, IsMostlyEndedIf, IsSmallerOf};
+ghost use Rattle.droid_wire.specs.with_journal.service.journal.Opening.{HasHeader};
+
+use crate::journal::header_text;
+use droid_wire::{
+    Exchange, Fault, LogFile, RewriteFault, Smaller, compact, header_for, is_mostly_ended,
+    journal_laws,
+};
+use std::alloc::Global;
+
+/// The header is that of the file, which has all of it: no random byte goes into it.
+const NO_RANDOM: [u8; 16] = [0; 16];
+
+/// Makes the header that a journal of the registry with these bytes has in this file.
+fn header_of<F: LogFile>(alloc: Global, file: &F, registry: &[u8]) -> Result<Vec<u8>, RewriteFault>
+    requires found { F.is_found file.now }
+    ensures is_of { (s : List ℕ) → F.has file.now s → IfOk result (λ header. IsHeaderOf registry.now header.items) }
+    ensures same { (s header : List ℕ) → F.has file.now s → IsHeaderOf registry.now header → HasHeader header s → IfOk result (λ it. it.items ≡ header) }
+    ensures fault { IfErr result (λ fault. (fault ≡ RewriteFault.Memory) ⊎ (fault ≡ RewriteFault.Read)) }
+{
+    let text = header_text(alloc, registry)?;
+    match header_for(alloc, file, &text, &NO_RANDOM) {
+        Ok(header) => Ok(header),
+        Err(Fault::Memory) => Err(RewriteFault::Memory),
+        Err(_) => Err(RewriteFault::Read),
+    }
+}
+
+/// Writes the journal in a file anew into an empty file, without the bytes of the pieces of finished and abandoned files, and
+/// gives that the name of the old one; the journal's header has the MD5 of these bytes of a registry.
+///
+/// A crash at any moment leaves the old journal under the name, or the smaller one with all its bytes; also where this fails.
+/// A service that is made of the smaller one stands for the history that it had with the old one.
+pub fn make_smaller<F: LogFile, N: LogFile + Drop, X: Exchange<N>>(
+    alloc: Global,
+    old: &F,
+    registry: &[u8],
+    new: N,
+    exchange: &mut X,
+) -> Result<Smaller<N>, RewriteFault>
+    requires found { F.is_found old.now }
+    ensures at_any_moment { (s bytes : List ℕ) → F.has old.now s → N.has new [] → X.may_lead exchange.new bytes → X.may_lead exchange.old bytes ⊎ IsSmallerOf registry.now s bytes }
+    ensures smaller { (s bytes : List ℕ) → F.has old.now s → N.has new [] → OnOk result (X.may_lead exchange.new bytes → IsSmallerOf registry.now s bytes) }
+    // The new file has the smaller journal, and all of it is on the disk.
+    ensures on_disk { (s : List ℕ) → F.has old.now s → N.has new [] → IfOk result (λ it. IsSmallerOf registry.now s (N.kept it.file) × N.has it.file (N.kept it.file)) }
+    ensures sizes { (s : List ℕ) → F.has old.now s → N.has new [] → IfOk result (λ it. AreSizesOf registry.now s it.before it.after) }
+    // Only an exchange that failed may have touched the name.
+    ensures untouched { IfErr result (λ fault. fault ≢ RewriteFault.Exchange → exchange.new ≡ exchange.old) }
+    // A journal of this registry is not told to be of another, nor to have bytes behind it where it has none.
+    ensures other_header { IsErrOf result RewriteFault.Header → (s header : List ℕ) → F.has old.now s → IsHeaderOf registry.now header → HasHeader header s → ⊥ }
+    ensures behind { (n : ℕ) → IsErrOf result (RewriteFault.Behind n) → (s : List ℕ) → F.has old.now s → HasBytesBehind registry.now s n }
+{
+    let header = match header_of(alloc, old, registry) {
+        Ok(header) => header,
+        Err(fault) => return Err(fault),
+    };
+    journal_laws::a_smaller_file_leads_to_the_same_history();
+    compact(alloc, old, &header, new, exchange)
+}
+
+/// Returns whether more than half of the bytes of a journal are of pieces of finished and abandoned files; its header has the
+/// MD5 of these bytes of a registry.
+pub fn is_worth_it<F: LogFile>(
+    alloc: Global,
+    file: &F,
+    registry: &[u8],
+) -> Result<bool, RewriteFault>
+    requires found { F.is_found file.now }
+    ensures mostly { (s : List ℕ) → F.has file.now s → IfOk result (λ mostly. IsMostlyEndedIf registry.now s mostly) }
+{
+    let header = match header_of(alloc, file, registry) {
+        Ok(header) => header,
+        Err(fault) => return Err(fault),
+    };
+    is_mostly_ended(alloc, file, &header)
+}
