@@ -82,10 +82,10 @@ class Calls(InFolder):
                     continue
                 paths = [row[1] for row in rows_in(out)]
                 self.assertEqual(status, 5 if paths else 0, said)
-                self.assertEqual([path for path in paths if is_below(os.path.dirname(path), paths)], [], said)
+                self.assertEqual([path for path in paths if path and is_below(os.path.dirname(path), paths)], [], said)
                 kinds |= {row[0] for row in rows_in(out)}
                 folders |= {path for path in paths if os.path.isdir(self.top + path)}
-            self.assertEqual((kinds, folders), ({b"unreadable"}, {b"/in", b"/in/deep", b"/out"}))
+            self.assertEqual((kinds, folders), ({b"unreadable"}, {b"", b"/in", b"/in/deep", b"/out"}))
 
 
 def is_below(path, skipped):
