@@ -12,7 +12,7 @@ import unittest
 from journal_file import header_size, md5, next_check, read, record_bytes
 from journal_full import limited
 from journal_session import REGISTRY, InJournal, contents, run_journal, sample_bytes, serving, store
-from journal_smaller import ASKED, EXPORT_ALL, MORE, by_model
+from journal_smaller import ASKED, EXPORT_ALL, MORE, AskedByModel
 from lib.connections import SECONDS, connect, read_exactly
 from lib.frames import HEADER, NODE, PIECE, create, file, finish, piece, reply
 from lib.program import EVERYDAY, PROGRAM, preloaded
@@ -43,12 +43,11 @@ def told(path, old, new):
     return b"journal: %s had %d records and %d bytes, and has now %d records and %d bytes\n" % (os.fsencode(path), *sizes)
 
 
-class Compaction(InJournal):
+class Compaction(AskedByModel):
     def make(self, asked, path=None):
-        """Makes a journal of these requests."""
-        path = path or self.path
-        self.assertEqual(run_journal(path, b"".join(asked)), (0, by_model(asked), b""))
-        return contents(path)
+        """Makes a journal of these requests, or goes on with it: its bytes."""
+        self.asks(asked, path)
+        return contents(path or self.path)
 
     def becomes_smaller(self, path=None):
         """The journal becomes the smaller one of the model, and no other file is left."""
@@ -69,11 +68,9 @@ class Compaction(InJournal):
     def test_the_same_answers(self):
         """What comes again, what goes on with each file, and the export; before and after it is made smaller once more."""
         self.make(ASKED)
-        self.becomes_smaller()
-        asked = ASKED + MORE + [EXPORT_ALL]
-        self.assertEqual(run_journal(self.path, b"".join(asked)), (0, by_model(asked), b""))
-        self.becomes_smaller()
-        self.assertEqual(run_journal(self.path, b"".join(asked)), (0, by_model(asked), b""))
+        for _ in range(2):
+            self.becomes_smaller()
+            self.asks(ASKED + MORE + [EXPORT_ALL])
 
     def test_once_more(self):
         """A smaller journal stays as it is; nothing is printed if that is asked for."""
@@ -105,7 +102,7 @@ class Compaction(InJournal):
             for part in range(1, 6):
                 self.make(asked[: len(asked) * part // 5], path)
                 self.becomes_smaller(path)
-            self.assertEqual(run_journal(path, b"".join(asked) + EXPORT_ALL), (0, by_model(asked + [EXPORT_ALL]), b""))
+            self.asks(asked + [EXPORT_ALL], path)
 
     def test_the_size(self):
         """A submission of files, of which the last one goes on: each command takes so many bytes at most, beside the names and
@@ -134,8 +131,9 @@ class Compaction(InJournal):
         self.assertEqual((contents(self.path), contents(self.path + ".torn")), (smaller_of(old), b"\1\0\0"))
 
     def test_faults_of_a_start(self):
-        """Another registry, no journal, and damage."""
-        data = self.make(ASKED)
+        """Another registry, no journal, and damage. (In a smaller journal any later record shows it.)"""
+        self.make(ASKED)
+        data = self.becomes_smaller()
         changed = bytearray(data)
         changed[header_size() + 30] ^= 1
         for given, fault, registry in (

@@ -32,18 +32,29 @@ MORE = [status(20, 3), piece(21, 3, 0, b"mess"), finish(22, 3), status(23, 1), p
 EXPORT_ALL = frame(EXPORT, 1, 90, export_body())
 
 
-def by_model(requests):
-    """The replies of the model to these requests."""
-    replies, fault = answer(service_of_the_sample(), b"".join(requests))
-    assert fault is None
-    return replies
+class AskedByModel(InJournal):
+    """Tests in which a model is asked all that the service of a journal is asked, in all of its lives."""
+
+    def setUp(self):
+        super().setUp()
+        self.models = {}
+
+    def due(self, asked, path=None):
+        """The replies of the journal's model."""
+        model = self.models.setdefault(path or self.path, service_of_the_sample())
+        return answer(model, b"".join(asked))[0]
+
+    def asks(self, asked, path=None):
+        """A service begins with the journal, and answers as its model does."""
+        path = path or self.path
+        self.assertEqual(run_journal(path, b"".join(asked)), (0, self.due(asked, path), b""))
 
 
-class Smaller(InJournal):
+class Smaller(AskedByModel):
     def make(self, asked, path=None):
         """Writes a journal of these requests, and makes it smaller by the model: its records before."""
         path = path or self.path
-        self.assertEqual(run_journal(path, b"".join(asked)), (0, by_model(asked), b""))
+        self.asks(asked, path)
         data = contents(path)
         found = read(data)
         store(path, smaller(data[: header_size()], found.records))
@@ -56,8 +67,7 @@ class Smaller(InJournal):
         """What comes again, what goes on with each file, and the export; before and after a further start."""
         self.make(ASKED)
         for _ in range(2):
-            asked = ASKED + MORE + [EXPORT_ALL]
-            self.assertEqual(run_journal(self.path, b"".join(asked)), (0, by_model(asked), b""))
+            self.asks(ASKED + MORE + [EXPORT_ALL])
 
     def test_no_bytes(self):
         """The pieces of the finished and of the abandoned file are not in the file, and what it has stays as it is."""
@@ -73,8 +83,7 @@ class Smaller(InJournal):
         self.make(ASKED)
         self.make(ASKED + MORE)
         self.assertNotIn(b"wxyz", contents(self.path))
-        asked = ASKED + MORE + [EXPORT_ALL]
-        self.assertEqual(run_journal(self.path, b"".join(asked)), (0, by_model(asked), b""))
+        self.asks(ASKED + MORE + [EXPORT_ALL])
 
     def test_random_sessions(self):
         """Files of random pieces, in a random order, with repeats; the journal is made smaller behind each fifth of it."""
@@ -84,7 +93,7 @@ class Smaller(InJournal):
             path = f"{self.path}{place}"
             for part in range(1, 6):
                 self.make(asked[: len(asked) * part // 5], path)
-            self.assertEqual(run_journal(path, b"".join(asked) + EXPORT_ALL), (0, by_model(asked + [EXPORT_ALL]), b""))
+            self.asks(asked + [EXPORT_ALL], path)
 
     def session(self, chance):
         asked = [create(1)]
@@ -107,7 +116,7 @@ class Smaller(InJournal):
         data = contents(self.path)
         store(self.path, data + b"\1\0\0")
         said = b"journal: 3 bytes behind the last whole record are now in %s.torn\n" % self.path.encode()
-        self.assertEqual(run_journal(self.path, EXPORT_ALL), (0, by_model(ASKED + [EXPORT_ALL])[len(by_model(ASKED)) :], said))
+        self.assertEqual(run_journal(self.path, EXPORT_ALL), (0, self.due([EXPORT_ALL]), said))
         self.assertEqual(contents(self.path), data)
 
     def test_each_front(self):
