@@ -88,7 +88,7 @@ impl JournalFault {
     pub(crate) fn print_advice<R: Eprint>(&self, rt: &R, path: &str) -> io::Result<()> {
         match self {
             JournalFault::Unopened(kind) => eprintln!(rt;
-                "{path}: {kind}: is its folder there, and yours to write?"
+                "{path}: {kind}: is the path right, and its folder yours to write?"
             ),
             JournalFault::Closed(Fault::Record(at)) => {
                 eprintln!(rt;

@@ -23,7 +23,7 @@ pub use fault::ExportFault;
 pub use filter::meets;
 pub use hash_text::HashText;
 pub use laws::{text_goes_by_records, text_is_read_back};
-pub use moment::moment_text;
+pub use moment::{moment_bytes, moment_text};
 pub use node_uri::uri;
 pub use pending_text::PendingText;
 pub use row_text::RowText;

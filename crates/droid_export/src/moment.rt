@@ -24,9 +24,11 @@ pub fn moment_text(alloc: Global, modified: i64) -> Result<Text, AllocError>
     Text::copy_of(alloc, text)
 }
 
-/// Returns the bytes of the text that [`moment_text`] returns. Takes no memory.
+/// Returns the bytes of the text that [`moment_text`] writes. Takes no memory.
+///
+/// The caller ensures that the moment has a text, as there.
 #[tactic(auto, unfolding(crate::specs::Moments::moment_text))]
-pub(crate) fn moment_bytes(modified: i64) -> [u8; 19]
+pub fn moment_bytes(modified: i64) -> [u8; 19]
     requires { IsMoment modified }
     ensures value { result ≡ moments.moment_text modified }
     ensures ascii { IsAscii result }

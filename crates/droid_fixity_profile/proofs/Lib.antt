@@ -1,5 +1,4 @@
 mod EmptyReports
 mod ExportedItems
-mod MomentLengths
 mod PassedFaults
 mod SameInventories

@@ -2,11 +2,10 @@
 
 ghost use Rattle.std.specs.Prelude.{◌≡◌, ◌↔◌, IfOk, IsTrue};
 ghost use Rattle.droid_export.specs.Moments.{IsMoment};
-ghost use Rattle.droid_export.specs.Moments as moments;
 ghost use Rattle.droid_fixity_profile.specs.Nodes.{IsItemOf};
 ghost use Rattle.droid_fixity_profile.specs.Nodes as nodes;
 
-use droid_export::moment_text;
+use droid_export::moment_bytes;
 use droid_fixity::Item;
 use droid_frame::{Blob, HashValue, NodeKind};
 use std::alloc::{AllocError, Global};
@@ -28,7 +27,7 @@ pub fn item_of_node(
     if !is_moment(&modified) {
         return Ok(None);
     }
-    let moment = moment_of(alloc, &modified)?;
+    let moment = moment_bytes(modified);
     let path = Blob::copy_of(alloc, path.as_bytes())?;
     Ok(Some(Item {
         path,
@@ -45,20 +44,6 @@ fn is_moment(modified: &i64) -> bool
 {
     let modified = *modified;
     modified >= -62_135_596_800 && modified <= 253_402_300_799
-}
-
-/// Returns the text of a moment.
-#[tactic(auto, using(crate::proofs::MomentLengths::moment_length))]
-fn moment_of(alloc: Global, modified: &i64) -> Result<[u8; 19], AllocError>
-    requires { IsMoment modified.now }
-    ensures { IfOk result (λ text. text ≡ moments.moment_text modified.now) }
-{
-    let modified = *modified;
-    let text = moment_text(alloc, modified)?;
-    match <[u8; 19]>::try_from(text.as_str().as_bytes()) {
-        Ok(moment) => Ok(moment),
-        Err(_) => unreachable!(),
-    }
 }
 
 fn length_of(kind: NodeKind, size: u64) -> Option<u64>

@@ -20,6 +20,9 @@ use droid_frame::{Frame, Refusal, Reply};
 use droid_journal_chain::record;
 use std::alloc::{AllocError, Global};
 
+/// How many bytes of a record are not of its two frames.
+const AROUND: usize = 25;
+
 /// A machine, and the file that has the requests that it accepted.
 ///
 /// [`Journal::handle`] handles a request. No reply may be sent before [`Journal::settle`] returned `Ok` after it.
@@ -82,7 +85,7 @@ impl<F: LogFile + Drop, M: Machine + Drop> Journal<F, M> {
         ensures check { IfOk result (λ x. x.1 ≡ next_check self.now.start self.now.check (made (not self.now.unsynced) request.now (reply_frame version client number reply.now))) }
     {
         let reply = reply_bytes(self.alloc, version, client, number, reply)?;
-        let mut bytes = Vec::new(self.alloc);
+        let mut bytes = Vec::with_capacity(self.alloc, AROUND + request.len() + reply.len())?;
         let check = record(
             &mut bytes,
             &self.start,
