@@ -10,3 +10,4 @@ pub mod BareSizes
 pub mod Sizes
 pub mod Writing
 mod Weighing
+pub mod Skimming

@@ -4,7 +4,7 @@ use Rattle.std.proofs.lemmas.Bool.{eqb-true}
 use Rattle.std.proofs.lemmas.List.{append-nil, map-append}
 use Rattle.std.proofs.lemmas.List.Folds.{list_any-append}
 use Rattle.droid_journal_bare.specs.BareFrames.{bare_finish_bytes, bare_piece_bytes}
-use Rattle.droid_journal_chain.specs.Records.{Record}
+use Rattle.droid_journal_chain.specs.Records.{Record, made}
 use Rattle.droid_journal_rewriting.specs.Fields.{file_in, is_about, stamp_in}
 use Rattle.droid_journal_rewriting.specs.Shortening.{has_stamp, once, smaller, smaller_by, smaller_request}
 use Rattle.droid_journal_rewriting.proofs.Ending.{or_swapped}
@@ -61,3 +61,11 @@ smaller_one_more ended before it new = ap (map (smaller ended)) (once_with befor
 pub smaller_same : (one other : ℕ → Bool) (request reply : List ℕ) → one (file_in request) ≡ other (file_in request) → smaller_request one request reply ≡ smaller_request other request reply
 smaller_same one other request reply same =
     ap (λ (b : Bool). cond (is_about 4 request reply) (cond b (bare_piece_bytes request reply) request) (cond (is_about 5 request reply) (cond b (bare_finish_bytes request reply) request) request)) same
+
+all_same : (one other : ℕ → Bool) → ((file : ℕ) → one file ≡ other file) → (its : List Record) → map (smaller one) its ≡ map (smaller other) its
+all_same one other same [] = refl
+all_same one other same (it ∷ its) =
+    ap (λ (r : List ℕ). made true r it.reply ∷ map (smaller one) its) (smaller_same one other it.request it.reply (same (file_in it.request))) ∙ ap (λ (xs : List Record). smaller other it ∷ xs) (all_same one other same its)
+
+pub smaller_by_same : (one other : ℕ → Bool) (its : List Record) → ((file : ℕ) → one file ≡ other file) → smaller_by one its ≡ smaller_by other its
+smaller_by_same one other its same = all_same one other same (once [] its)

@@ -26,3 +26,11 @@ is_about kind request reply =
 -- a Finish or an Abandon
 abbrev pub is_end : List ℕ → List ℕ → Bool
 is_end request reply = is_about 5 request reply || is_about 6 request reply
+
+-- the same by the request's kind and the lengths of both
+abbrev pub is_about_by : ℕ → ℕ → ℕ → ℕ → Bool
+is_about_by kind own request reply =
+    if nat_lt request 26 then false else if nat_lt 4194386 request then false else if nat_lt 1048658 reply then false else own == kind
+
+abbrev pub is_end_by : ℕ → ℕ → ℕ → Bool
+is_end_by own request reply = is_about_by 5 own request reply || is_about_by 6 own request reply

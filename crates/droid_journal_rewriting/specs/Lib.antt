@@ -4,6 +4,7 @@ pub mod Shortening
 pub mod Sizes
 pub mod Numbers
 pub mod Noting
+pub mod Skimming
 pub mod Faults
 pub mod Taking
 pub mod Waiting

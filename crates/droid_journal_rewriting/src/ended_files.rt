@@ -1,16 +1,17 @@
 //! Which files have ended.
 
-ghost use Rattle.std.specs.Prelude.{◌≡◌, ℕ, [], IfOk, IsErrOf, List, length};
-ghost use Rattle.droid_journal.specs.Opening.{HasHeader};
-ghost use Rattle.droid_journal_chain.specs.Records.{Record};
+ghost use Rattle.std.specs.Prelude.{◌≡◌, ◌++◌, ◌∷◌, Bool, ℕ, [], IfErr, IfOk, List, OnOk, length};
+ghost use Rattle.droid_journal_chain.specs.Records.{Record, made};
+ghost use Rattle.droid_journal_rewriting.specs.Faults.{IsOfReading, IsOfTaking};
+ghost use Rattle.droid_journal_rewriting.specs.Noting.{AreNoted};
 ghost use Rattle.droid_journal_rewriting.specs.Numbers.{has_number};
-ghost use Rattle.droid_journal_rewriting.specs.Shortening.{HasBehind, IsWhole, has_ended, once};
+ghost use Rattle.droid_journal_rewriting.specs.Shortening.{IsWhole, has_ended, once};
+ghost use Rattle.droid_journal_rewriting.specs.Skimming.{IsFrontOf};
 
 use crate::fault::RewriteFault;
-use crate::fields::{file_of, is_end, stamp_of};
+use crate::fields::is_end;
 use crate::numbers::Numbers;
-use crate::taker::Taker;
-use crate::whole::take_whole;
+use crate::skim::{Front, skim};
 use droid_journal::LogFile;
 use std::alloc::Global;
 
@@ -22,24 +23,14 @@ pub(crate) struct Ended {
     pub(crate) stamps: Numbers,
 }
 
-impl Taker for Ended {
-    ghost use Rattle.droid_journal_rewriting.specs.Noting.{AreNoted};
-
-    ghost Setting = { Unit {0} };
-
-    ghost took = { λ setting ended its. AreNoted ended.files ended.stamps its };
-
-    fn wants_mark(&self, _request: &[u8], _reply: &[u8]) -> bool {
-        false
-    }
-
-    fn take(
-        &mut self,
-        request: &[u8],
-        _mark: Option<[u8; 16]>,
-        reply: &[u8],
-    ) -> Result<(), RewriteFault> {
-        let stamp = stamp_of(request);
+impl Ended {
+    /// Notes the next record, by what its front tells and the length of its reply. A request that came again ends no file.
+    pub(crate) fn note(&mut self, front: Front, reply: u32) -> Result<(), RewriteFault>
+        ensures noted { (before : List Record) (first : Bool) (request answer : List ℕ) → AreNoted self.old.files self.old.stamps before → IsFrontOf request front.entry → reply ≡ length answer
+            → OnOk result (AreNoted self.new.files self.new.stamps (before ++ made first request answer ∷ [])) }
+        ensures fault { IfErr result IsOfTaking }
+    {
+        let stamp = front.stamp;
         let again = self.stamps.has(stamp);
         if again {
             return Ok(());
@@ -48,10 +39,10 @@ impl Taker for Ended {
             Ok(()) => {}
             Err(_) => return Err(RewriteFault::Memory),
         }
-        if !is_end(request, reply) {
+        if !is_end(front.kind, front.request, reply) {
             return Ok(());
         }
-        let file = file_of(request);
+        let file = front.file;
         match self.files.add(file) {
             Ok(()) => Ok(()),
             Err(_) => Err(RewriteFault::Memory),
@@ -59,26 +50,23 @@ impl Taker for Ended {
     }
 }
 
-/// Returns the files that have ended in a journal. A request that came again ends none.
+/// Returns the files that have ended in a journal with this header. A request that came again ends none. What is returned of
+/// a file that is no such journal says nothing.
 pub(crate) fn ended_in<F: LogFile>(
     alloc: Global,
     file: &F,
     header: &[u8],
-    buffer: &mut [u8],
 ) -> Result<Numbers, RewriteFault>
     requires found { F.is_found file.now }
-    requires window { length buffer.old ≡ 16777216 }
-    ensures window { length buffer.new ≡ 16777216 }
-    ensures ended { (s : List ℕ) → F.has file.now s → IfOk result (λ files. (its : List Record) × IsWhole header.now s its × ((it : ℕ) → has_number files it ≡ has_ended (once [] its) it)) }
-    ensures other_header { IsErrOf result RewriteFault.Header → (s : List ℕ) → F.has file.now s → HasHeader header.now s → ⊥ }
-    ensures behind { (n : ℕ) → IsErrOf result (RewriteFault.Behind n) → (s : List ℕ) → F.has file.now s → HasBehind header.now s n }
+    ensures ended { (s : List ℕ) (its : List Record) → F.has file.now s → IsWhole header.now s its → IfOk result (λ files. (it : ℕ) → has_number files it ≡ has_ended (once [] its) it) }
+    ensures fault { IfErr result IsOfReading }
 {
     let mut ended = Ended {
         files: Numbers::new(alloc),
         stamps: Numbers::new(alloc),
     };
-    match take_whole(alloc, file, &mut ended, header, buffer) {
-        Ok(_) => Ok(ended.files),
+    match skim(file, &mut ended, header.len() as u64) {
+        Ok(()) => Ok(ended.files),
         Err(fault) => Err(fault),
     }
 }

@@ -79,13 +79,30 @@ pub(crate) fn is_about(kind: u8, request: &[u8], reply: &[u8]) -> bool
     request[1] == kind
 }
 
-/// Returns whether a request is the Finish or the Abandon of a file.
-pub(crate) fn is_end(request: &[u8], reply: &[u8]) -> bool
-    ensures test { result ≡ specs.is_end request.now reply.now }
-    ensures least { result ≡ true → 26 ≤ length request.now }
+/// Returns whether a request of the kind `own` is of this kind and about a file, by the lengths of it and its reply.
+fn is_about_by(kind: u8, own: u8, request: u32, reply: u32) -> bool
+    ensures test { result ≡ specs.is_about_by kind own request reply }
+    ensures least { result ≡ true → 26 ≤ request }
 {
-    if is_about(FINISH, request, reply) {
+    if (request as usize) < LEAST {
+        return false;
+    }
+    if request as usize > LONGEST_REQUEST {
+        return false;
+    }
+    if reply as usize > LONGEST_REPLY {
+        return false;
+    }
+    own == kind
+}
+
+/// Returns whether a request of this kind is the Finish or the Abandon of a file, by the lengths of it and its reply.
+pub(crate) fn is_end(own: u8, request: u32, reply: u32) -> bool
+    ensures test { result ≡ specs.is_end_by own request reply }
+    ensures least { result ≡ true → 26 ≤ request }
+{
+    if is_about_by(FINISH, own, request, reply) {
         return true;
     }
-    is_about(ABANDON, request, reply)
+    is_about_by(ABANDON, own, request, reply)
 }

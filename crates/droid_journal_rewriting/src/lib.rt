@@ -1,8 +1,8 @@
 //! Making a journal smaller: all of its records are written anew into another file, those of finished and abandoned files
 //! without the bytes of these files.
 //!
-//! [`rewrite`] reads the old journal twice: first it notes which files have ended, then it writes. [`compact`] also puts the
-//! new file in the place of the old one: it is synced, gets the old one's name ([`replace`]), and the folder is synced. So a
+//! [`rewrite`] first notes which files have ended. For that it reads of each record only the front. Then it reads the whole old
+//! journal, checks it, and writes. [`compact`] also puts the new file in the place of the old one: it is synced, gets the old one's name ([`replace`]), and the folder is synced. So a
 //! crash at any moment leaves one or the other. [`is_mostly_ended`] says whether that is worth it.
 #![tactic(auto)]
 
@@ -19,6 +19,7 @@ mod new_file;
 mod numbers;
 mod rewriter;
 mod size;
+mod skim;
 mod taker;
 mod walk;
 mod weight;

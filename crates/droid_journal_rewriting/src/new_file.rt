@@ -93,7 +93,7 @@ fn rewrite_by<F: LogFile, N: LogFile + Drop>(
     ensures other_header { IsErrOf result RewriteFault.Header → (s : List ℕ) → F.has old.now s → HasHeader header.now s → ⊥ }
     ensures behind { (n : ℕ) → IsErrOf result (RewriteFault.Behind n) → (s : List ℕ) → F.has old.now s → HasBehind header.now s n }
 {
-    let ended = match ended_in(alloc, old, header, buffer) {
+    let ended = match ended_in(alloc, old, header) {
         Ok(ended) => ended,
         Err(fault) => return Err(fault),
     };

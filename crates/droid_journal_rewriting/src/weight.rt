@@ -111,7 +111,7 @@ fn is_mostly_ended_by<F: LogFile>(
     ensures other_header { IsErrOf result RewriteFault.Header → (s : List ℕ) → F.has file.now s → HasHeader header.now s → ⊥ }
     ensures behind { (n : ℕ) → IsErrOf result (RewriteFault.Behind n) → (s : List ℕ) → F.has file.now s → HasBehind header.now s n }
 {
-    let ended = match ended_in(alloc, file, header, buffer) {
+    let ended = match ended_in(alloc, file, header) {
         Ok(ended) => ended,
         Err(fault) => return Err(fault),
     };

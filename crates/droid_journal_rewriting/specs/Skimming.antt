@@ -1,0 +1,13 @@
+-- For proofs: what the front of a record tells.
+use Rattle.std.specs.Prelude.{◌≡◌, ◌≤◌, ℕ, List, ◌++◌, length, drop, slice_index}
+use Rattle.droid_journal_chain.specs.Chains.{chain_bytes}
+use Rattle.droid_journal_chain.specs.Records.{AllFit, Record}
+use Rattle.droid_journal_rewriting.specs.Fields.{file_in, stamp_in}
+use Rattle.droid_journal_rewriting.specs.declared.skim.Front.{Front}
+
+-- the front is that of a record with this request
+pub record IsFrontOf (request : List ℕ) (front : Front) : Type 0 where
+  pub request_is : front.request ≡ length request
+  pub kind_is : front.kind ≡ slice_index request 1
+  pub stamp_is : front.stamp ≡ stamp_in request
+  pub file_is : 26 ≤ length request → front.file ≡ file_in request
