@@ -298,6 +298,8 @@ class BeforeServing(InJournal):
             with connect(service.port) as stream:
                 stream.sendall(b"".join(short))
                 self.assertEqual(read_exactly(stream, len(due)), due)
+            # it has the lock of the file that has the name now
+            self.ends(run_journal(self.path), 4, "fault: Journal in use")
             service.process.kill()
             service.process.wait()
             return service.process.stderr.read()
