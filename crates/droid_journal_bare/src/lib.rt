@@ -7,4 +7,4 @@
 pub mod laws;
 mod writing;
 
-pub use writing::{BARE_FINISH, BARE_PIECE, bare_finish, bare_piece};
+pub use writing::{BARE_FINISH, BARE_PIECE, bare_finish, bare_piece, bare_piece_by};

@@ -1,7 +1,7 @@
 //! Writing bare frames.
 
-ghost use Rattle.std.specs.Prelude.{◌≡◌, ◌+◌, ◌≤◌, ◌++◌, IfOk, drop, length};
-ghost use Rattle.droid_frame.specs.Frames.{frame_bytes};
+ghost use Rattle.std.specs.Prelude.{◌≡◌, ◌+◌, ◌≤◌, ◌++◌, IfOk, drop, length, slice_index};
+ghost use Rattle.droid_frame.specs.Frames.{frame_bytes, mark_of};
 ghost use Rattle.droid_frame.specs.ReplyFrames.{reply_frame};
 ghost use Rattle.droid_frame.specs.types.frame.Frame.{Frame};
 ghost use Rattle.droid_frame.specs.types.reply.Reply.{Reply};
@@ -27,6 +27,23 @@ pub fn bare_piece(alloc: Global, request: &[u8], reply: &[u8]) -> Result<Vec<u8>
         → IfOk result (λ bytes. bytes.items ≡ frame_bytes (frames.bare_piece frame its)) }
 {
     let mark = mark(request[1], &request[HEADER_LENGTH..]);
+    bare_piece_by(alloc, request, mark, reply)
+}
+
+/// Makes the same bytes by the mark of the piece, which the caller computed.
+pub fn bare_piece_by(
+    alloc: Global,
+    request: &[u8],
+    mark: [u8; 16],
+    reply: &[u8],
+) -> Result<Vec<u8>, AllocError>
+    requires header { 18 ≤ length request.now }
+    requires mark { mark ≡ mark_of (slice_index request.now 1) (drop 18 request.now) }
+    requires size { length request.now + length reply.now ≤ 8388608 }
+    ensures bytes { IfOk result (λ bytes. bytes.items ≡ bare_piece_bytes request.now reply.now) }
+    ensures frame { (frame : Frame) (its : Reply) → request.now ≡ frame_bytes frame → reply.now ≡ reply_frame frame.version frame.client frame.number its
+        → IfOk result (λ bytes. bytes.items ≡ frame_bytes (frames.bare_piece frame its)) }
+{
     spell(alloc, request, BARE_PIECE, &mark, reply)
 }
 
