@@ -174,7 +174,9 @@ impl<'a, R: Files<File = File> + Eprint + AllocGlobal> FileDrive<'a, R> {
     }
 
     /// Appends to the file that keeps what is cut off, and brings it to the disk.
-    fn save_all(&mut self, bytes: &[u8]) -> io::Result<()> {
+    fn save_all(&mut self, bytes: &[u8]) -> io::Result<()>
+        ensures { self.new.failed ≡ self.old.failed }
+    {
         let mut torn = match self.torn.take() {
             Some(torn) => torn,
             None => self.open_torn()?,
