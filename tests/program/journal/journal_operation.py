@@ -6,15 +6,15 @@ import shutil
 import socket
 import stat
 import subprocess
-import tempfile
 import threading
+import time
 import unittest
 
 from journal_compact import compact
 from journal_file import header_size, md5, next_check, read, record_bytes
 from journal_session import REGISTRY, InJournal, contents, run_journal, sample_bytes, serving, store
 from lib.connections import SECONDS, connect, listen, read_exactly, read_frame
-from lib.frames import EXPORT, FINISHED, HEADER, MADE, NODE, create, cut, export, export_body, file, finish, folder, frame, piece
+from lib.frames import FINISHED, MADE, NODE, create, cut, export, file, finish, folder, piece
 from lib.program import EVERYDAY, PROGRAM, Serve, faults, run_plainly
 from model_frames import answer, service_of_the_sample
 from registry import Registry
@@ -22,6 +22,7 @@ from service import Service
 
 GIB = 1 << 30
 NOBODY = 65_534
+COPIES = 12
 
 
 def as_nobody():
@@ -49,13 +50,12 @@ class Copies(InJournal):
             asks = Asking(service.port)
             asks.start()
             copies = []
-            for place in range(12):
-                answered = asks.answered
+            for place in range(COPIES):
+                answered = asks.more_than(copies[-1][0] if copies else 0)
                 copies.append((answered, shutil.copyfile(self.path, f"{self.path}-copy{place}")))
-                asks.next.wait(0.05)
             asks.stops = True
             asks.join()
-        self.assertGreater(asks.answered, 12)
+        self.assertGreaterEqual(asks.answered, COPIES)
         requests = [create(1)] + [folder(number, b"%d" % number) for number in range(2, asks.answered + 2)]
         for answered, path in copies:
             status, written, said = run_journal(path, export(9_999_999))
@@ -70,7 +70,13 @@ class Asking(threading.Thread):
 
     def __init__(self, port):
         super().__init__(daemon=True)
-        self.port, self.answered, self.stops, self.next = port, 0, False, threading.Event()
+        self.port, self.answered, self.stops = port, 0, False
+
+    def more_than(self, count):
+        """Waits until more were answered, and returns how many."""
+        while self.answered <= count and self.is_alive():
+            time.sleep(0.001)
+        return self.answered
 
     def run(self):
         with connect(self.port) as stream:
