@@ -1,5 +1,6 @@
-"""Runs `run` with a journal again and again, over a new file and over one with records and a torn end, and refuses another of
-its allocations each time. The file then has what it had, and each accepted command whose reply was written."""
+"""Runs `run` with a journal again and again, over a new file, over one with records and a torn end, and over one that was made
+smaller, and refuses another of its allocations each time. The file then has what it had, and each accepted command whose reply was
+written. And `compact`: the file is the old one or the smaller one."""
 
 import os
 import subprocess
@@ -12,8 +13,9 @@ from lib.frames import REFUSED, create, cut, file, finish, folder, piece
 from lib.program import PROGRAM, SAMPLE, TOP, faults
 
 sys.path += [os.path.join(TOP, "tests", "program", folder) for folder in ("journal", "model", "wire")]
-from journal_file import read  # noqa: E402
+from journal_file import header_size, read  # noqa: E402
 from model_frames import answer, service_of_the_sample  # noqa: E402
+from smaller_file import smaller  # noqa: E402
 
 # the status without memory: 3 and 6 before the journal is read, 4 while it is read and later, 0 where only a request was refused
 STATUSES = {0, 3, 4, 6}
@@ -32,7 +34,7 @@ def due_to(requests):
     return list(cut(answer(service_of_the_sample(), b"".join(requests))[0]))
 
 
-class JournalsRefused(unittest.TestCase):
+class Refused(unittest.TestCase):
     def setUp(self):
         folder_of_all = tempfile.TemporaryDirectory()
         self.addCleanup(folder_of_all.cleanup)
@@ -57,9 +59,11 @@ class JournalsRefused(unittest.TestCase):
             os.remove(name + ".torn")
         return done.returncode, done.stdout, done.stderr, left
 
-    def is_right(self, before, requests):
-        """Whether an end is right, where these records were there: nothing of them is gone, each accepted command that was
-        answered is there, and nothing else. What memory was refused to has changed nothing for those behind it."""
+    def is_right(self, before, requests, stored):
+        """Whether an end is right, where records of these requests were there, which the file has as `stored`: nothing of them is
+        gone, each accepted command that was answered is there, and nothing else. What memory was refused to has changed nothing for
+        those behind it."""
+        whole = dict(zip(stored, before))
 
         def check(status, written, said, left):
             named = faults(b"".join(line for line in said.splitlines(True) if not line.startswith(NOTED)))
@@ -67,7 +71,7 @@ class JournalsRefused(unittest.TestCase):
             answered = [(request, reply) for request, reply in zip(requests, found) if (reply.kind, reply.body) != (REFUSED, MEMORY)]
             accepted = [(request, reply) for request, reply in answered if reply.kind != REFUSED]
             records = read(left).records if left else []
-            kept = [(record.request, next(cut(record.reply))) for record in records]
+            kept = [(whole.get(record.request, record.request), next(cut(record.reply))) for record in records]
             return (
                 (named == b"" if status == 0 else status in STATUSES and named in (b"fault: Memory\n", b"fault: Journal\n"))
                 and [request for request, _ in kept[: len(before)]] == before[: len(kept)]
@@ -80,18 +84,20 @@ class JournalsRefused(unittest.TestCase):
 
         return check
 
-    def each_in_turn(self, data, before, requests):
+    def each_in_turn(self, data, before, requests, stored=()):
         with tempfile.NamedTemporaryFile("r") as file:
             self.run_over(data, requests, {"ALLOCATIONS": file.name})
             numbers = range(1, int(file.read()) + 1)
         self.assertGreaterEqual(len(numbers), FEWEST)
         with ThreadPoolExecutor(len(os.sched_getaffinity(0))) as pool:
             ended = list(pool.map(lambda number: self.run_over(data, requests, {"REFUSE": str(number)}), numbers))
-        is_right = self.is_right(before, requests)
+        is_right = self.is_right(before, requests, stored)
         wrong = [f"allocation {number} of {len(numbers)}: {end[:3]}" for number, end in zip(numbers, ended) if not is_right(*end)]
         self.assertEqual(wrong, [], "\n".join(wrong))
         self.assertEqual({end[0] for end in ended}, STATUSES)
 
+
+class JournalsRefused(Refused):
     def test_a_new_journal(self):
         self.each_in_turn(None, [], EARLIER)
 
@@ -99,6 +105,48 @@ class JournalsRefused(unittest.TestCase):
         _, _, said, data = self.run_over(None, EARLIER, {})
         self.assertEqual((said, len(read(data).records)), (b"", 3))
         self.each_in_turn(data + TORN, EARLIER, LATER)
+
+
+class SmallerJournalsRefused(Refused):
+    """A journal with a finished file, whose bytes it lacks once it is made smaller."""
+
+    ASKED = [*EARLIER, finish(4, 1)]
+
+    def setUp(self):
+        super().setUp()
+        _, _, said, self.data = self.run_over(None, self.ASKED, {})
+        self.assertEqual(said, b"")
+        self.new = smaller(self.data[: header_size()], read(self.data).records)
+
+    def test_a_start(self):
+        stored = [record.request for record in read(self.new).records]
+        self.each_in_turn(self.new, self.ASKED, [folder(5, b"in"), folder(6, b"out")], stored)
+
+    def test_compact(self):
+        """Nothing but the file is left, and `compact` ends well where it is the smaller one."""
+        with tempfile.NamedTemporaryFile("r") as counted:
+            self.assertEqual(self.compacted({"ALLOCATIONS": counted.name}), (0, b"", self.new, 1))
+            numbers = range(1, int(counted.read()) + 1)
+        self.assertGreaterEqual(len(numbers), FEWEST)
+        ended = [self.compacted({"REFUSE": str(number)}) for number in numbers]
+        for number, (status, named, left, files) in zip(numbers, ended):
+            self.assertIn(status, STATUSES, number)
+            self.assertIn(named, (b"",) if status == 0 else (b"fault: Memory\n", b"fault: Journal\n"), number)
+            self.assertEqual((left, files), (self.new if status == 0 else self.data, 1), number)
+        self.assertIn(4, {end[0] for end in ended})
+
+    def compacted(self, variables):
+        """Makes a journal of these bytes smaller: the status, the faults, what is left of it, and how many files."""
+        with tempfile.TemporaryDirectory() as place:
+            path = os.path.join(place, "desk.journal")
+            with open(path, "wb") as made:
+                made.write(self.data)
+            environment = {**os.environ, "LD_PRELOAD": os.environ["REFUSING"], **variables}
+            words = [PROGRAM, "compact", "--registry", SAMPLE, "--quiet", path]
+            done = subprocess.run(words, capture_output=True, timeout=60, env=environment)
+            with open(path, "rb") as found:
+                return done.returncode, faults(done.stderr), found.read(), len(os.listdir(place))
+
 
 if __name__ == "__main__":
     unittest.main()

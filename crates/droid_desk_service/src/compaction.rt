@@ -3,6 +3,7 @@
 ghost use Rattle.std.specs.Prelude.{IfErr};
 ghost use Rattle.droid_desk_service.specs.JournalEndings.{IsCompactionEnd, IsUnopened};
 
+use crate::beside::open_beside;
 use crate::commands::note_sample;
 use crate::ended::Ended;
 use crate::ending::Ending;
@@ -12,9 +13,8 @@ use crate::journal_commands::{
 use crate::journal_fault::JournalFault;
 use crate::smaller_journal::{is_worth_it, make_smaller};
 use droid_desk_arguments::RegistrySource;
-use droid_wire::{DiskFault, DiskLog, Fault, FileDrive, Folder, Service, Size};
+use droid_wire::{DiskLog, Fault, FileDrive, Folder, Service, Size};
 use std::fs::{self, File, Files};
-use std::io::ErrorKind;
 
 /// A journal with more bytes is made smaller before it is served, if most of them are of files that have ended.
 const LARGE: u64 = 67_108_864;
@@ -182,7 +182,7 @@ where
     let Ok(beside) = format!(in rt.alloc(); "{path}.new") else {
         return Err(JournalFault::Closed(Fault::Memory));
     };
-    let drive = match open_beside(rt, beside.as_str()) {
+    let drive = match open_beside(rt, beside.as_str(), path) {
         Ok(drive) => drive,
         Err(kind) => return Err(JournalFault::NotSmaller(Some(kind))),
     };
@@ -197,34 +197,6 @@ where
             let _ = fs::remove_file(rt, beside.as_str());
             Err(JournalFault::of_rewriting(fault))
         }
-    }
-}
-
-/// Opens an empty file. One that is there is removed, unless another process has it open.
-fn open_beside<'b, R>(rt: &'b R, beside: &'b str) -> Result<FileDrive<'b, R>, ErrorKind>
-where
-    R: Files<File = File> + Eprint + AllocGlobal,
-{
-    let left = match FileDrive::open(rt, beside) {
-        Ok(left) => left,
-        Err(fault) => return Err(kind_of(fault)),
-    };
-    if let Err(error) = fs::remove_file(rt, beside) {
-        return Err(error.kind());
-    }
-    drop(left);
-    match FileDrive::open(rt, beside) {
-        Ok(drive) => Ok(drive),
-        Err(fault) => Err(kind_of(fault)),
-    }
-}
-
-/// Names why a file could not be opened, as the system names it.
-fn kind_of(fault: DiskFault) -> ErrorKind {
-    match fault {
-        DiskFault::InUse => ErrorKind::ResourceBusy,
-        DiskFault::NotAFile => ErrorKind::AlreadyExists,
-        DiskFault::Unopened(kind) => kind,
     }
 }
 

@@ -4,6 +4,7 @@
 #![tactic(auto)]
 
 mod advice;
+mod beside;
 mod client;
 mod commands;
 mod compaction;

@@ -1,6 +1,6 @@
 //! The journal.
 
-ghost use Rattle.std.specs.Prelude.{◌≡◌, ◌≤◌, ◌++◌, ℕ, Bool, List, None, true, length, not, IfOk, OnOk, OnErr, IsErr, IsSome};
+ghost use Rattle.std.specs.Prelude.{◌≡◌, ◌≤◌, ◌++◌, ℕ, Bool, List, None, Some, true, length, not, IfErr, IfOk, OnOk, OnErr, IsErr, IsSome};
 ghost use Rattle.droid_frame.specs.Frames.{frame_bytes};
 ghost use Rattle.droid_frame.specs.Replies.{HasReplySpelling};
 ghost use Rattle.droid_frame.specs.ReplyFrames.{reply_frame};
@@ -197,6 +197,7 @@ impl<F: LogFile + Drop, M: Machine + Drop> Journal<F, M> {
         ensures kept { OnErr result (F.kept self.new.file ≡ F.kept self.old.file) }
         ensures fault { OnOk result (self.new.fault ≡ None) }
         ensures closes { OnErr result (IsSome self.new.fault) }
+        ensures told { IfErr result (λ fault. self.new.fault ≡ Some fault) }
         ensures closed { IsSome self.old.fault → IsErr result }
     {
         if let Some(fault) = self.fault {

@@ -1,6 +1,6 @@
 //! A file as the journal sees it.
 
-ghost use Rattle.std.specs.Prelude.{◌≡◌, ◌≤◌, ◌++◌, ℕ, List, length, take, drop, IfOk, OnOk, OnErr};
+ghost use Rattle.std.specs.Prelude.{◌≡◌, ◌≤◌, ◌++◌, ℕ, List, length, take, drop, IfOk, IsErr, OnOk, OnErr};
 ghost use Rattle.droid_journal_chain.specs.Fronts.{IsFront};
 
 /// A call on the file failed.
@@ -20,6 +20,9 @@ pub trait LogFile {
     /// Nothing was appended yet.
     ghost is_found: { Self → Type 0 };
 
+    /// A sync failed. A system may then take for written what the disk lacks, so no later sync of this file succeeds.
+    ghost failed: { Self → Type 0 };
+
     /// Reads from a place on, until the buffer is full or the file ends, and returns how many bytes were read.
     fn read_at(&self, at: u64, buffer: &mut [u8]) -> Result<usize, FileError>
         requires { is_found self.now }
@@ -31,20 +34,24 @@ pub trait LogFile {
         requires first { is_found self.old }
         requires within { (s : List ℕ) → has self.old s → (length (kept self.old) ≤ len) × (len ≤ length s) }
         ensures cut { (s : List ℕ) → has self.old s → OnOk result (has self.new (take len s)) }
-        ensures kept { kept self.new ≡ kept self.old };
+        ensures kept { kept self.new ≡ kept self.old }
+        ensures stays { failed self.old → failed self.new };
 
     /// Writes behind what is there. At an error a front of the bytes may have been written.
     fn append(&mut self, bytes: &[u8]) -> Result<(), FileError>
         ensures appended { (s : List ℕ) → has self.old s → OnOk result (has self.new (s ++ bytes.now)) }
         ensures part { (s : List ℕ) → has self.old s → OnErr result ((part : List ℕ) × has self.new (s ++ part) × IsFront part bytes.now) }
-        ensures kept { kept self.new ≡ kept self.old };
+        ensures kept { kept self.new ≡ kept self.old }
+        ensures stays { failed self.old → failed self.new };
 
-    /// Brings everything to the disk.
+    /// Brings everything to the disk. Once it failed, it fails each time.
     fn sync(&mut self) -> Result<(), FileError>
         ensures synced { (s : List ℕ) → has self.old s → OnOk result (kept self.new ≡ s) }
         ensures same { (s : List ℕ) → has self.old s → has self.new s }
         ensures kept { OnErr result (kept self.new ≡ kept self.old) }
-        ensures grows { IsFront (kept self.old) (kept self.new) };
+        ensures grows { IsFront (kept self.old) (kept self.new) }
+        ensures fails { failed self.old → IsErr result }
+        ensures failed { OnErr result (failed self.new) };
 
     /// What is kept is at the front of what the file has.
     ghost kept_is_there: { (file : Self) (s : List ℕ) → has file s → IsFront (kept file) s };

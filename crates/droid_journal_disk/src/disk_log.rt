@@ -62,6 +62,7 @@ fn save_some<D: Drive>(drive: &mut D, at: u64) -> Result<usize, FileError>
     ensures no_other { (s : List ℕ) → D.has drive.new s → D.has drive.old s }
     ensures kept { D.kept drive.new ≡ D.kept drive.old }
     ensures found { D.is_found drive.old → D.is_found drive.new }
+    ensures stays { D.failed drive.old → D.failed drive.new }
 {
     let mut buffer = [0u8; SAVED];
     let Ok(count) = read_full(drive, at, &mut buffer) else {
@@ -80,6 +81,7 @@ fn save_end<D: Drive>(drive: &mut D, from: u64) -> Result<(), FileError>
     ensures no_other { (s : List ℕ) → D.has drive.new s → D.has drive.old s }
     ensures kept { D.kept drive.new ≡ D.kept drive.old }
     ensures found { D.is_found drive.old → D.is_found drive.new }
+    ensures stays { D.failed drive.old → D.failed drive.new }
 {
     let mut at = from;
     for _ in 0..u64::MAX {
@@ -102,6 +104,7 @@ fn write_all<D: Drive>(drive: &mut D, bytes: &[u8]) -> Result<(), FileError>
     ensures written { (s : List ℕ) → D.has drive.old s → OnOk result (D.has drive.new (s ++ bytes.now)) }
     ensures part { (s : List ℕ) → D.has drive.old s → OnErr result ((part : List ℕ) × D.has drive.new (s ++ part) × IsFront part bytes.now) }
     ensures kept { D.kept drive.new ≡ D.kept drive.old }
+    ensures stays { D.failed drive.old → D.failed drive.new }
 {
     let mut written = 0;
     while written < bytes.len() {
@@ -121,6 +124,8 @@ impl<D: Drive> LogFile for DiskLog<D> {
     ghost kept = { λ log. D.kept log.drive };
 
     ghost is_found = { λ log. D.is_found log.drive };
+
+    ghost failed = { λ log. D.failed log.drive };
 
     ghost kept_is_there = { λ log bytes there. D.kept_is_there log.drive bytes there };
 

@@ -1,6 +1,6 @@
 //! The file system calls that the file of a journal needs.
 
-ghost use Rattle.std.specs.Prelude.{◌≡◌, ◌≤◌, ◌++◌, ◌⊎◌, ℕ, List, [], length, take, drop, IfOk, OnErr, OnOk};
+ghost use Rattle.std.specs.Prelude.{◌≡◌, ◌≤◌, ◌++◌, ◌⊎◌, ℕ, List, [], length, take, drop, IfOk, IsErr, OnErr, OnOk};
 ghost use Rattle.droid_journal_chain.specs.Fronts.{IsFront};
 
 /// A call failed.
@@ -20,6 +20,9 @@ pub trait Drive {
     /// Nothing was appended yet.
     ghost is_found: { Self → Type 0 };
 
+    /// A sync failed. A system may then take for written what the disk lacks.
+    ghost failed: { Self → Type 0 };
+
     /// The bytes of the other file that are on the disk for sure.
     ghost saved: { Self → List ℕ };
 
@@ -37,7 +40,8 @@ pub trait Drive {
         requires within { (s : List ℕ) → has self.old s → (length (kept self.old) ≤ len) × (len ≤ length s) }
         requires saved { (s : List ℕ) → has self.old s → EndsWith (saved self.old) (drop len s) }
         ensures cut { (s : List ℕ) → has self.old s → OnOk result (has self.new (take len s)) }
-        ensures kept { kept self.new ≡ kept self.old };
+        ensures kept { kept self.new ≡ kept self.old }
+        ensures stays { failed self.old → failed self.new };
 
     /// Appends to the other file, and brings it to the disk.
     fn save(&mut self, bytes: &[u8]) -> Result<(), DriveError>
@@ -45,21 +49,25 @@ pub trait Drive {
         ensures same { (s : List ℕ) → has self.old s → has self.new s }
         ensures no_other { (s : List ℕ) → has self.new s → has self.old s }
         ensures kept { kept self.new ≡ kept self.old }
-        ensures found { is_found self.old → is_found self.new };
+        ensures found { is_found self.old → is_found self.new }
+        ensures stays { failed self.old → failed self.new };
 
     /// Writes the first of these bytes behind what the file has, and returns how many.
     fn write_some(&mut self, bytes: &[u8]) -> Result<usize, DriveError>
         ensures bound { IfOk result (λ count. count ≤ length bytes.now) }
         ensures written { (s : List ℕ) → has self.old s → IfOk result (λ count. has self.new (s ++ take count bytes.now)) }
-        ensures failed { (s : List ℕ) → has self.old s → OnErr result (has self.new s) }
-        ensures kept { kept self.new ≡ kept self.old };
+        ensures unwritten { (s : List ℕ) → has self.old s → OnErr result (has self.new s) }
+        ensures kept { kept self.new ≡ kept self.old }
+        ensures stays { failed self.old → failed self.new };
 
-    /// Brings everything to the disk.
+    /// Brings everything to the disk. Once it failed, it fails each time.
     fn sync(&mut self) -> Result<(), DriveError>
         ensures synced { (s : List ℕ) → has self.old s → OnOk result (kept self.new ≡ s) }
         ensures same { (s : List ℕ) → has self.old s → has self.new s }
         ensures kept { OnErr result (kept self.new ≡ kept self.old) }
-        ensures grows { IsFront (kept self.old) (kept self.new) };
+        ensures grows { IsFront (kept self.old) (kept self.new) }
+        ensures fails { failed self.old → IsErr result }
+        ensures failed { OnErr result (failed self.new) };
 
     /// What is kept is at the front of what the file has.
     ghost kept_is_there: { (drive : Self) (s : List ℕ) → has drive s → IsFront (kept drive) s };

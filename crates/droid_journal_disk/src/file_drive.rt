@@ -1,18 +1,21 @@
 //! A file of this machine.
 
-ghost use Rattle.std.specs.Prelude.{[], ◌≤◌, IfOk, length};
+ghost use Rattle.std.specs.Prelude.{[], ◌≡◌, ◌≤◌, IfOk, length, true};
 
 use crate::disk_fault::DiskFault;
 use crate::drive::{Drive, DriveError};
 use std::fs::{self, File, Files, Metadata, OpenFile, OpenOptions};
 use std::io::{self, ErrorKind, Write};
-use std::os::unix::fs::{FileExt, MetadataExt};
+use std::os::unix::fs::{FileExt, MetadataExt, OpenOptionsExt};
 
 /// Progress is printed each time that so many more bytes were read.
 const REPORTED: u64 = 1_073_741_824;
 
 /// How often a call is made that a signal interrupts.
 const TRIES: usize = 64;
+
+/// The bits of a mode that say who may read, write and run a file.
+const MODES: u32 = 0o777;
 
 /// A file of this machine, as one process has it: as long as it is open no other process can open it so. What is cut off
 /// goes into the file with this name and `.torn` behind it.
@@ -23,6 +26,8 @@ pub struct FileDrive<'a, R> {
     file: File,
     torn: Option<File>,
     saved: u64,
+    /// Whether a sync failed. Linux may then take for written what the disk lacks, and the next sync would succeed.
+    failed: bool,
 }
 
 impl<'a, R: Files<File = File> + Eprint + AllocGlobal> FileDrive<'a, R> {
@@ -45,6 +50,7 @@ impl<'a, R: Files<File = File> + Eprint + AllocGlobal> FileDrive<'a, R> {
                 file,
                 torn: None,
                 saved: 0,
+                failed: false,
             }),
             Err(error) => Err(DiskFault::Unopened(error.kind())),
         }
@@ -154,16 +160,23 @@ fn write_once(file: &mut File, bytes: &[u8]) -> io::Result<usize>
 }
 
 impl<'a, R: Files<File = File> + Eprint + AllocGlobal> FileDrive<'a, R> {
-    /// Opens the file that keeps what is cut off.
+    /// Opens the file that keeps what is cut off. If it is made, nobody may read it who may not read the journal.
     fn open_torn(&self) -> io::Result<File> {
         let name = format!(in self.runtime.alloc(); "{}.torn", self.path)?;
-        let torn = open_for_appending(self.runtime, name.as_str())?;
+        let journal = self.file.metadata()?;
+        let torn = OpenOptions::new()
+            .append(true)
+            .create(true)
+            .mode(journal.mode() & MODES)
+            .open(self.runtime, name.as_str())?;
         sync_folder(self.runtime, self.path)?;
         Ok(torn)
     }
 
     /// Appends to the file that keeps what is cut off, and brings it to the disk.
-    fn save_all(&mut self, bytes: &[u8]) -> io::Result<()> {
+    fn save_all(&mut self, bytes: &[u8]) -> io::Result<()>
+        ensures { self.new.failed ≡ self.old.failed }
+    {
         let mut torn = match self.torn.take() {
             Some(torn) => torn,
             None => self.open_torn()?,
@@ -178,10 +191,10 @@ impl<'a, R: Files<File = File> + Eprint + AllocGlobal> FileDrive<'a, R> {
     /// Cuts the file, and prints how many bytes were saved.
     fn cut(&self, len: u64) -> io::Result<()> {
         if self.saved > 0 {
-            eprintln!(self.runtime;
+            let _ = eprintln!(self.runtime;
                 "journal: {} bytes behind the last whole record are now in {}.torn",
                 self.saved, self.path
-            )?;
+            );
         }
         self.file.set_len(len)
     }
@@ -210,6 +223,8 @@ impl<'a, R: Files<File = File> + Eprint + AllocGlobal> Drive for FileDrive<'a, R
     ghost kept = { λ drive. [] };
 
     ghost is_found = { λ drive. Unit {0} };
+
+    ghost failed = { λ drive. drive.failed ≡ true };
 
     ghost saved = { λ drive. [] };
 
@@ -244,6 +259,15 @@ impl<'a, R: Files<File = File> + Eprint + AllocGlobal> Drive for FileDrive<'a, R
     }
 
     fn sync(&mut self) -> Result<(), DriveError> {
-        told(self.file.sync_data())
+        if self.failed {
+            return Err(DriveError);
+        }
+        match self.file.sync_data() {
+            Ok(()) => Ok(()),
+            Err(_) => {
+                self.failed = true;
+                Err(DriveError)
+            }
+        }
     }
 }

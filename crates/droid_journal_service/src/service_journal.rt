@@ -1,6 +1,6 @@
 //! A service with its journal, in histories.
 
-ghost use Rattle.std.specs.Prelude.{◌≡◌, ◌≢◌, ◌≤◌, ◌++◌, ◌⊎◌, ℕ, List, [], None, IfErr, IfOk, IfSome, IsErr, IsErrOf, IsSome, OnErr, OnOk, length};
+ghost use Rattle.std.specs.Prelude.{◌≡◌, ◌≢◌, ◌≤◌, ◌++◌, ◌⊎◌, ℕ, List, [], None, Some, IfErr, IfOk, IfSome, IsErr, IsErrOf, IsSome, OnErr, OnOk, length};
 ghost use Rattle.droid_journal_smaller.specs.core.Histories.{History};
 ghost use Rattle.droid_journal_smaller.specs.core.Identified.{IsOf};
 ghost use Rattle.droid_journal_smaller.specs.core.Setting.{Setting};
@@ -196,6 +196,7 @@ impl<F: LogFile + Drop> ServiceJournal<F> {
             → OnOk result (StandsForHistory F.has F.kept setting header self.new.journal all all) }
         ensures kept { OnErr result (F.kept self.new.journal.file ≡ F.kept self.old.journal.file) }
         ensures closes { OnErr result (IsSome self.new.journal.fault) }
+        ensures told { IfErr result (λ fault. self.new.journal.fault ≡ Some fault) }
         ensures closed { IsSome self.old.journal.fault → IsErr result }
     {
         self.journal.settle()

@@ -1,6 +1,6 @@
 //! A file in memory that tears.
 
-ghost use Rattle.std.specs.Prelude.{[]};
+ghost use Rattle.std.specs.Prelude.{[], ◌≡◌, true};
 
 use droid_journal::{FileError, LogFile};
 
@@ -10,6 +10,7 @@ pub(crate) struct MemoryLog {
     pub(crate) bytes: Vec<u8>,
     pub(crate) synced: usize,
     calls: usize,
+    failed: bool,
 }
 
 impl MemoryLog {
@@ -18,10 +19,13 @@ impl MemoryLog {
             bytes,
             synced: 0,
             calls,
+            failed: false,
         }
     }
 
-    fn next_succeeds(&mut self) -> bool {
+    fn next_succeeds(&mut self) -> bool
+        ensures { self.new.failed ≡ self.old.failed }
+    {
         if self.calls == 0 {
             return false;
         }
@@ -36,6 +40,8 @@ impl LogFile for MemoryLog {
     ghost kept = { λ file. [] };
 
     ghost is_found = { λ file. Unit {0} };
+
+    ghost failed = { λ file. file.failed ≡ true };
 
     ghost kept_is_there = { λ file bytes none. absurd none };
 
@@ -67,7 +73,8 @@ impl LogFile for MemoryLog {
     }
 
     fn sync(&mut self) -> Result<(), FileError> {
-        if !self.next_succeeds() {
+        if self.failed || !self.next_succeeds() {
+            self.failed = true;
             return Err(FileError);
         }
         self.synced = self.bytes.len();

@@ -1,9 +1,10 @@
 -- What a service with a journal does with one frame, and what settling does (this project's own).
-use Rattle.std.specs.Prelude.{◌≡◌, ℕ, Bool, true, false, List, None, IsSome}
+use Rattle.std.specs.Prelude.{◌≡◌, ℕ, Bool, true, false, List, Option, None, IsSome}
 use Rattle.droid_frame.specs.types.frame.Frame.{Frame}
 use Rattle.droid_frame.specs.types.reply.Reply.{Reply}
 use Rattle.droid_journal_service.specs.core.Histories.{History}
 use Rattle.droid_journal_service.specs.core.Setting.{Setting}
+use Rattle.droid_journal_service.specs.journal.declared.fault.Fault.{Fault}
 use Rattle.droid_journal_service.specs.journal.declared.journal.Journal.{Journal}
 use Rattle.droid_journal_service.specs.chain.Records.{Record}
 use Rattle.droid_journal_service.specs.Standing.{AnswersIn, IsNextOr, KeepsHistory, StandsForHistory}
@@ -19,16 +20,18 @@ pub record HandlesIn {F : Type 0} (has : F → List ℕ → Type 0) (kept : F �
       → (written : List Record) × (after : History) × IsNextOr setting all frame after × KeepsHistory kept setting header new.file written synced after
   pub closed : IsSome old.fault → (new.file ≡ old.file) × (new.fault ≡ old.fault)
 
--- If it settles, all of its history is on the disk. If it does not, it has a fault. After a fault it does not.
-pub record SettlesIn {F : Type 0} (has : F → List ℕ → Type 0) (kept : F → List ℕ) (old : Journal F ServiceMachine) (done : Bool) (new : Journal F ServiceMachine) : Type 0 where
+-- If it settles, all of its history is on the disk. If it does not, it has a fault, and that one is noted. After a fault it does
+-- not.
+pub record SettlesIn {F : Type 0} (has : F → List ℕ → Type 0) (kept : F → List ℕ) (old : Journal F ServiceMachine) (done : Bool) (new : Journal F ServiceMachine) (noted : Option Fault) : Type 0 where
   pub settled : (setting : Setting) (header : List ℕ) (synced all : History) → StandsForHistory has kept setting header old synced all
       → done ≡ true → StandsForHistory has kept setting header new all all
   pub kept_is : done ≡ false → kept new.file ≡ kept old.file
   pub closes : done ≡ false → IsSome new.fault
+  pub told : done ≡ false → new.fault ≡ noted
   pub closed : IsSome old.fault → done ≡ false
 
 abbrev pub HandlesSo : {F : Type 0} → (F → List ℕ → Type 0) → (F → List ℕ) → JournalHandler F → Frame → Reply → JournalHandler F → Type 0
 HandlesSo has kept old frame reply new = HandlesIn has kept old.journal.journal frame reply new.journal.journal
 
 abbrev pub SettlesSo : {F : Type 0} → (F → List ℕ → Type 0) → (F → List ℕ) → JournalHandler F → Bool → JournalHandler F → Type 0
-SettlesSo has kept old done new = SettlesIn has kept old.journal.journal done new.journal.journal
+SettlesSo has kept old done new = SettlesIn has kept old.journal.journal done new.journal.journal new.fault

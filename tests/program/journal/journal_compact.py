@@ -184,6 +184,20 @@ class Compaction(AskedByModel):
         for path in (self.folder, link, "/dev/null", "/dev/full", pipe):
             self.ends(compact(path), 4, "fault: Journal")
 
+    def test_owner_and_mode(self):
+        """The smaller file has those of the old one."""
+        old = self.make(ASKED)
+        for mode in (0o600, 0o640, 0o666):
+            store(self.path, old)
+            os.chmod(self.path, mode)
+            if os.geteuid() == 0:
+                os.chown(self.path, 4711, 4712)
+            before = os.stat(self.path)
+            self.assertEqual(compact(self.path)[0], 0)
+            after = os.stat(self.path)
+            self.assertNotEqual(after.st_ino, before.st_ino)
+            self.assertEqual((after.st_mode, after.st_uid, after.st_gid), (before.st_mode, before.st_uid, before.st_gid))
+
     def test_no_registry(self):
         self.before = self.make(ASKED)
         self.stays(compact(self.path, registry=["--registry", os.path.join(self.folder, "none")]), 3, "Read")
@@ -298,6 +312,8 @@ class BeforeServing(InJournal):
             with connect(service.port) as stream:
                 stream.sendall(b"".join(short))
                 self.assertEqual(read_exactly(stream, len(due)), due)
+            # it has the lock of the file that has the name now
+            self.ends(run_journal(self.path), 4, "fault: Journal in use")
             service.process.kill()
             service.process.wait()
             return service.process.stderr.read()

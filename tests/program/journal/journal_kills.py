@@ -1,5 +1,6 @@
 """`serve` with a journal is killed again and again at random moments, while 16 clients ask. Then its file is as it is, or as
-a power cut may leave it: cut anywhere behind what was on the disk (synced.c notes that). Half the time rubbish is behind it.
+a power cut may leave it: cut anywhere behind what was on the disk (synced.c notes that), or with zeros there. Half the time rubbish is
+behind it.
 Each accepted command whose reply came is there with that reply; and all that is there is what the model (model_frames.py)
 answers, in this order."""
 
@@ -163,6 +164,8 @@ class Kills(InJournal):
         self.assertLessEqual(kept, len(data))
         if self.chance.random() < 0.5:
             data = data[: self.chance.randrange(kept, len(data) + 1)]
+        if self.chance.random() < 0.3 and kept < len(data):
+            data = self.with_a_hole(data, kept)
         if self.chance.random() < 0.5:
             data += self.rubbish(data)
         store(self.path, data)
@@ -177,6 +180,12 @@ class Kills(InJournal):
         for client, (replies, _) in self.answers.items():
             for number, reply in replies.items():
                 self.assertEqual(there.get((client, number)), reply, (client, number))
+
+    def with_a_hole(self, data, kept):
+        """Some bytes behind what was on the disk are zeros, as where the blocks behind them came to the disk first."""
+        start = self.chance.randrange(kept, len(data))
+        end = min(len(data), start + self.chance.randrange(1, 5_000))
+        return data[:start] + bytes(end - start) + data[end:]
 
     def rubbish(self, data):
         """Bytes that are no record behind these: any, zeros, an older record, or the front of one."""

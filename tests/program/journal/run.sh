@@ -5,7 +5,10 @@
 set -u
 tests=$(cd "$(dirname "$0")/../.." && pwd)
 . "$tests/lib/modules.sh"
-export PRELOAD_SYNCED="$work/synced.so" PRELOAD_PACED="$work/paced.so" PYTHONPATH="$tests:$tests/program/model:$tests/program/wire"
+export PRELOAD_SYNCED="$work/synced.so" PRELOAD_PACED="$work/paced.so" PRELOAD_NOTED="$work/noted.so"
+export PYTHONPATH="$tests:$tests/program/model:$tests/program/wire"
 build_library synced.c "$PRELOAD_SYNCED"
 build_library paced.c "$PRELOAD_PACED"
-run_modules journal_files journal_smaller journal_compact journal_damage journal_full journal_kills shared_syncs
+build_library noted.c "$PRELOAD_NOTED"
+run_modules journal_files journal_calls journal_rows journal_smaller journal_compact journal_damage journal_full journal_operation journal_kills \
+    shared_syncs

@@ -10,6 +10,7 @@ loop-init g c = record {
   no_other = λ s here. here;
   kept = refl;
   found = λ is. is;
+  stays = λ failed. failed;
 }
 
 pub returns-then-count-lt-SAVED-clause-saved : goal.returns-then-count-lt-SAVED-clause-saved
@@ -38,4 +39,5 @@ loop-preserved g c =
       no_other = λ s here. c.loop.invariant.no_other s (c.save_some.ensures.no_other s here);
       kept = c.save_some.ensures.kept ∙ c.loop.invariant.kept;
       found = λ is_found. c.save_some.ensures.found (c.loop.invariant.found is_found);
+      stays = λ failed. c.save_some.ensures.stays (c.loop.invariant.stays failed);
     }

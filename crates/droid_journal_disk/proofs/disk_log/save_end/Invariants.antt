@@ -8,4 +8,5 @@ invariant-loop g l = record {
   no_other : (s : List ℕ) → g.D.Drive.has l.drive s → g.D.Drive.has l.fn.drive s;
   kept : g.D.Drive.kept l.drive ≡ g.D.Drive.kept l.fn.drive;
   found : g.D.Drive.is_found l.fn.drive → g.D.Drive.is_found l.drive;
+  stays : g.D.Drive.failed l.fn.drive → g.D.Drive.failed l.drive;
 }

@@ -27,6 +27,7 @@ loop-written-preserved g c =
           ap (λ (t : List ℕ). so_far ++ take c.in-Ok.count t) c.split_at.ensures.back ∙ written_on s bytes written c.in-Ok.count in
           subst (g.D.Drive.has c.write_some.new.self) same (c.in-Ok.ensures.written so_far (c.loop-written.invariant.has s here));
       kept = c.write_some.ensures.kept ∙ c.loop-written.invariant.kept;
+      stays = λ failed. c.write_some.ensures.stays (c.loop-written.invariant.stays failed);
     }
 
 pub returns-in-Err-clause-part : goal.returns-in-Err-clause-part
@@ -34,6 +35,6 @@ returns-in-Err-clause-part g c = λ s here.
     let bytes = c.args.bytes.now in
     let written = c.loop-written.written in (
       take written bytes,
-      c.in-Err.ensures.failed (s ++ take written bytes) (c.loop-written.invariant.has s here),
+      c.in-Err.ensures.unwritten (s ++ take written bytes) (c.loop-written.invariant.has s here),
       (drop written bytes, sym (take-append-drop written bytes)),
     )

@@ -7,7 +7,7 @@ pub returns-clause-bytes : goal.returns-clause-bytes
 returns-clause-bytes g c =
     let self = c.args.self.now in
     let reply_is : c.deref.result.now ≡ reply_frame c.args.version c.args.client c.args.number c.args.reply.now = c.deref.ensures.value ∙ c.in_ok-reply.ensures.bytes in
-    c.in_ok-check.ensures.bytes ∙ ap (λ (t : List ℕ). t ++ record_bytes self.start self.check (made (not self.unsynced) c.args.request.now c.deref.result.now)) c.new-bytes.ensures.items
+    c.in_ok-check.ensures.bytes ∙ ap (λ (t : List ℕ). t ++ record_bytes self.start self.check (made (not self.unsynced) c.args.request.now c.deref.result.now)) c.in_ok-bytes.ensures.items
     ∙ ap (λ (r : List ℕ). record_bytes self.start self.check (made (not self.unsynced) c.args.request.now r)) reply_is
 
 pub returns-clause-fits : goal.returns-clause-fits

@@ -1,0 +1,195 @@
+"""The calls of the file system that `run`, `serve` and `compact` make for a journal (noted.c notes them): what is on the disk before
+what, and what comes of each call that fails, as on a broken disk. Only the failed call fails: whoever tries again would succeed, and
+might then say that something is on the disk that the disk has lost."""
+
+import os
+import threading
+import unittest
+
+from journal_compact import compact, smaller_of
+from journal_file import read
+from journal_session import InJournal, contents, run_journal, serving, store
+from lib.connections import connect, read_exactly
+from lib.frames import HEADER, create, export, folder
+from lib.program import faults, preloaded
+from model_frames import answer, service_of_the_sample
+from journal_smaller import ASKED, MORE
+
+FILE, TORN, NEW = "desk.journal", "desk.journal.torn", "desk.journal.new"
+CLIENTS = 6
+ROUNDS = 12
+
+
+def due_to(asked):
+    return answer(service_of_the_sample(), b"".join(asked))[0]
+
+
+class Noted(InJournal):
+    def setUp(self):
+        super().setUp()
+        self.calls = os.path.join(self.folder, os.pardir, os.path.basename(self.folder) + ".calls")
+        self.addCleanup(lambda: os.path.exists(self.calls) and os.remove(self.calls))
+
+    def noting(self, **more):
+        """An environment for a process whose calls are noted, from the first one on."""
+        store(self.calls, b"")
+        return preloaded("NOTED", FOLDER=self.folder, CALLS=self.calls, **more)
+
+    def noted(self):
+        return contents(self.calls).decode("ascii").splitlines()
+
+    def stand_in_order(self, *wanted):
+        """These calls were made, in this order, with others between them."""
+        left = iter(self.noted())
+        for call in wanted:
+            self.assertTrue(any(call == it for it in left), (call, wanted, self.noted()))
+
+
+class Order(Noted):
+    def answers_are_on_the_disk(self):
+        """Nothing is written to anyone between a write to the journal and the next sync of it."""
+        behind, answers = False, 0
+        for call in self.noted():
+            if call == f"write {FILE}":
+                behind = True
+            elif call == f"sync {FILE}":
+                behind = False
+            elif call.startswith("answer"):
+                self.assertFalse(behind, self.noted())
+                answers += 1
+        return answers
+
+    def test_a_new_journal(self):
+        """Its name is on the disk before it has a header, and that before an answer."""
+        self.assertEqual(run_journal(self.path, ASKED[0], env=self.noting())[1], due_to(ASKED[:1]))
+        self.stand_in_order(f"open {FILE}", f"lock {FILE}", "sync .", f"write {FILE}", f"sync {FILE}", f"write {FILE}", f"sync {FILE}", "answer ")
+        self.assertEqual(self.answers_are_on_the_disk(), 1)
+
+    def test_a_start_that_cuts_nothing(self):
+        """It syncs the name and the file, in which a service that was killed may have left records that no disk has."""
+        self.assertEqual(run_journal(self.path, ASKED[0])[0], 0)
+        self.assertEqual(run_journal(self.path, export(99), env=self.noting())[0], 0)
+        self.stand_in_order(f"lock {FILE}", "sync .", f"sync {FILE}", "answer ")
+        self.assertNotIn(f"write {FILE}", self.noted())
+
+    def test_a_torn_end(self):
+        """What is cut off is on the disk under another name before."""
+        self.assertEqual(run_journal(self.path, ASKED[0])[0], 0)
+        whole = contents(self.path)
+        store(self.path, whole + bytes(70_000))
+        self.assertEqual(run_journal(self.path, env=self.noting())[0], 0)
+        self.stand_in_order(f"open {TORN}", "sync .", f"write {TORN}", f"sync {TORN}", f"cut {FILE}", f"sync {FILE}")
+        behind = self.noted()[self.noted().index(f"cut {FILE}") :]
+        self.assertNotIn(f"write {TORN}", behind)
+        self.assertEqual((contents(self.path), contents(self.path + ".torn")), (whole, bytes(70_000)))
+
+    def test_a_smaller_journal(self):
+        """All of it is on the disk before it gets its name, and its name before the command ends."""
+        self.assertEqual(run_journal(self.path, b"".join(ASKED))[0], 0)
+        self.assertEqual(compact(self.path, "--quiet", env=self.noting())[0], 0)
+        self.stand_in_order(f"lock {FILE}", f"lock {NEW}", f"write {NEW}", f"sync {NEW}", f"rename {NEW} {FILE}", "sync .")
+        behind = self.noted()
+        behind = behind[behind.index(f"rename {NEW} {FILE}") :]
+        self.assertEqual([call for call in behind if call.startswith("write")], [])
+        self.assertNotIn(f"write {FILE}", self.noted())
+        self.assertNotIn(f"cut {FILE}", self.noted())
+
+    def test_many_clients(self):
+        """Commands and questions of many connections: no reply goes out, a question's neither, before all records are on the disk."""
+        with serving(self.path, "--forever", env=self.noting(), killed=True) as service:
+            clients = [threading.Thread(target=self.ask, args=(service.port, client)) for client in range(1, CLIENTS + 1)]
+            for client in clients:
+                client.start()
+            for client in clients:
+                client.join()
+        self.assertGreaterEqual(self.answers_are_on_the_disk(), ROUNDS)
+        self.assertGreaterEqual(len(read(contents(self.path)).records), CLIENTS * ROUNDS)
+
+    def ask(self, port, client):
+        with connect(port) as stream:
+            for number in range(1, 3 * ROUNDS, 3):
+                made = create(number, client=client) if number == 1 and client == 1 else folder(number, b"%d-%d" % (client, number), client=client)
+                stream.sendall(made + export(number + 1, client=client, most=1) + folder(number + 2, b"again-%d" % number, client=client))
+                for _ in range(3):
+                    header = read_exactly(stream, HEADER.size)
+                    read_exactly(stream, HEADER.unpack(header)[4])
+
+
+class Failing(Noted):
+    """Each call fails in turn, and no other one."""
+
+    def each_in_turn(self, before, command):
+        """Runs a command over a file of these bytes, or none, with each of its calls failing: what came of it each time."""
+        self.lay(before)
+        command(self.noting())
+        counted = [call for call in self.noted() if not call.startswith("answer")]
+        self.assertGreater(len(counted), 6)
+        for number, call in enumerate(counted, 1):
+            self.lay(before)
+            found = command(self.noting(FAILS=number))
+            self.assertIn(call, self.noted())
+            yield call, found
+
+    def lay(self, before):
+        for name in os.listdir(self.folder):
+            os.remove(os.path.join(self.folder, name))
+        if before is not None:
+            store(self.path, before)
+
+    def closes(self, before, asked):
+        """With each call failing: what was answered is in the file, the program ends by its journal, and the next one goes on."""
+        due = due_to(asked)
+        earlier = read(before).records if before else []
+        for call, (status, written, said) in self.each_in_turn(before, lambda env: run_journal(self.path, b"".join(asked), env=env)):
+            named = b"".join(line for line in said.splitlines(True) if not line.startswith(b"journal: "))
+            self.assertEqual((status, faults(named)), (4, b"fault: Journal\n"), call)
+            self.assertTrue(due.startswith(written), call)
+            left = contents(self.path) if os.path.exists(self.path) else b""
+            kept = b"".join(it.reply for it in read(left).records[len(earlier) :]) if left else b""
+            self.assertTrue(kept.startswith(written) and due.startswith(kept), call)
+            self.assertEqual(run_journal(self.path, b"".join(asked))[:2], (0, due), call)
+
+    def test_a_new_journal(self):
+        self.closes(None, ASKED)
+
+    def test_a_torn_end(self):
+        self.assertEqual(run_journal(self.path)[0], 0)
+        self.closes(contents(self.path) + b"\1\0\0", ASKED[:2])
+
+    def test_a_smaller_journal(self):
+        """FILE is the old one or, where the folder's sync fails, the smaller one; and no other file is left."""
+        self.assertEqual(run_journal(self.path, b"".join(ASKED))[0], 0)
+        old = contents(self.path)
+        new = smaller_of(old)
+        renamed = False
+        for call, (status, _, said) in self.each_in_turn(old, lambda env: compact(self.path, env=env)):
+            self.assertEqual((status, faults(said)), (4, b"fault: Journal\n"), call)
+            found = contents(self.path)
+            self.assertIn(found, (old, new), call)
+            renamed |= found == new
+            self.assertEqual(compact(self.path, "--quiet")[0], 0, call)
+            self.assertEqual((contents(self.path), os.listdir(self.folder)), (new, [FILE]), call)
+        self.assertTrue(renamed)
+
+    def test_interrupted(self):
+        """A read or a write that a signal interrupts is made again."""
+        self.assertEqual(run_journal(self.path, b"".join(ASKED))[0], 0)
+        before, asked, again = contents(self.path), ASKED + MORE, 0
+        due = due_to(ASKED + asked)[len(due_to(ASKED)) :]
+        for number in range(1, len(self.calls_of(before, asked)) + 1):
+            self.lay(before)
+            found = run_journal(self.path, b"".join(asked), env=self.noting(FAILS=number, INTERRUPTED=1))
+            call = [it for it in self.noted() if not it.startswith("answer")][number - 1]
+            if call.split()[0] in ("read", "write"):
+                self.assertEqual(found, (0, due, b""), call)
+                again += 1
+        self.assertGreater(again, 2)
+
+    def calls_of(self, before, asked):
+        self.lay(before)
+        run_journal(self.path, b"".join(asked), env=self.noting())
+        return [call for call in self.noted() if not call.startswith("answer")]
+
+
+if __name__ == "__main__":
+    unittest.main()
