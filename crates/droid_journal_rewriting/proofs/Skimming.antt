@@ -1,6 +1,6 @@
 -- The front of a record, and what is noted of one record after another.
 use Rattle.std.proofs.Common.{◌≡◌, ℕ, ◌+◌, ◌-◌, ◌*◌, ◌^◌, ◌<◌, ◌≤◌, Bool, false, cond, ltb, List, [], ◌∷◌, ◌++◌, Option, Some, None, length, take, drop, refl, sym, ap, subst, ◌∙◌, append_assoc, arith}
-use Rattle.std.specs.Prelude.{slice_index}
+use Rattle.std.specs.Prelude.{MatchOption, slice_index}
 use Rattle.std.specs.Int.{w32, w64, from_be_bytes, to_be_bytes}
 use Rattle.std.proofs.lemmas.Bool.{le-ltb}
 use Rattle.std.proofs.lemmas.List.{append-nil, drop-drop, drop-take, drop_at, length-append, length-take, take-take, take_at}
@@ -95,18 +95,17 @@ module _ (start check : List ℕ) (it : Record) (rest : List ℕ) (fit : Fits it
         ap (λ (t : List ℕ). take 4 (drop 1 t)) is ∙ within 1 4 64 whole (omega arith) ∙ ap (λ (t : List ℕ). take 4 (drop 1 t)) grouped ∙ take_at (to_be_bytes w32 (length it.request)) (it.request ++ behind) 4 refl in
         number_seen (drop 1 seen) (length it.request) small four
 
-    pub has_size : number_in (drop 1 seen) ≡ None → ⊥
-    has_size none = let some = size_is in cc
-
-    pub front_right : (front : Front) → number_in (drop 1 seen) ≡ Some front.request → front.kind ≡ slice_index (drop 5 seen) 1 → front.stamp ≡ stamp_in (drop 5 seen) → front.file ≡ file_in (drop 5 seen) → IsFrontOf it.request front
-    front_right front request kind stamp file =
-        let part : drop 5 seen ≡ take 59 (it.request ++ behind) =
-        ap (λ (t : List ℕ). drop 5 t) is ∙ drop-take 5 59 (record_bytes start check it ++ rest) ∙ ap (λ (t : List ℕ). take 59 t) from_request in
+    -- `lengths` is what stands from the length of the request on, and `own` from the request on
+    pub front_right : (lengths own : List ℕ) (front : Front) → lengths ≡ drop 1 seen → own ≡ drop 5 seen → number_in lengths ≡ Some front.request → front.kind ≡ slice_index own 1 → front.stamp ≡ stamp_in own → front.file ≡ file_in own
+        → IsFrontOf it.request front
+    front_right lengths own front lengths_are own_is request kind stamp file =
+        let part : own ≡ take 59 (it.request ++ behind) =
+        own_is ∙ ap (λ (t : List ℕ). drop 5 t) is ∙ drop-take 5 59 (record_bytes start check it ++ rest) ∙ ap (λ (t : List ℕ). take 59 t) from_request in
         record {
-          request_is = some_is front.request (length it.request) (sym request ∙ size_is);
-          kind_is = kind ∙ kind_same 59 (drop 5 seen) it.request behind part (omega arith) fit.header;
-          stamp_is = stamp ∙ stamp_same 59 (drop 5 seen) it.request behind part (omega arith) fit.header;
-          file_is = λ about. file ∙ file_same 59 (drop 5 seen) it.request behind part (omega arith) about;
+          request_is = some_is front.request (length it.request) (sym request ∙ ap number_in lengths_are ∙ size_is);
+          kind_is = kind ∙ kind_same 59 own it.request behind part (omega arith) fit.header;
+          stamp_is = stamp ∙ stamp_same 59 own it.request behind part (omega arith) fit.header;
+          file_is = λ about. file ∙ file_same 59 own it.request behind part (omega arith) about;
         }
 
   module _ (s : List ℕ) (at : ℕ) (there : drop at s ≡ record_bytes start check it ++ rest) where
@@ -193,3 +192,16 @@ end_same request reply front size is size_is =
 
 pub end_long : (request : List ℕ) (front : Front) → IsFrontOf request front → 26 ≤ front.request → 26 ≤ length request
 end_long request front is long = omega (arith, long, is.request_is)
+
+-- ---- what was found, or nothing
+
+pub none_left : {A : Type 0} (P : A → Type 0) (seen : Option A) → seen ≡ None → MatchOption seen ⊥ P → ⊥
+none_left P None is told = told
+none_left P (Some x) is told = absurd cc
+
+pub some_left : {A : Type 0} (P : A → Type 0) (seen : Option A) (x : A) → seen ≡ Some x → MatchOption seen ⊥ P → P x
+some_left P None x is told = absurd told
+some_left P (Some y) x is told = subst P (some_is y x is) told
+
+pub not_both : {A : Type 0} (seen : Option A) (x : A) → seen ≡ None → seen ≡ Some x → ⊥
+not_both seen x none some = cc

@@ -1,7 +1,5 @@
 -- For proofs: what the front of a record tells.
-use Rattle.std.specs.Prelude.{◌≡◌, ◌≤◌, ℕ, List, ◌++◌, length, drop, slice_index}
-use Rattle.droid_journal_chain.specs.Chains.{chain_bytes}
-use Rattle.droid_journal_chain.specs.Records.{AllFit, Record}
+use Rattle.std.specs.Prelude.{◌≡◌, ◌≤◌, ℕ, List, length, slice_index}
 use Rattle.droid_journal_rewriting.specs.Fields.{file_in, stamp_in}
 use Rattle.droid_journal_rewriting.specs.declared.skim.Front.{Front}
 

@@ -1,0 +1,17 @@
+use Rattle.std.proofs.Common.{ap}
+use Rattle.droid_journal_rewriting.specs.declared.ended_files.Ended.{Ended}
+use Rattle.droid_journal_rewriting.proofs.Skimming.{none_left, not_both, skims_end, skims_on, some_left}
+use Rattle.droid_journal_rewriting.proofs.skim.skim.Goals as goal
+
+pub returns-in-None-clause-noted : goal.returns-in-None-clause-noted
+returns-in-None-clause-noted g c = λ s start check its here fit is noted.
+    let so_far = c.loop.invariant s start check its here fit is noted in
+    skims_end s start its c.loop.at c.loop.ended.files c.loop.ended.stamps c.skim_one.new.ended.files c.skim_one.new.ended.stamps so_far
+    (λ check it rest fits there known. none_left _ c.in-Ok.next c.in-None.is (c.in-Ok.ensures.there s start check so_far.before it rest here fits there known))
+    (λ end. let same = (c.in-Ok.ensures.none s here end).1 in (ap (λ (e : Ended). e.files) same, ap (λ (e : Ended). e.stamps) same))
+
+pub loop-preserved : goal.loop-preserved
+loop-preserved g c = λ s start check its here fit is noted.
+    skims_on s start its c.loop.at c.loop.ended.files c.loop.ended.stamps c.in-Some.place c.skim_one.new.ended.files c.skim_one.new.ended.stamps (c.loop.invariant s start check its here fit is noted)
+    (λ check before it rest fits there known. some_left _ c.in-Ok.next c.in-Some.place c.in-Some.is (c.in-Ok.ensures.there s start check before it rest here fits there known))
+    (λ end. not_both c.in-Ok.next c.in-Some.place (c.in-Ok.ensures.none s here end).0 c.in-Some.is)
