@@ -9,6 +9,7 @@ ghost use Rattle.droid_fixity_lists.specs.Profiles.{profile_of};
 use crate::csv_error::csv_fault;
 use crate::draft::Draft;
 use crate::fault::ListFault;
+use crate::plain_list::plain_items;
 use csv::{ByteRecord, ReaderBuilder};
 use droid_fixity::Item;
 use std::alloc::Global;
@@ -21,6 +22,9 @@ pub fn read_profile(alloc: Global, text: &[u8]) -> Result<Vec<Item>, ListFault>
     // The result is that of the records that `csv` reads, unless memory runs out.
     ensures { (records : List (List (List ℕ))) → AreRecords default_config st.StartRecord (strip_bom text.now) records → Gives result (profile_of records) }
 {
+    if let Some(items) = plain_items(alloc, text)? {
+        return Ok(items);
+    }
     // `Draft::take` judges the number of fields, so the reader accepts any number.
     let mut reader = ReaderBuilder::new()
         .has_headers(false)
