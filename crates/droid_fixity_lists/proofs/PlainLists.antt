@@ -1,13 +1,13 @@
 -- Lists whose rows are all plain, by what `csv` reads of them.
-use Rattle.std.proofs.Common.{◌≡◌, ◌∙◌, ℕ, ◌+◌, List, [], ◌∷◌, Option, Some, None, IfSome, Vec, Result, Ok, length, refl, sym, ap, subst, arith}
+use Rattle.std.proofs.Common.{◌≡◌, ◌∙◌, ℕ, ◌+◌, List, [], ◌∷◌, Option, Some, None, IfSome, Vec, Result, Ok, length, refl, ap, subst, arith}
 use Rattle.std.specs.declared.alloc.Global.{Global}
-use Rattle.csv.specs.Machine.{Read, next_record}
+use Rattle.csv.specs.Machine.{next_record}
 use Rattle.csv.specs.Reading.{AreRecords, default_config, strip_bom}
 use Rattle.csv.specs.declared.parser.State.TheVariants as st
 use Rattle.droid_frame.specs.types.hash_kind.HashKind.{HashKind}
 use Rattle.droid_fixity.specs.declared.item.Item.{Item}
 use Rattle.droid_fixity_lists.specs.PlainRows.{after_header}
-use Rattle.droid_fixity_lists.specs.Profiles.{Draft, after, digest_of_header, finished, item_of, items_from, nothing_read, profile_of, repeats, taken, with_header, with_item, with_row}
+use Rattle.droid_fixity_lists.specs.Profiles.{Draft, after, digest_of_header, item_of, items_from, profile_of, repeats, taken, with_header, with_item, with_row}
 use Rattle.droid_fixity_lists.specs.declared.fault.ListFault.{ListFault}
 use Rattle.droid_fixity_lists.proofs.Reading.{Left, more_by, none_by}
 

@@ -1,5 +1,5 @@
 -- Rows whose fields all stand between double quotes, by what `csv` reads of them.
-use Rattle.std.proofs.Common.{Bor, ◌≡◌, ◌∙◌, ◌<◌, ◌+◌, ℕ, zero, suc, ◌==◌, Bool, true, false, not, List, [], ◌∷◌, ◌++◌, ◌≤◌, set, append-nil, append_assoc, length, take, drop, get_or, Option, Some, None, Result, Ok, refl, sym, ap, subst, arith}
+use Rattle.std.proofs.Common.{Bor, ◌≡◌, ◌∙◌, ◌<◌, ◌+◌, ℕ, zero, suc, ◌==◌, true, false, not, List, [], ◌∷◌, ◌++◌, ◌≤◌, set, append-nil, append_assoc, length, take, drop, get_or, Some, refl, sym, ap, subst, arith}
 use Rattle.std.specs.List.{list_all, position}
 use Rattle.std.proofs.lemmas.Bool.{and_from, and_parts, eqb-true, not-true}
 use Rattle.std.proofs.lemmas.List.{drop_more, length-append, length-set, map-append, take-append-drop, take_all, take_more_set}

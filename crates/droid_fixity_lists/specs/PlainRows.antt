@@ -1,6 +1,6 @@
 -- Rows whose fields all stand between double quotes and have none in them, as in most rows that this program writes
 -- (docs/CSV.md).
-use Rattle.std.specs.Prelude.{◌≡◌, ℕ, ◌==◌, Bool, true, not, List, [], ◌∷◌, ◌++◌, map, Option, Some, None}
+use Rattle.std.specs.Prelude.{◌≡◌, ℕ, ◌==◌, Bool, true, not, List, [], ◌∷◌, ◌++◌, map, Some, None}
 use Rattle.std.specs.Borrow.{Bor}
 use Rattle.std.specs.List.{list_all}
 use Rattle.droid_frame.specs.types.hash_kind.HashKind.{HashKind}
