@@ -17,7 +17,8 @@ use std::alloc::Global;
 /// Reads the CSV of a profile or of an export, with any of the three hash columns. docs/CSV.md describes it.
 ///
 /// A row whose columns are the same as those of the row before it, but for the last four, the format's, adds no item. An
-/// error names the first malformed record. A field of a hash may be empty.
+/// error names the first malformed record. A field of a hash may be empty. A list whose fields all stand between double
+/// quotes and have none in them takes the least time.
 pub fn read_profile(alloc: Global, text: &[u8]) -> Result<Vec<Item>, ListFault>
     // The result is that of the records that `csv` reads, unless memory runs out.
     ensures { (records : List (List (List ℕ))) → AreRecords default_config st.StartRecord (strip_bom text.now) records → Gives result (profile_of records) }
