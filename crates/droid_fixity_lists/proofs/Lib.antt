@@ -1,3 +1,5 @@
 mod Names
 pub mod Numbers
+mod PlainLists
+mod PlainRows
 mod Reading

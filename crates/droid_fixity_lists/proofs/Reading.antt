@@ -43,7 +43,7 @@ ends_reading a b (csv.Serialize text) flexible why = why
 ends_reading a b (csv.Deserialize pos err) flexible why = why
 
 -- the records of what is left, if a record comes next
-more_by : (config : Config) (state : State) (bytes : List ℕ) (records : List (List (List ℕ))) (read : Read) → next_record config state [] [] bytes ≡ Some read → AreRecords config state bytes records
+pub more_by : (config : Config) (state : State) (bytes : List ℕ) (records : List (List (List ℕ))) (read : Read) → next_record config state [] [] bytes ≡ Some read → AreRecords config state bytes records
     → (rest : List (List (List ℕ))) × (records ≡ read.0 ∷ rest) × AreRecords config read.1 read.2 rest
 unfolding Reached
 more_by config state bytes [] read next are =
@@ -58,7 +58,7 @@ more_by config state bytes (fields ∷ records) read next are =
     )
 
 -- there is no record left
-none_by : (config : Config) (state : State) (bytes : List ℕ) (records : List (List (List ℕ))) → next_record config state [] [] bytes ≡ None → AreRecords config state bytes records → records ≡ []
+pub none_by : (config : Config) (state : State) (bytes : List ℕ) (records : List (List (List ℕ))) → next_record config state [] [] bytes ≡ None → AreRecords config state bytes records → records ≡ []
 unfolding Reached
 none_by config state bytes [] next are = refl
 none_by config state bytes (fields ∷ records) next are = let some = are.2.1 in absurd cc

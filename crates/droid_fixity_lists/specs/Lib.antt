@@ -1,3 +1,4 @@
 pub mod Calls
 pub mod Fields
+pub mod PlainRows
 pub mod Profiles

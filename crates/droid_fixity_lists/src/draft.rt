@@ -7,7 +7,7 @@ ghost use Rattle.droid_fixity_lists.specs.Profiles as profiles;
 
 use crate::fault::ListFault;
 use crate::header::digest_of_header;
-use crate::row::{field, item_of};
+use crate::row::{Row, item_of};
 use csv::ByteRecord;
 use droid_fixity::Item;
 use droid_frame::HashKind;
@@ -111,7 +111,7 @@ fn keep_last(alloc: Global, last: &mut Option<ByteRecord>, row: &mut ByteRecord)
 }
 
 /// Adds an item, unless its row repeats the row before it.
-fn note_item(items: &mut Vec<Item>, item: Item, repeated: bool) -> Result<(), AllocError>
+pub(crate) fn note_item(items: &mut Vec<Item>, item: Item, repeated: bool) -> Result<(), AllocError>
     ensures { OnOk result (items.new.items ≡ profiles.with_item items.old.items item repeated) }
 {
     if repeated {
@@ -125,8 +125,8 @@ fn note_item(items: &mut Vec<Item>, item: Item, repeated: bool) -> Result<(), Al
 const SHARED_COLUMNS: [usize; 14] = [0, 1, 2, 3, 4, 5, 6, 7, 8, 9, 10, 11, 12, 13];
 
 /// Returns whether a row repeats the row before it, if there was one.
-fn repeats(last: Option<&ByteRecord>, row: &ByteRecord) -> bool
-    ensures { result ≡ profiles.repeats (option_map fields_of (option_copied last.entry)) (fields_of row.now) }
+pub(crate) fn repeats<R: Row>(last: Option<&R>, row: &R) -> bool
+    ensures { result ≡ profiles.repeats (option_map R.fields (option_copied last.entry)) (R.fields row.now) }
 {
     match last {
         Some(last) => are_same(last, row),
@@ -135,8 +135,8 @@ fn repeats(last: Option<&ByteRecord>, row: &ByteRecord) -> bool
 }
 
 /// Returns whether two rows have the same bytes in each column that all rows of a file share.
-fn are_same(last: &ByteRecord, row: &ByteRecord) -> bool
-    ensures { result ≡ profiles.are_same (fields_of last.now) (fields_of row.now) }
+fn are_same<R: Row>(last: &R, row: &R) -> bool
+    ensures { result ≡ profiles.are_same (R.fields last.now) (R.fields row.now) }
 {
     SHARED_COLUMNS
         .iter()
@@ -144,8 +144,8 @@ fn are_same(last: &ByteRecord, row: &ByteRecord) -> bool
 }
 
 /// Returns whether two rows have the same bytes in a column.
-fn has_same(last: &ByteRecord, row: &ByteRecord, column: usize) -> bool
-    ensures { result ≡ profiles.same_column (fields_of last.now) (fields_of row.now) column }
+fn has_same<R: Row>(last: &R, row: &R, column: usize) -> bool
+    ensures { result ≡ profiles.same_column (R.fields last.now) (R.fields row.now) column }
 {
-    field(last, column) == field(row, column)
+    last.field(column) == row.field(column)
 }

@@ -1,22 +1,20 @@
 //! The names of a profile's columns.
 
 ghost use Rattle.std.specs.Prelude.{◌≡◌, IfOk};
-ghost use Rattle.csv.specs.Records.{fields_of};
 ghost use Rattle.droid_fixity_lists.specs.Profiles as profiles;
 
-use crate::row::field;
-use csv::ByteRecord;
+use crate::row::Row;
 use droid_frame::HashKind;
 use std::alloc::{AllocError, Global};
 
 /// Returns the kind of hash that a header says, if the record is the header of a profile.
-pub(crate) fn digest_of_header(
+pub(crate) fn digest_of_header<R: Row>(
     alloc: Global,
-    row: &ByteRecord,
+    row: &R,
 ) -> Result<Option<HashKind>, AllocError>
-    ensures { IfOk result (λ digest. digest ≡ profiles.digest_of_header (fields_of row.now)) }
+    ensures { IfOk result (λ digest. digest ≡ profiles.digest_of_header (R.fields row.now)) }
 {
-    if row.len() != 18 {
+    if row.count() != 18 {
         return Ok(None);
     }
     let names = joined(alloc, row)?;
@@ -24,12 +22,12 @@ pub(crate) fn digest_of_header(
 }
 
 /// Joins the fields of a record, each with a comma after it.
-fn joined(alloc: Global, row: &ByteRecord) -> Result<Vec<u8>, AllocError>
-    ensures { IfOk result (λ names. names.items ≡ profiles.joined (fields_of row.now)) }
+fn joined<R: Row>(alloc: Global, row: &R) -> Result<Vec<u8>, AllocError>
+    ensures { IfOk result (λ names. names.items ≡ profiles.joined (R.fields row.now)) }
 {
     let mut names = Vec::new(alloc);
-    for place in 0..row.len() {
-        names.extend_from_slice(field(row, place))?;
+    for place in 0..row.count() {
+        names.extend_from_slice(row.field(place))?;
         names.push(b',')?;
     }
     Ok(names)

@@ -6,6 +6,8 @@ mod draft;
 mod fault;
 mod fields;
 mod header;
+mod plain_list;
+mod plain_row;
 mod profile;
 mod row;
 

@@ -9,6 +9,7 @@ ghost use Rattle.droid_fixity_lists.specs.Profiles.{profile_of};
 use crate::csv_error::csv_fault;
 use crate::draft::Draft;
 use crate::fault::ListFault;
+use crate::plain_list::plain_items;
 use csv::{ByteRecord, ReaderBuilder};
 use droid_fixity::Item;
 use std::alloc::Global;
@@ -16,11 +17,15 @@ use std::alloc::Global;
 /// Reads the CSV of a profile or of an export, with any of the three hash columns. docs/CSV.md describes it.
 ///
 /// A row whose columns are the same as those of the row before it, but for the last four, the format's, adds no item. An
-/// error names the first malformed record. A field of a hash may be empty.
+/// error names the first malformed record. A field of a hash may be empty. A list whose fields all stand between double
+/// quotes and have none in them takes the least time.
 pub fn read_profile(alloc: Global, text: &[u8]) -> Result<Vec<Item>, ListFault>
     // The result is that of the records that `csv` reads, unless memory runs out.
     ensures { (records : List (List (List ℕ))) → AreRecords default_config st.StartRecord (strip_bom text.now) records → Gives result (profile_of records) }
 {
+    if let Some(items) = plain_items(alloc, text)? {
+        return Ok(items);
+    }
     // `Draft::take` judges the number of fields, so the reader accepts any number.
     let mut reader = ReaderBuilder::new()
         .has_headers(false)

@@ -1,6 +1,7 @@
 pub mod SameNumbers
 pub mod Going
 pub mod Passing
+pub mod Waiting
 pub mod Wholes
 pub mod Ending
 pub mod Shortening

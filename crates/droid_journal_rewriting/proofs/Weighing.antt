@@ -1,8 +1,7 @@
 -- Weighing pieces, one record after another.
-use Rattle.std.proofs.Common.{◌≡◌, ℕ, ◌+◌, ◌&&◌, Bool, true, false, cond, List, [], ◌∷◌, ◌++◌, refl, sym, ap, ◌∙◌, arith}
+use Rattle.std.proofs.Common.{◌≡◌, ℕ, ◌+◌, ◌&&◌, Bool, cond, List, [], ◌∷◌, ◌++◌, ap, arith}
 use Rattle.std.proofs.lemmas.List.Sums.{sum_by_push}
-use Rattle.std.specs.List.{sum_by}
-use Rattle.droid_journal_chain.specs.Records.{Record, made}
+use Rattle.droid_journal_chain.specs.Records.{Record}
 use Rattle.droid_journal_rewriting.specs.Fields.{file_in, is_about}
 use Rattle.droid_journal_rewriting.specs.Numbers.{has_number}
 use Rattle.droid_journal_rewriting.specs.Sizes.{piece_bytes, size_of}

@@ -6,6 +6,7 @@ pub mod Numbers
 pub mod Noting
 pub mod Faults
 pub mod Taking
+pub mod Waiting
 pub mod Aims
 pub mod Writing
 pub mod Weighing

@@ -29,7 +29,16 @@ impl Taker for Ended {
 
     ghost took = { λ setting ended its. AreNoted ended.files ended.stamps its };
 
-    fn take(&mut self, request: &[u8], reply: &[u8]) -> Result<(), RewriteFault> {
+    fn wants_mark(&self, _request: &[u8], _reply: &[u8]) -> bool {
+        false
+    }
+
+    fn take(
+        &mut self,
+        request: &[u8],
+        _mark: Option<[u8; 16]>,
+        reply: &[u8],
+    ) -> Result<(), RewriteFault> {
         let stamp = stamp_of(request);
         let again = self.stamps.has(stamp);
         if again {

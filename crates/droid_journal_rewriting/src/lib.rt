@@ -6,6 +6,7 @@
 //! crash at any moment leaves one or the other. [`is_mostly_ended`] says whether that is worth it.
 #![tactic(auto)]
 
+mod batch;
 mod compaction;
 mod ended_files;
 mod exchange;
@@ -13,6 +14,7 @@ mod fault;
 mod fields;
 mod folder;
 pub mod laws;
+mod marks;
 mod new_file;
 mod numbers;
 mod rewriter;

@@ -1,15 +1,17 @@
 //! Taking the records of a file, a part of it at a time.
 
-ghost use Rattle.std.specs.Prelude.{◌≡◌, ◌*◌, ◌+◌, ◌<◌, ◌≤◌, ◌^◌, ℕ, List, IfErr, IfNone, IfOk, IfSome, drop, length};
+ghost use Rattle.std.specs.Prelude.{◌≡◌, ◌*◌, ◌+◌, ◌<◌, ◌≤◌, ◌^◌, ℕ, List, [], IfErr, IfNone, IfOk, IfSome, drop, length};
 ghost use Rattle.droid_journal_chain.specs.Chains.{BeginsNoRecord, BeginsWith};
 ghost use Rattle.droid_journal_chain.specs.Records.{Record, made};
 ghost use Rattle.droid_journal_rewriting.specs.Faults.{IsOfReading, IsOfTaking};
 ghost use Rattle.droid_journal_rewriting.specs.Taking.{Passes, StandIn, StandThere, Takes};
 
+use crate::batch::{Lanes, take_later, take_waiting};
 use crate::fault::RewriteFault;
 use crate::taker::Taker;
 use droid_journal::LogFile;
 use droid_journal_chain::{Found, record_of};
+use std::alloc::Global;
 
 /// How many bytes of a file are read at once.
 pub(crate) const WINDOW: usize = 16_777_216;
@@ -44,15 +46,18 @@ fn next_of<'a>(start: &[u8], check: [u8; 16], bytes: &'a [u8]) -> Option<Found<'
     record_of(start, &check, bytes)
 }
 
-/// Takes each record at the front of bytes, behind `records` records of which the last has this check value.
-fn take_records<T: Taker>(
+/// Takes each record at the front of bytes, behind `records` records of which the last has this check value. None waits before
+/// or after it.
+fn take_records<'a, T: Taker>(
     taker: &mut T,
+    waiting: &mut Vec<Found<'a>>,
     start: &[u8],
     check: [u8; 16],
     records: u64,
-    bytes: &[u8],
+    bytes: &'a [u8],
 ) -> Result<Taken, RewriteFault>
     requires count { records + length bytes.now < 2 ^ 64 }
+    requires none { waiting.old.items ≡ [] }
     ensures takes { IfOk result (λ x. Takes T.took start.now check bytes.now records taker.old x.used x.check x.records taker.new) }
     ensures bound { IfOk result (λ x. x.used ≤ length bytes.now) }
     ensures fault { IfErr result IsOfTaking }
@@ -60,14 +65,19 @@ fn take_records<T: Taker>(
     let mut rest = bytes;
     let mut check = check;
     let mut records = records;
+    let mut lanes = Lanes::idle();
     while let Some(found) = next_of(start, check, rest) {
         records += 1;
-        match taker.take(found.request, found.reply) {
-            Ok(()) => {}
+        match take_later(taker, waiting, lanes, found) {
+            Ok(now) => lanes = now,
             Err(fault) => return Err(fault),
         }
         check = found.check;
         rest = found.rest;
+    }
+    match take_waiting(taker, waiting, lanes) {
+        Ok(()) => {}
+        Err(fault) => return Err(fault),
     }
     Ok(Taken {
         used: bytes.len() - rest.len(),
@@ -78,6 +88,7 @@ fn take_records<T: Taker>(
 
 /// Takes the records from a place on that are whole in what is read at once.
 fn take_some<F: LogFile, T: Taker>(
+    alloc: Global,
     file: &F,
     taker: &mut T,
     start: &[u8],
@@ -96,7 +107,15 @@ fn take_some<F: LogFile, T: Taker>(
     let Ok(count) = file.read_at(from.at, buffer) else {
         return Err(RewriteFault::Read);
     };
-    let part = match take_records(taker, start, from.check, from.records, &buffer[..count]) {
+    let mut waiting = Vec::new(alloc);
+    let part = match take_records(
+        taker,
+        &mut waiting,
+        start,
+        from.check,
+        from.records,
+        &buffer[..count],
+    ) {
         Ok(part) => part,
         Err(fault) => return Err(fault),
     };
@@ -113,6 +132,7 @@ fn take_some<F: LogFile, T: Taker>(
 
 /// Takes all records from a place on.
 pub(crate) fn take_all<F: LogFile, T: Taker>(
+    alloc: Global,
     file: &F,
     taker: &mut T,
     start: &[u8],
@@ -129,7 +149,7 @@ pub(crate) fn take_all<F: LogFile, T: Taker>(
 {
     let mut place = from;
     for _ in 0..u64::MAX {
-        let next = match take_some(file, taker, start, place, buffer) {
+        let next = match take_some(alloc, file, taker, start, place, buffer) {
             Ok(next) => next,
             Err(fault) => return Err(fault),
         };

@@ -16,7 +16,7 @@ loop-preserved c =
       c.in-Ok-true.ensures.flexible ∙ inv.3,
       n.rest,
       n.source,
-      λ records are. left_more c.loop.reader c.read_byte_record.new.self inv.4 (fields_of c.read_byte_record.new.row) n (draft_of c.loop.draft) (draft_of c.take.new.self) (profile_of records) c.in_default.ensures (inv.6 records are),
+      λ records are. left_more c.loop.reader c.read_byte_record.new.self inv.4 (fields_of c.read_byte_record.new.row) n (draft_of c.loop.draft) (draft_of c.take.new.self) (profile_of records) c.in_default-take.ensures (inv.6 records are),
     )
 
 pub returns-in-Ok-false : goal.returns-in-Ok-false

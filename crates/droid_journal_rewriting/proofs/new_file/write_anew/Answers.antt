@@ -1,4 +1,4 @@
-use Rattle.std.proofs.Common.{◌≡◌, length, refl, ap, subst, arith}
+use Rattle.std.proofs.Common.{length, refl, ap, subst, arith}
 use Rattle.std.proofs.lemmas.List.{length-append}
 use Rattle.droid_journal_rewriting.specs.Aims.{Aim}
 use Rattle.droid_journal_rewriting.proofs.Writing.{begun}

@@ -1,4 +1,4 @@
-use Rattle.std.proofs.Common.{◌≡◌, ◌<◌, ◌*◌, ℕ, List, [], length, subst}
+use Rattle.std.proofs.Common.{◌≡◌, ◌<◌, ◌*◌, List, [], length, subst}
 use Rattle.std.specs.Prelude.{IsTrue, ◌↔◌}
 use Rattle.std.specs.List.{sum_by}
 use Rattle.droid_journal_chain.specs.Records.{Record}

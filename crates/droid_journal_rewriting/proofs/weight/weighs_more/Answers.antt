@@ -1,7 +1,4 @@
-use Rattle.std.proofs.Common.{◌≡◌, ◌<◌, ◌*◌, ℕ, length, refl, sym}
-use Rattle.std.specs.Prelude.{IsTrue, ◌↔◌}
-use Rattle.std.specs.List.{sum_by}
-use Rattle.droid_journal_rewriting.specs.Sizes.{piece_bytes}
+use Rattle.std.proofs.Common.{refl, sym}
 use Rattle.droid_journal_rewriting.proofs.weight.weighs_more.Goals as goal
 
 pub returns-in-Ok-clause-more : goal.returns-in-Ok-clause-more
