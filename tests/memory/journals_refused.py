@@ -128,7 +128,8 @@ class SmallerJournalsRefused(Refused):
             self.assertEqual(self.compacted({"ALLOCATIONS": counted.name}), (0, b"", self.new, 1))
             numbers = range(1, int(counted.read()) + 1)
         self.assertGreaterEqual(len(numbers), FEWEST)
-        ended = [self.compacted({"REFUSE": str(number)}) for number in numbers]
+        with ThreadPoolExecutor(len(os.sched_getaffinity(0))) as pool:
+            ended = list(pool.map(lambda number: self.compacted({"REFUSE": str(number)}), numbers))
         for number, (status, named, left, files) in zip(numbers, ended):
             self.assertIn(status, STATUSES, number)
             self.assertIn(named, (b"",) if status == 0 else (b"fault: Memory\n", b"fault: Journal\n"), number)

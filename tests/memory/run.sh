@@ -6,7 +6,7 @@
 #   requests_refused      streams of frames, in the same way
 #   submissions_refused   `submit`, in the same way
 #   reports_refused       `report`, in the same way
-#   journals_refused      `run` with a journal, in the same way
+#   journals_refused      `run` with a journal and `compact`, in the same way
 #   large_allocations     every allocation above a limit refused
 #   long_bodies           allocations for a header whose length is past the limit
 #   costs_of_requests     allocations for a request of each kind, by the table costs_of_requests

@@ -1,5 +1,5 @@
-"""A journal as who runs a service meets it: a copy taken while it serves, a small disk, a folder that nobody may write to, a standard
-error that is full, another registry, a port that is in use, damage far behind."""
+"""A journal as whoever runs a service meets it: a copy taken while it serves, a small disk, a folder that may not be written to, a
+standard error that is full, another registry, a port that is in use, damage far behind."""
 
 import os
 import shutil
@@ -20,7 +20,8 @@ from model_frames import answer, service_of_the_sample
 from registry import Registry
 from service import Service
 
-GIB = 1 << 30
+# farther than a start reads at once
+FAR = (40 << 20) + 7
 NOBODY = 65_534
 COPIES = 12
 
@@ -248,8 +249,7 @@ def contents_after(test, *asked):
 
 class FarBehind(InJournal):
     def test_damage(self):
-        """A record of a later turn stands a GiB behind the first one, that was damaged (a hole in the file). It is found, and how far
-        the file was read is told."""
+        """Far behind a part of the first record stands one of a later turn, and a hole between them. It is found."""
         data = contents_after(self, create(1)) and contents_after(self, folder(2, b"in")) and contents_after(self, folder(3, b"out"))
         start = md5(data[: header_size()])
         first, second, third = read(data).records
@@ -257,14 +257,11 @@ class FarBehind(InJournal):
         check = next_check(start, check, second)
         self.assertTrue(third.first)
         with open(self.path, "r+b") as stored:
-            stored.seek(header_size() + 30)
-            stored.write(b"\xff")
-            stored.seek(GIB + 7)
+            stored.truncate(header_size() + 30)
+            stored.seek(FAR)
             stored.write(check + record_bytes(start, check, third))
         size = os.path.getsize(self.path)
-        found = run_journal(self.path, create(1))
-        self.assertIn(b"journal: 1 GiB read\n", found[2])
-        self.ends((found[0], found[1], found[2].replace(b"journal: ", b"registry: ")), 3, "fault: Journal at 1")
+        self.ends(run_journal(self.path, create(1)), 3, "fault: Journal at 1")
         self.assertEqual((os.path.getsize(self.path), os.listdir(self.folder)), (size, ["desk.journal"]))
 
 

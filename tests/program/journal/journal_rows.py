@@ -73,7 +73,8 @@ def left_by(session, count, chance):
         # the first bytes of what was written last did not come to the disk, and those behind did
         return front + bytes(min(len(behind), 40)) + behind[40:]
     if chance < 0.8:
-        return front + behind[: len(behind) // 2][:90]
+        # a part of the next record
+        return front + behind[: 2 * (session.end_of(count + 1) - session.end_of(count)) // 3]
     return front
 
 
