@@ -3,13 +3,14 @@ what, and what comes of each call that fails, as on a broken disk. Only the fail
 might then say that something is on the disk that the disk has lost."""
 
 import os
+import socket
 import threading
 import unittest
 
 from journal_compact import compact, smaller_of
 from journal_file import read
 from journal_session import InJournal, contents, run_journal, serving, store
-from lib.connections import connect, read_exactly
+from lib.connections import SECONDS, connect, read_exactly, read_frame
 from lib.frames import HEADER, create, export, folder
 from lib.program import faults, preloaded
 from model_frames import answer, service_of_the_sample
@@ -18,6 +19,21 @@ from journal_smaller import ASKED, MORE
 FILE, TORN, NEW = "desk.journal", "desk.journal.torn", "desk.journal.new"
 CLIENTS = 6
 ROUNDS = 12
+
+
+FOLDERS = [create(1), folder(2, b"a"), folder(3, b"b")]
+
+
+def without_answers(noted):
+    return [call for call in noted if not call.startswith("answer")]
+
+
+def is_open(stream):
+    """Whether another byte comes, and not the end."""
+    try:
+        return stream.recv(1, socket.MSG_PEEK) != b""
+    except ConnectionError:
+        return False
 
 
 def due_to(asked):
@@ -122,7 +138,7 @@ class Failing(Noted):
         """Runs a command over a file of these bytes, or none, with each of its calls failing: what came of it each time."""
         self.lay(before)
         command(self.noting())
-        counted = [call for call in self.noted() if not call.startswith("answer")]
+        counted = without_answers(self.noted())
         self.assertGreater(len(counted), 6)
         for number, call in enumerate(counted, 1):
             self.lay(before)
@@ -171,6 +187,38 @@ class Failing(Noted):
             self.assertEqual((contents(self.path), os.listdir(self.folder)), (new, [FILE]), call)
         self.assertTrue(renamed)
 
+    def test_serve(self):
+        """A write or a sync fails while two connections are open: both are closed, and the service ends."""
+        with serving(self.path, "--forever", env=self.noting(), killed=True) as service:
+            self.assertEqual(self.asks(service.port, closed=False), len(FOLDERS))
+        noted = self.noted()
+        before = noted.index("answer ")
+        numbers = [number for number, call in enumerate(without_answers(noted), 1) if number > before and call.endswith(FILE)]
+        self.assertGreaterEqual(len(numbers), 2 * len(FOLDERS))
+        for place, number in enumerate(numbers):
+            self.lay(None)
+            with serving(self.path, "--forever", env=self.noting(FAILS=number), killed=True) as service:
+                # (a request is a write and a sync)
+                self.assertEqual(self.asks(service.port, closed=True), place // 2)
+                self.assertEqual(service.process.wait(SECONDS), 4)
+                self.assertEqual(faults(service.process.stderr.read()), b"fault: Journal\n")
+            self.assertIn(len(read(contents(self.path)).records), (place // 2, place // 2 + 1))
+
+    def asks(self, port, closed):
+        """One connection asks for one thing after the other, and another one only waits: how many were answered. Then both are
+        closed, or none."""
+        answered = 0
+        with connect(port) as waits, connect(port) as stream:
+            for request in FOLDERS:
+                stream.sendall(request)
+                if not is_open(stream):
+                    break
+                read_frame(stream)
+                answered += 1
+            if closed:
+                self.assertFalse(is_open(waits))
+        return answered
+
     def test_interrupted(self):
         """A read or a write that a signal interrupts is made again."""
         self.assertEqual(run_journal(self.path, b"".join(ASKED))[0], 0)
@@ -179,7 +227,7 @@ class Failing(Noted):
         for number in range(1, len(self.calls_of(before, asked)) + 1):
             self.lay(before)
             found = run_journal(self.path, b"".join(asked), env=self.noting(FAILS=number, INTERRUPTED=1))
-            call = [it for it in self.noted() if not it.startswith("answer")][number - 1]
+            call = without_answers(self.noted())[number - 1]
             if call.split()[0] in ("read", "write"):
                 self.assertEqual(found, (0, due, b""), call)
                 again += 1
@@ -188,7 +236,7 @@ class Failing(Noted):
     def calls_of(self, before, asked):
         self.lay(before)
         run_journal(self.path, b"".join(asked), env=self.noting())
-        return [call for call in self.noted() if not call.startswith("answer")]
+        return without_answers(self.noted())
 
 
 if __name__ == "__main__":
