@@ -191,6 +191,9 @@ def compaction(folder):
     copied, compacted = [], []
     for _ in range(ROUNDS):
         copied.append(timed(lambda: subprocess.run(["cp", path, copy], check=True)))
+        # a journal's bytes are on the disk, those of a copy not yet
+        with open(copy, "rb") as made:
+            os.fsync(made.fileno())
         compacted.append(timed(lambda: subprocess.run([PROGRAM, "compact", "--quiet", copy], check=True, stderr=subprocess.DEVNULL)))
     sizes = os.path.getsize(path), os.path.getsize(copy)
     os.remove(path)
