@@ -1,0 +1,8 @@
+#!/bin/bash
+echo -17 > /proc/self/autogroup
+cd /work/gate/5; date
+time sh tests/program/run.sh $1
+date
+time sh tests/registry/run.sh $1
+time sh tests/memory/run.sh $1
+date

@@ -1,0 +1,4 @@
+set -u
+tests=/work/h/quick/tests
+cd $tests/program/folders
+export PYTHONPATH=$tests PYTHONDONTWRITEBYTECODE=1
