@@ -16,7 +16,8 @@ big-endian:
 Version 2 names the hash of a profile's files, and has larger pieces. A reply frame has the version,
 client and number of its request, and is written before the next frame is read. A frame whose body is
 not a request is answered `Malformed`, and the stream goes on. After 1,000,000 frames no more are
-read.
+read. With --journal there is no such limit, and up to 16 frames are read before their replies are
+written.
 
 With --journal each accepted request is appended to the journal with its reply, and the reply is sent
 only once both are on the disk. So nothing that was answered is lost if the service is killed: start
@@ -26,7 +27,7 @@ Only one process at a time can use a journal.
 
 Exit status:
 
-  0  the input ended between frames, or 1,000,000 frames were answered
+  0  the input ended between frames, or 1,000,000 frames were answered without a journal
   2  the command line is wrong
   3  the registry file could not be opened or read, or is not a registry; or the journal is damaged,
      is none, or was made with another registry or version of droid_desk (Journal at N)
@@ -61,11 +62,11 @@ pub const VERBOSE_HELP: &str =
 
 pub const SERVE_HELP: &str = "\
 The service prints `listening P` to standard output once it listens. It answers each connection as
-`droid_desk run` answers its input, up to 1,000,000 frames. The next connection finds all that the
-ones before have sent. When the service ends, all is lost, unless it has a journal: `droid_desk run
---help` says how. A large journal may be made smaller at the start: `droid_desk compact --help`.
-Failed connections aren't logged and don't stop it: a client that lost its connection sends its
-requests again under the same numbers.
+`droid_desk run` answers its input, up to 1,000,000 frames without --journal and --at-once. The next
+connection finds all that the ones before have sent. When the service ends, all is lost, unless it has
+a journal: `droid_desk run --help` says how. A large journal may be made smaller at the start:
+`droid_desk compact --help`. Failed connections aren't logged and don't stop it: a client that lost
+its connection sends its requests again under the same numbers.
 
 With --at-once no client waits for another's silence. Replies come in order on each connection; the
 requests of all are handled one after another, up to 16 of one before the next one's turn. A further

@@ -32,7 +32,10 @@ where
     }
     match FileDrive::open(rt, beside) {
         Ok(drive) => Ok(drive),
-        Err(fault) => Err(kind_of(fault)),
+        Err(fault) => {
+            let _ = fs::remove_file(rt, beside);
+            Err(kind_of(fault))
+        }
     }
 }
 
