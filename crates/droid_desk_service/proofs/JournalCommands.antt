@@ -2,11 +2,13 @@
 use Rattle.std.proofs.Common.{◌≡◌, ℕ, List, Option, Some, None, refl, sym, subst, ◌∙◌}
 use Rattle.std.specs.declared.io.ErrorKind.{ErrorKind}
 use Rattle.droid_desk_service.specs.Fresh.{IsNotMadeOf}
-use Rattle.droid_desk_service.specs.JournalEndings.{IsUnopened, JournalEndsAs, ServesSteps, journal_ending_of}
+use Rattle.droid_desk_service.specs.JournalEndings.{IsAnsweringEnd, IsUnopened, JournalEndsAs, ServesSteps, journal_ending_of, left_ending_of, stream_journal_ending_of, unsettled_ending}
 use Rattle.droid_desk_service.specs.declared.ending.Ending.{Ending}
 use Rattle.droid_desk_service.specs.declared.ending.Ending.TheVariants.{Done, Registry, NoService, Script, Stream, Send, Socket, Journal, BadLine}
 use Rattle.droid_wire.specs.with_journal.service.journal.declared.fault.Fault.{Fault}
 use Rattle.droid_wire.specs.declared.serve_fault.ServeFault.TheVariants as serve_faults
+use Rattle.droid_wire.specs.turn_types.departure.Departure.{Departure}
+use Rattle.droid_wire.specs.turn_types.departure.Departure.TheVariants as departures
 use Rattle.droid_wire.specs.turn_types.rules.Rules.{Rules}
 use Rattle.droid_wire.specs.turn_types.served.Served.{Served}
 use Rattle.droid_wire.specs.turn_types.served.Served.TheVariants as ways
@@ -61,3 +63,39 @@ not_made file Done not = absurd not.0
 
 pub unopened_unmade : (file : Option (List ℕ)) (ending ended : Ending) → ended ≡ ending → IsNotMadeOf file ending → IsUnopened ended
 unopened_unmade file ending ended is not = subst (λ (e : Ending). IsUnopened e) (sym is) (not_made file ending not)
+
+left_so : (departure : Option Departure) → IsAnsweringEnd (left_ending_of departure)
+left_so None = tt
+left_so (Some departures.Closed) = tt
+left_so (Some (departures.Frame fault)) = tt
+left_so (Some departures.Memory) = tt
+left_so (Some departures.Write) = tt
+left_so (Some departures.Idle) = tt
+left_so (Some departures.Stopped) = tt
+left_so (Some departures.Unsettled) = tt
+
+unsettled_so : (fault : Option Fault) → IsAnsweringEnd (unsettled_ending fault)
+unsettled_so None = tt
+unsettled_so (Some fault) = tt
+
+stream_so : (served : Served) (departure : Option Departure) (fault : Option Fault) → IsAnsweringEnd (stream_journal_ending_of served departure fault)
+stream_so ways.All departure fault = left_so departure
+stream_so ways.Stopped departure fault = tt
+stream_so ways.Memory departure fault = tt
+stream_so ways.Unsettled departure fault = unsettled_so fault
+
+-- a stream was answered, and the command ends by that
+pub ends_answering : (served : Served) (departure : Option Departure) (fault : Option Fault) (ending ended : Ending) → ending ≡ stream_journal_ending_of served departure fault → ended ≡ ending → IsAnsweringEnd ended
+ends_answering served departure fault ending ended ends is = subst IsAnsweringEnd (sym (is ∙ ends)) (stream_so served departure fault)
+
+-- no journal could be opened
+pub unopened_so : (ended : Ending) → IsUnopened ended → IsAnsweringEnd ended
+unopened_so (Registry fault) unopened = tt
+unopened_so (NoService fault) unopened = tt
+unopened_so (Journal fault) unopened = tt
+unopened_so (Script fault) unopened = absurd unopened
+unopened_so (Stream fault) unopened = absurd unopened
+unopened_so (Send fault) unopened = absurd unopened
+unopened_so Socket unopened = absurd unopened
+unopened_so BadLine unopened = absurd unopened
+unopened_so Done unopened = absurd unopened

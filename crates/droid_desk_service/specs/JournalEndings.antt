@@ -10,6 +10,7 @@ use Rattle.droid_wire.specs.with_journal.Serving.{AnswersJournal, ServesJournal}
 use Rattle.droid_wire.specs.with_journal.declared.journal_handler.JournalHandler.{JournalHandler}
 use Rattle.droid_wire.specs.with_journal.pipe_types.pipe.Pipe.{Pipe}
 use Rattle.droid_wire.specs.with_journal.service.Standing.{StandsForHistory}
+use Rattle.droid_wire.specs.with_journal.service.journal.Faults.{MayBeOfWriting}
 use Rattle.droid_wire.specs.with_journal.service.journal.declared.fault.Fault.{Fault}
 use Rattle.droid_wire.specs.with_journal.service.journal.declared.fault.Fault.TheVariants as faults
 use Rattle.droid_wire.specs.with_journal.turns.Steps.{Step}
@@ -41,10 +42,12 @@ journal_ending_of ways.Memory fault = Stream (serve_faults.Frame frame_faults.Me
 journal_ending_of ways.Unsettled fault = unsettled_ending fault
 
 -- Connections were served by these rules, by a service that goes on from whatever history it stood for. At each moment all
--- that was handled before a byte was written to any connection is on the disk. The program ends by how serving ended.
+-- that was handled before a byte was written to any connection is on the disk. The program ends by how serving ended; a fault
+-- of the journal is one of writing.
 pub record EndsServingJournal {C F : Type 0} (does : C → Event → C → Type 0) (has : F → List ℕ → Type 0) (kept : F → List ℕ) (rules : Rules) (connections : C) (before : JournalHandler F) (later : C) (after : JournalHandler F) (ending : Ending) : Type 0 where
   pub served : Served
   pub ends : ending ≡ journal_ending_of served after.fault
+  pub noted : MayBeOfWriting before.journal.journal.fault → MayBeOfWriting before.fault → MayBeOfWriting after.fault
   pub serves : (setting : Setting) (header : List ℕ) (history : History) → StandsForHistory has kept setting header before.journal.journal history history
       → ServesJournal does has kept rules setting header history connections before later after served
   pub whole : (steps : List Step) × ServesAll rules served steps
@@ -63,10 +66,12 @@ stream_journal_ending_of ways.Memory departure fault = Stream (serve_faults.Fram
 stream_journal_ending_of ways.Unsettled departure fault = unsettled_ending fault
 
 -- The frames of a stream were answered, by a service that goes on from whatever history it stood for. At each moment all
--- that was handled before a byte of any reply was written is on the disk. The program ends by how answering ended.
+-- that was handled before a byte of any reply was written is on the disk. The program ends by how answering ended; a fault of
+-- the journal is one of writing.
 pub record EndsAnsweringJournal {R W F : Type 0} (remaining : R → Option (List ℕ)) (contents : W → Option (List ℕ)) (was_read : R → Seen) (was_written : W → Seen) (room : W → Option ℕ) (has : F → List ℕ → Type 0) (kept : F → List ℕ) (pipe : Pipe R W) (before : JournalHandler F) (later : Pipe R W) (after : JournalHandler F) (ending : Ending) : Type 0 where
   pub served : Served
   pub ends : ending ≡ stream_journal_ending_of served later.departure after.fault
+  pub noted : MayBeOfWriting before.journal.journal.fault → MayBeOfWriting before.fault → MayBeOfWriting after.fault
   pub answers : (setting : Setting) (header : List ℕ) (history : History) → StandsForHistory has kept setting header before.journal.journal history history
       → AnswersJournal remaining contents was_read was_written room has kept setting header history pipe before later after served
 
@@ -76,6 +81,18 @@ IsUnopened (Registry fault) = Unit {0}
 IsUnopened (NoService fault) = Unit {0}
 IsUnopened (Journal fault) = Unit {0}
 IsUnopened _ = ⊥
+
+-- a stream was answered, or none was: no script ran, nothing was sent, and no line was bad
+abbrev pub IsAnsweringEnd : Ending → Type 0
+IsAnsweringEnd (Script fault) = ⊥
+IsAnsweringEnd (Send fault) = ⊥
+IsAnsweringEnd BadLine = ⊥
+IsAnsweringEnd Done = Unit {0}
+IsAnsweringEnd (Registry fault) = Unit {0}
+IsAnsweringEnd (NoService fault) = Unit {0}
+IsAnsweringEnd (Stream fault) = Unit {0}
+IsAnsweringEnd Socket = Unit {0}
+IsAnsweringEnd (Journal fault) = Unit {0}
 
 -- the journal was made smaller; or no registry could be read, no service be made, or the journal not be opened or made smaller
 abbrev pub IsCompactionEnd : Ending → Type 0

@@ -1,6 +1,6 @@
 //! The journal of the program's service.
 
-ghost use Rattle.std.specs.Prelude.{◌≡◌, ◌⊎◌, ◌≤◌, ℕ, List, [], IfErr, IfOk, IsErrOf, length};
+ghost use Rattle.std.specs.Prelude.{◌≡◌, ◌⊎◌, ◌≤◌, ℕ, List, [], None, IfErr, IfOk, IsErrOf, length};
 ghost use Rattle.md5.specs.Md5.{md5};
 ghost use Rattle.droid_desk_service.specs.Journals.{IsDamaged, IsHeaderOf, IsOpened, IsRefuted, IsSettingFor, RefutesSmall, StandsForSmall, header_text};
 ghost use Rattle.droid_wire.specs.with_journal.service.Histories.{HasBare, IsBetween};
@@ -62,6 +62,7 @@ pub fn open_journal<F: LogFile + Drop>(
     requires found { F.is_found file }
     // What is kept of a file that has such a header was written by a journal.
     requires kept { (s header : List ℕ) → F.has file s → IsHeaderOf registry.now header → HasHeader header s → IsKept header (F.kept file) }
+    ensures fault { IfOk result (λ it. it.journal.fault ≡ None) }
     // The service stands for the history of the records in the file, or for each history that they have, if some of them
     // have no bytes.
     ensures opened { (setting : Setting) (s : List ℕ) → StandsFor setting service [] → IsSettingFor registry.now setting → F.has file s → IfOk result (λ it. IsOpened F.has F.kept registry.now setting s it.journal) }
@@ -105,6 +106,7 @@ fn open_small<F: LogFile + Drop>(
     requires found { F.is_found file }
     requires header { length header.now ≤ 4096 }
     requires kept { (s : List ℕ) → F.has file s → HasHeader header.now s → IsKept header.now (F.kept file) }
+    ensures fault { IfOk result (λ it. it.journal.fault ≡ None) }
     ensures opened { (setting : Setting) (s : List ℕ) → IsSettingFor registry.now setting → F.has file s → IfOk result (λ it. (its : List Record) × WasFound header.now s its × HasBare its
         × StandsForSmall F.has F.kept setting header.now its it.journal) }
     ensures reopened { (setting : Setting) (s : List ℕ) (synced all : History) → IsSettingFor registry.now setting → F.has file s → IsLeft setting header.now s synced all

@@ -1,7 +1,8 @@
 //! The commands of a service with a journal, over files, standard streams and ports of this machine.
 
-ghost use Rattle.std.specs.Prelude.{◌≡◌, IfErr, IfOk, IfSome};
-ghost use Rattle.droid_desk_service.specs.JournalEndings.{IsUnopened, JournalEndsAs, rules_one_by_one};
+ghost use Rattle.std.specs.Prelude.{◌≡◌, Some, IfErr, IfOk, IfSome};
+ghost use Rattle.droid_desk_service.specs.Fresh.{IsMadeOf};
+ghost use Rattle.droid_desk_service.specs.JournalEndings.{IsAnsweringEnd, IsUnopened, JournalEndsAs, rules_one_by_one};
 ghost use Rattle.droid_desk_service.specs.Many.{rules_named};
 
 use crate::commands::note_sample;
@@ -42,6 +43,7 @@ pub(crate) type MachineJournal<'a, R> = ServiceJournal<DiskLog<FileDrive<'a, R>>
 pub fn run_journal_command<'a, R>(rt: &'a R, source: RegistrySource<'a>, path: &'a str) -> Ended<'a>
 where
     R: Files<File = File> + Input + Print + Eprint + AllocGlobal,
+    ensures { IsAnsweringEnd result.ending }
 {
     note_sample(rt, source);
     let journal = match journal_for(rt, source, path) {
@@ -161,7 +163,8 @@ pub(crate) fn registry_and_service<'a, R>(
 ) -> Result<(Vec<u8>, Service), Ended<'a>>
 where
     R: Files<File = File> + Eprint + AllocGlobal,
-    ensures { IfErr result (λ ended. IsUnopened ended.ending) }
+    ensures made { IfOk result (λ both. IsMadeOf (Some both.0.items) both.1) }
+    ensures not_made { IfErr result (λ ended. IsUnopened ended.ending) }
 {
     let registry = match registry_bytes(rt, source) {
         Ok(registry) => registry,

@@ -1,4 +1,5 @@
--- Which faults come of reading a file.
+-- Which faults come of reading a file, and of writing one.
+use Rattle.std.specs.Prelude.{Option, None, Some}
 use Rattle.droid_journal.specs.declared.fault.Fault.{Fault}
 use Rattle.droid_journal.specs.declared.fault.Fault.TheVariants as faults
 
@@ -10,3 +11,17 @@ IsOfReading faults.Write = ⊥
 IsOfReading faults.Header = ⊥
 IsOfReading (faults.Record number) = Unit {0}
 IsOfReading (faults.Damage records) = ⊥
+
+-- out of memory, or the file could not be written
+abbrev pub IsOfWriting : Fault → Type 0
+IsOfWriting faults.Memory = Unit {0}
+IsOfWriting faults.Read = ⊥
+IsOfWriting faults.Write = Unit {0}
+IsOfWriting faults.Header = ⊥
+IsOfWriting (faults.Record number) = ⊥
+IsOfWriting (faults.Damage records) = ⊥
+
+-- if there is a fault, it is one of writing
+abbrev pub MayBeOfWriting : Option Fault → Type 0
+MayBeOfWriting None = Unit {0}
+MayBeOfWriting (Some fault) = IsOfWriting fault

@@ -5,6 +5,7 @@ ghost use Rattle.droid_frame.specs.Frames.{frame_bytes};
 ghost use Rattle.droid_frame.specs.Replies.{HasReplySpelling};
 ghost use Rattle.droid_frame.specs.ReplyFrames.{reply_frame};
 ghost use Rattle.droid_frame.specs.Versions.{IsVersion};
+ghost use Rattle.droid_journal.specs.Faults.{IsOfWriting, MayBeOfWriting};
 ghost use Rattle.droid_journal.specs.Machines.{Answers, extended};
 ghost use Rattle.droid_journal.specs.Opening.{IsReady};
 ghost use Rattle.droid_journal.specs.Standing.{IsSettled, Stands, WroteOne};
@@ -121,6 +122,7 @@ impl<F: LogFile + Drop, M: Machine + Drop> Journal<F, M> {
         ensures machine { self.new.machine ≡ self.old.machine }
         ensures start { self.new.start ≡ self.old.start }
         ensures fault { self.new.fault ≡ self.old.fault }
+        ensures writing { IfErr result IsOfWriting }
     {
         let (bytes, check) = self.spelled(version, client, number, request, reply)?;
         self.unsynced = true;
@@ -142,6 +144,7 @@ impl<F: LogFile + Drop, M: Machine + Drop> Journal<F, M> {
         ensures spelled { IfOk result (HasReplySpelling frame.version) }
         ensures kept { F.kept self.new.file ≡ F.kept self.old.file }
         ensures fault { self.new.fault ≡ self.old.fault }
+        ensures writing { IfErr result IsOfWriting }
     {
         if !is_carried(&frame) {
             return Ok(Reply::Refused(Refusal::Malformed));
@@ -173,6 +176,8 @@ impl<F: LogFile + Drop, M: Machine + Drop> Journal<F, M> {
             → self.old.fault ≡ None → IsSome self.new.fault → WroteOne F.has (M.gives setting) header self.new.file synced all frame }
         ensures spelled { HasReplySpelling frame.version result }
         ensures kept { F.kept self.new.file ≡ F.kept self.old.file }
+        // A request is never a reason to call the file damaged, or another's.
+        ensures writing { MayBeOfWriting self.old.fault → MayBeOfWriting self.new.fault }
         // After a fault nothing is done.
         ensures closed { IsSome self.old.fault → (self.new.file ≡ self.old.file) × (self.new.fault ≡ self.old.fault) }
     {
@@ -198,6 +203,7 @@ impl<F: LogFile + Drop, M: Machine + Drop> Journal<F, M> {
         ensures fault { OnOk result (self.new.fault ≡ None) }
         ensures closes { OnErr result (IsSome self.new.fault) }
         ensures told { IfErr result (λ fault. self.new.fault ≡ Some fault) }
+        ensures writing { MayBeOfWriting self.old.fault → MayBeOfWriting self.new.fault }
         ensures closed { IsSome self.old.fault → IsErr result }
     {
         if let Some(fault) = self.fault {

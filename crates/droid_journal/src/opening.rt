@@ -1,6 +1,6 @@
 //! Opening a journal: a machine that stands for the records of a file.
 
-ghost use Rattle.std.specs.Prelude.{◌≡◌, ◌≢◌, ◌≤◌, ℕ, List, [], length, take, IfOk, IfErr, IsErrOf, OnOk};
+ghost use Rattle.std.specs.Prelude.{◌≡◌, ◌≢◌, ◌≤◌, ℕ, List, [], length, take, IfOk, IfErr, IsErrOf, OnErr, OnOk};
 ghost use Rattle.droid_journal.specs.Opening.{HasHeader, IsBegun, IsKept, IsReady, Knows, PartWithin, ReadsAll, WasDamaged, WasFound, WasRefuted};
 ghost use Rattle.droid_journal.specs.Replaying.{Gave};
 ghost use Rattle.droid_journal.specs.Turns.{IsTurn};
@@ -104,6 +104,7 @@ fn beginning_in(seen: &[u8], header: &[u8]) -> Result<Beginning, Fault>
 fn make_header<F: LogFile>(file: &mut F, header: &[u8], count: usize) -> Result<(), Fault>
     requires { count ≤ length header.now }
     ensures made { (s : List ℕ) → F.has file.old s → IsBegun header.now s count → OnOk result (F.has file.new header.now × (F.kept file.new ≡ header.now)) }
+    ensures kept { OnErr result (F.kept file.new ≡ F.kept file.old) }
 {
     if file.append(&header[count..]).is_err() {
         return Err(Fault::Write);
@@ -119,6 +120,7 @@ fn cut_behind<F: LogFile>(file: &mut F, end: u64) -> Result<(), Fault>
     requires found { F.is_found file.old }
     requires within { (s : List ℕ) → F.has file.old s → (length (F.kept file.old) ≤ end) × (end ≤ length s) }
     ensures cut { (s : List ℕ) → F.has file.old s → OnOk result (F.has file.new (take end s) × (F.kept file.new ≡ take end s)) }
+    ensures kept { OnErr result (F.kept file.new ≡ F.kept file.old) }
 {
     if file.cut(end).is_err() {
         return Err(Fault::Write);
@@ -182,6 +184,7 @@ fn open_whole<F: LogFile, M: Machine + Drop>(
     ensures opened { (s : List ℕ) → F.has file.old s → IfOk result (λ opened. (its : List Record) × WasFound header.now s its
         × ((setting : M.Setting) → M.stands setting machine [] → IsReady F.has F.kept (M.stands setting) header.now file.new opened its × Gave (M.gives setting) [] its)) }
     ensures unchanged { IfErr result (λ fault. fault ≢ Fault.Write → file.new ≡ file.old) }
+    ensures kept { OnErr result (F.kept file.new ≡ F.kept file.old) }
     ensures damage { (n : ℕ) → IsErrOf result (Fault.Damage n) → (s : List ℕ) → F.has file.old s → WasDamaged header.now s n }
     ensures refuted { (n : ℕ) → IsErrOf result (Fault.Record n) → (setting : M.Setting) (s : List ℕ) → F.has file.old s → M.stands setting machine []
         → WasRefuted (M.gives setting) header.now s n }
@@ -218,6 +221,7 @@ fn open_begun<F: LogFile, M: Machine + Drop>(
     ensures opened { (s : List ℕ) → F.has file.old s → IfOk result (λ opened. (its : List Record) × WasFound header.now s its
         × ((setting : M.Setting) → M.stands setting machine [] → IsReady F.has F.kept (M.stands setting) header.now file.new opened its × Gave (M.gives setting) [] its)) }
     ensures fault { IfErr result (λ fault. fault ≡ Fault.Write) }
+    ensures kept { OnErr result (F.kept file.new ≡ F.kept file.old) }
 {
     match make_header(file, header, count) {
         Ok(()) => {}
@@ -247,6 +251,7 @@ fn open_by<F: LogFile, M: Machine + Drop>(
     ensures opened { (s : List ℕ) → F.has file.old s → IfOk result (λ opened. (its : List Record) × WasFound header.now s its
         × ((setting : M.Setting) → M.stands setting machine [] → IsReady F.has F.kept (M.stands setting) header.now file.new opened its × Gave (M.gives setting) [] its)) }
     ensures unchanged { IfErr result (λ fault. fault ≢ Fault.Write → file.new ≡ file.old) }
+    ensures kept { OnErr result (F.kept file.new ≡ F.kept file.old) }
     ensures damage { (n : ℕ) → IsErrOf result (Fault.Damage n) → (s : List ℕ) → F.has file.old s → WasDamaged header.now s n }
     ensures refuted { (n : ℕ) → IsErrOf result (Fault.Record n) → (setting : M.Setting) (s : List ℕ) → F.has file.old s → M.stands setting machine []
         → WasRefuted (M.gives setting) header.now s n }
@@ -287,6 +292,8 @@ pub fn open<F: LogFile, M: Machine + Drop>(
         → IsFront (journal_bytes header.now synced) s → NotByChance header.now written s
         → IfOk result (λ opened. (its : List Record) × IsReady F.has F.kept (M.stands setting) header.now file.new opened its × IsFront synced its × IsFront its written) }
     ensures unchanged { IfErr result (λ fault. fault ≢ Fault.Write → file.new ≡ file.old) }
+    // After any fault what is on the disk for sure is what it was.
+    ensures kept { OnErr result (F.kept file.new ≡ F.kept file.old) }
     // Damage is told only where a record stands behind it that was written when all before it was on the disk.
     ensures damage { (n : ℕ) → IsErrOf result (Fault.Damage n) → (s : List ℕ) → F.has file.old s → WasDamaged header.now s n }
     // So it is never told of what a crash leaves of a journal, unless the end of the file has a record of a later turn by

@@ -1,6 +1,7 @@
 //! Writing a record.
 
-ghost use Rattle.std.specs.Prelude.{◌≡◌, ◌+◌, ◌≤◌, ◌++◌, IfOk, OnOk, length};
+ghost use Rattle.std.specs.Prelude.{◌≡◌, ◌+◌, ◌≤◌, ◌++◌, IfOk, OnErr, OnOk, length};
+ghost use Rattle.droid_journal_chain.specs.Fronts.{IsFront};
 ghost use Rattle.droid_journal_chain.specs.Reading as reading;
 ghost use Rattle.droid_journal_chain.specs.Records.{made, next_check, record_bytes};
 
@@ -45,6 +46,7 @@ pub fn record(
     requires size { length request.now + length reply.now + 25 ≤ 8388608 }
     ensures bytes { OnOk result (out.new.items ≡ out.old.items ++ record_bytes start.now check.now (made first request.now reply.now)) }
     ensures check { IfOk result (λ next. next ≡ next_check start.now check.now (made first request.now reply.now)) }
+    ensures part { OnErr result (IsFront out.old.items out.new.items) }
 {
     let next = check_of(start, check, first, request, reply);
     out.push(u8::from(first))?;

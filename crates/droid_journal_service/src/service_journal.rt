@@ -8,6 +8,7 @@ ghost use Rattle.droid_journal_smaller.specs.core.Standing.{StandsFor};
 ghost use Rattle.droid_journal_smaller.specs.recovery.revival.BareWorlds.{Bare};
 ghost use Rattle.droid_journal_smaller.specs.core.state.Standing.{limits_given};
 ghost use Rattle.droid_journal_smaller.specs.recovery.frame.Replies.{HasReplySpelling};
+ghost use Rattle.droid_journal_disk.specs.journal.Faults.{MayBeOfWriting};
 ghost use Rattle.droid_journal_disk.specs.journal.Opening.{HasHeader, IsBegun, IsKept, IsReady, WasDamaged, WasFound, WasRefuted};
 ghost use Rattle.droid_journal_disk.specs.journal.Standing.{IsSettled, Keeps};
 ghost use Rattle.droid_journal_disk.specs.chain.Chains.{NotByChance};
@@ -62,7 +63,10 @@ impl<F: LogFile + Drop> ServiceJournal<F> {
         // accepted. So whoever holds a reply that was sent gets it again.
         ensures reopened { (setting : Setting) (s : List ℕ) (synced all : History) → StandsFor setting fresh [] → F.has file s → IsLeft setting header.now s synced all
             → IfOk result (λ it. (history : History) × StandsForHistory F.has F.kept setting header.now it.journal history history × IsBetween synced history all) }
+        ensures fault { IfOk result (λ it. it.journal.fault ≡ None) }
         ensures unchanged { IfErr result (λ it. it.fault ≢ Fault.Write → it.file ≡ file) }
+        // After any fault what is on the disk for sure is what it was.
+        ensures kept { IfErr result (λ it. F.kept it.file ≡ F.kept file) }
         // Nor is a crash taken for damage.
         ensures lawful { (n : ℕ) (setting : Setting) (s : List ℕ) (synced all : History) → F.has file s → IsLeft setting header.now s synced all → IfErr result (λ it. it.fault ≢ Fault.Damage n) }
         // Damage is told only where a record stands behind it that was written when all before it was on the disk.
@@ -110,6 +114,7 @@ impl<F: LogFile + Drop> ServiceJournal<F> {
         // So it does after it went on and crashed: no more is lost than of a journal that was never made small.
         ensures reopened { (setting : Setting) (s : List ℕ) (synced all : History) → setting.limits ≡ limits_given limits → IsOf registry setting → F.has file s → IsLeft setting header.now s synced all
             → IfOk result (λ o. IfSome o (λ it. (history : History) × StandsForHistory F.has F.kept setting header.now it.journal history history × IsBetween synced history all)) }
+        ensures fault { IfOk result (λ o. IfSome o (λ it. it.journal.fault ≡ None)) }
         // Nor does a crash make it seem whole.
         ensures small { (setting : Setting) (s : List ℕ) (synced all : History) → setting.limits ≡ limits_given limits → IsOf registry setting → F.has file s → (left : IsLeft setting header.now s synced all)
             → HasBare left.first → IfOk result (λ o. IsSome o) }
@@ -140,6 +145,7 @@ impl<F: LogFile + Drop> ServiceJournal<F> {
         ensures stands { (setting : Setting) (bare : Bare) (header : List ℕ) (its : List Record) (history : History) → IsReady F.has F.kept (ReadsRecords (record { setting = setting; bare = bare })) header file opened its
             → LeadTo setting bare its history → IfOk result (λ o. IfSome o (λ it. StandsForHistory F.has F.kept setting header it.journal history history)) }
         ensures fault { IfErr result (λ fault. fault ≡ Fault.Memory) }
+        ensures none { IfOk result (λ o. IfSome o (λ it. it.journal.fault ≡ None)) }
     {
         let (reader, opened) = opened.with(());
         let SmallReader { machine, is_small } = reader;
@@ -160,8 +166,9 @@ impl<F: LogFile + Drop> ServiceJournal<F> {
 
     /// Begins with a journal that was read.
     fn begun(journal: Journal<F, ServiceMachine>) -> ServiceJournal<F>
-        ensures { (setting : Setting) (base : Base setting) (header : List ℕ) (records : List Record) → IsSettled F.has F.kept (λ machine its. StandsForRecords setting base machine.service its) header journal records
+        ensures settled { (setting : Setting) (base : Base setting) (header : List ℕ) (records : List Record) → IsSettled F.has F.kept (λ machine its. StandsForRecords setting base machine.service its) header journal records
             → IsSettled F.has F.kept (λ machine its. StandsForRecords setting base machine.service its) header result.journal records }
+        ensures fault { result.journal.fault ≡ journal.fault }
     {
         let mut journal = journal;
         journal.machine.live = true;
@@ -184,6 +191,7 @@ impl<F: LogFile + Drop> ServiceJournal<F> {
         ensures keeps { (setting : Setting) (header : List ℕ) (synced all : History) → StandsForHistory F.has F.kept setting header self.old.journal synced all
             → (written : List Record) × (after : History) × IsNextOr setting all frame after × KeepsHistory F.kept setting header self.new.journal.file written synced after }
         ensures spelled { HasReplySpelling frame.version result }
+        ensures writing { MayBeOfWriting self.old.journal.fault → MayBeOfWriting self.new.journal.fault }
         ensures closed { IsSome self.old.journal.fault → (self.new.journal.file ≡ self.old.journal.file) × (self.new.journal.fault ≡ self.old.journal.fault) }
     {
         self.journal.handle(frame)
@@ -197,6 +205,7 @@ impl<F: LogFile + Drop> ServiceJournal<F> {
         ensures kept { OnErr result (F.kept self.new.journal.file ≡ F.kept self.old.journal.file) }
         ensures closes { OnErr result (IsSome self.new.journal.fault) }
         ensures told { IfErr result (λ fault. self.new.journal.fault ≡ Some fault) }
+        ensures writing { MayBeOfWriting self.old.journal.fault → MayBeOfWriting self.new.journal.fault }
         ensures closed { IsSome self.old.journal.fault → IsErr result }
     {
         self.journal.settle()

@@ -111,9 +111,9 @@ module _ {F : Type 0} (has : F → List ℕ → Type 0) (kept : F → List ℕ) 
       (λ each never_failed. never (each_before steps event each) (λ there. never_failed (failed_before steps (Happens event) there)))
 
   -- a frame
-  handle_step : (steps : List Step) (id : ℕ) (frame : Frame) (reply : Reply) (old new : Journal F ServiceMachine) → Going has kept setting header history steps old → HandlesIn has kept old frame reply new
+  handle_step : (steps : List Step) (id : ℕ) (frame : Frame) (reply : Reply) (old new : Journal F ServiceMachine) (was noted : Option Fault) → Going has kept setting header history steps old → HandlesIn has kept old frame reply new was noted
       → Going has kept setting header history (steps ++ Handles id frame reply ∷ []) new
-  handle_step steps id frame reply old new (Fine synced all stood answered flushed shown coming) did =
+  handle_step steps id frame reply old new was noted (Fine synced all stood answered flushed shown coming) did =
       let step : Step = Handles id frame reply in
       let one : all_handled (steps ++ step ∷ []) ≡ all_handled steps ++ (frame, reply) ∷ [] = handled_one steps step in
       elim (none_or_some new.fault) [
@@ -140,7 +140,7 @@ module _ {F : Type 0} (has : F → List ℕ → Type 0) (kept : F → List ℕ) 
             (λ each never_failed. each_open steps id frame reply each)
             )
       ]
-  handle_step steps id frame reply old new (Broken is moment never) did =
+  handle_step steps id frame reply old new was noted (Broken is moment never) did =
       let step : Step = Handles id frame reply in
       let one : all_handled (steps ++ step ∷ []) ≡ all_handled steps ++ (frame, reply) ∷ [] = handled_one steps step in
       let closed = did.closed is in
@@ -156,12 +156,12 @@ module _ {F : Type 0} (has : F → List ℕ → Type 0) (kept : F → List ℕ) 
       (λ each never_failed. each_open steps id frame reply each)
 
   -- a settling
-  settle_step : (steps : List Step) (done : Bool) (old new : Journal F ServiceMachine) (noted : Option Fault) → Going has kept setting header history steps old → SettlesIn has kept old done new noted → Going has kept setting header history (steps ++ Settles done ∷ []) new
-  settle_step steps true old new noted (Fine synced all stood answered flushed shown coming) did =
+  settle_step : (steps : List Step) (done : Bool) (old new : Journal F ServiceMachine) (was noted : Option Fault) → Going has kept setting header history steps old → SettlesIn has kept old done new was noted → Going has kept setting header history (steps ++ Settles done ∷ []) new
+  settle_step steps true old new was noted (Fine synced all stood answered flushed shown coming) did =
       let none : all_handled (steps ++ Settles true ∷ []) ≡ all_handled steps = handled_none steps (Settles true) refl in
       let all_shown = each_one (Shows setting history all) [] steps (Settles true) coming (λ written. absurd written) in
       Fine all all (did.settled setting header synced all stood refl) (subst (λ (l : List (Frame × Reply)). Answered setting history l all) (sym none) answered) (λ each. refl) all_shown all_shown
-  settle_step steps false old new noted (Fine synced all stood answered flushed shown coming) did =
+  settle_step steps false old new was noted (Fine synced all stood answered flushed shown coming) did =
       let none : all_handled (steps ++ Settles false ∷ []) ≡ all_handled steps = handled_none steps (Settles false) refl in
       Broken (did.closes refl)
       (record {
@@ -173,8 +173,8 @@ module _ {F : Type 0} (has : F → List ℕ → Type 0) (kept : F → List ℕ) 
         accepted = subst (λ (l : List (Frame × Reply)). CameOf setting history l all) (sym none) (all_came (all_handled steps) all answered);
       })
       (λ each never_failed. never_failed (failed_here steps))
-  settle_step steps true old new noted (Broken is moment never) did = absurd (false≢true (sym (did.closed is)))
-  settle_step steps false old new noted (Broken is moment never) did =
+  settle_step steps true old new was noted (Broken is moment never) did = absurd (false≢true (sym (did.closed is)))
+  settle_step steps false old new was noted (Broken is moment never) did =
       let none : all_handled (steps ++ Settles false ∷ []) ≡ all_handled steps = handled_none steps (Settles false) refl in
       Broken (did.closes refl)
       (record {
@@ -199,11 +199,11 @@ module _ {F : Type 0} (has : F → List ℕ → Type 0) (kept : F → List ℕ) 
         subst (λ (l : List Step). Going has kept setting header history l after.journal.journal) (append_assoc before (Happens event ∷ []) steps)
         (go_on (before ++ Happens event ∷ []) steps over.0.0 later over.0.1 after one law.1 over.2)
     go_on before (Handles id frame reply ∷ steps) c later h after going law over =
-        let one = handle_step before id frame reply h.journal.journal over.0.1.journal.journal going over.1.1 in
+        let one = handle_step before id frame reply h.journal.journal over.0.1.journal.journal h.fault over.0.1.fault going over.1.1 in
         subst (λ (l : List Step). Going has kept setting header history l after.journal.journal) (append_assoc before (Handles id frame reply ∷ []) steps)
         (go_on (before ++ Handles id frame reply ∷ []) steps over.0.0 later over.0.1 after one law.1 over.2)
     go_on before (Settles done ∷ steps) c later h after going law over =
-        let one = settle_step before done h.journal.journal over.0.1.journal.journal over.0.1.fault going over.1.1 in
+        let one = settle_step before done h.journal.journal over.0.1.journal.journal h.fault over.0.1.fault going over.1.1 in
         subst (λ (l : List Step). Going has kept setting header history l after.journal.journal) (append_assoc before (Settles done ∷ []) steps)
         (go_on (before ++ Settles done ∷ []) steps over.0.0 later over.0.1 after one law.1 over.2)
 

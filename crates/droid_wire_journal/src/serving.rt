@@ -4,6 +4,7 @@ ghost use Rattle.std.specs.Prelude.{ℕ, List};
 ghost use Rattle.droid_journal_service.specs.core.Histories.{History};
 ghost use Rattle.droid_journal_service.specs.core.Setting.{Setting};
 ghost use Rattle.droid_journal_service.specs.Standing.{StandsForHistory};
+ghost use Rattle.droid_journal_service.specs.journal.Faults.{MayBeOfWriting};
 ghost use Rattle.droid_wire_journal.specs.Handling.{HandlesSo, SettlesSo};
 ghost use Rattle.droid_wire_journal.specs.Serving.{ServesJournal};
 ghost use Rattle.droid_wire_pipe.specs.turns.Steps.{Goes};
@@ -31,6 +32,8 @@ pub fn serve_journal<C: Connections, F: LogFile + Drop>(
     // any connection is on the disk.
     ensures journal { (setting : Setting) (header : List ℕ) (history : History) → StandsForHistory F.has F.kept setting header handler.old.journal.journal history history
         → ServesJournal C.does F.has F.kept rules setting header history connections.old handler.old connections.new handler.new result }
+    // The journal's fault that is noted is one of writing, and never that the file is damaged or another's.
+    ensures noted { MayBeOfWriting handler.old.journal.journal.fault → MayBeOfWriting handler.old.fault → MayBeOfWriting handler.new.fault }
     // Whatever is known of the file: each connection was served well, and the handler settled before each write.
     ensures serves { Goes C.does (HandlesSo F.has F.kept) (SettlesSo F.has F.kept) connections.old handler.old connections.new handler.new (ServesAll rules result) }
 {

@@ -4,6 +4,7 @@ ghost use Rattle.std.specs.Prelude.{ℕ, List};
 ghost use Rattle.droid_journal_service.specs.core.Histories.{History};
 ghost use Rattle.droid_journal_service.specs.core.Setting.{Setting};
 ghost use Rattle.droid_journal_service.specs.Standing.{StandsForHistory};
+ghost use Rattle.droid_journal_service.specs.journal.Faults.{MayBeOfWriting};
 ghost use Rattle.droid_wire_journal.specs.Serving.{AnswersJournal};
 
 use crate::journal_handler::JournalHandler;
@@ -21,8 +22,10 @@ pub fn answer_journal<R: SteadyRead, W: SteadyWrite, F: LogFile + Drop>(
 ) -> Served
     // The stream is served as one connection is. At each moment, also where the journal failed, all that was handled before
     // a byte of any reply was written is on the disk.
-    ensures { (setting : Setting) (header : List ℕ) (history : History) → StandsForHistory F.has F.kept setting header handler.old.journal.journal history history
+    ensures journal { (setting : Setting) (header : List ℕ) (history : History) → StandsForHistory F.has F.kept setting header handler.old.journal.journal history history
         → AnswersJournal R.remaining W.contents R.seen W.seen W.room F.has F.kept setting header history pipe.old handler.old pipe.new handler.new result }
+    // The journal's fault that is noted is one of writing.
+    ensures noted { MayBeOfWriting handler.old.journal.journal.fault → MayBeOfWriting handler.old.fault → MayBeOfWriting handler.new.fault }
 {
     answer_pipe(alloc, handler, pipe)
 }

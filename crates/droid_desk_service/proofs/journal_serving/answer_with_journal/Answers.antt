@@ -4,5 +4,6 @@ pub returns : goal.returns
 returns g c = record {
   served = c.answer_journal-served.result;
   ends = c.stream_end_of.ensures;
-  answers = c.answer_journal-served.ensures;
+  noted = c.answer_journal-served.ensures.noted;
+  answers = c.answer_journal-served.ensures.journal;
 }

@@ -8,7 +8,7 @@ returns-in-Ok g c = λ setting written synced all fresh keeps chance.
     let start : Start = record { setting = setting; base = no_base setting } in
     let stands : StandsForRecords setting (no_base setting) c.args.fresh [] = record { history = []; its = no_history setting; stands = fresh } in
     let found = c.in-Ok.ensures.reopened start keeps.first written stands keeps.keeps chance in
-    let settled = c.begun.ensures setting (no_base setting) c.args.header.now found.0 found.1 in
+    let settled = c.begun.ensures.settled setting (no_base setting) c.args.header.now found.0 found.1 in
     let its = settled.machine.its in (
       settled.machine.history,
       record { base = no_base setting; first = found.0; records = found.0; stands = settled; on_disk = its; accepted = its },

@@ -1,7 +1,7 @@
 use Rattle.droid_journal_service.proofs.service_journal.ServiceJournal.begun.Goals as goal
 
-pub returns : goal.returns
-returns g c = λ setting base header records s. record {
+pub returns-clause-settled : goal.returns-clause-settled
+returns-clause-settled g c = λ setting base header records s. record {
   machine = s.machine;
   file = s.file;
   on_disk = s.on_disk;
