@@ -27,12 +27,12 @@ module _ {T W : Type 0} (observes : T → Observation → T → Type 0) (hears :
   lists : ListsTree observes hears registry options files_only old new noted walked
   lists = record { whole = whole; begun = begun; begins = (only, none); kept = kept; profiled = profiled; same_tree = same_tree; watched = watched }
 
-  items_are : folders ++ files ≡ items_of files_only (records_of registry options profiled.visits) ++ noted.files.items
+  items_are : files ++ folders ≡ noted.files.items ++ items_of files_only (records_of registry options profiled.visits)
   items_are =
-      ap (λ (its : List Item). its ++ files) (taken ∙ found_items files_only (records_of registry options profiled.visits) begun kept profiled.taken only none)
-      ∙ ap (λ (its : List Item). items_of files_only (records_of registry options profiled.visits) ++ its) with_files
+      ap (λ (its : List Item). its ++ folders) with_files
+      ∙ ap (λ (its : List Item). noted.files.items ++ its) (taken ∙ found_items files_only (records_of registry options profiled.visits) begun kept profiled.taken only none)
 
-  pub checks : (listed : List Item) (checked : Checked) → Compares listed (folders ++ files) checked walked new.watcher → ChecksListing observes hears registry options files_only listed checked old new
+  pub checks : (listed : List Item) (checked : Checked) → Compares listed (files ++ folders) checked walked new.watcher → ChecksListing observes hears registry options files_only listed checked old new
   unfolding lists
   checks listed checked compares = record {
     noted = noted;
@@ -42,6 +42,6 @@ module _ {T W : Type 0} (observes : T → Observation → T → Type 0) (hears :
     compares = subst (λ (its : List Item). Compares listed its checked walked new.watcher) items_are compares;
   }
 
-  pub ends_after : (fault : CheckFault) → IsAfterWalk fault (folders ++ files) → EndsListing observes hears registry options files_only fault old new
+  pub ends_after : (fault : CheckFault) → IsAfterWalk fault (files ++ folders) → EndsListing observes hears registry options files_only fault old new
   unfolding lists
   ends_after fault after = AfterWalk noted walked lists (subst (λ (its : List Item). IsAfterWalk fault its) items_are after)

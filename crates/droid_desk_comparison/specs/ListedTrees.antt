@@ -36,9 +36,9 @@ module _ {T W : Type 0} (observes : T → Observation → T → Type 0) (hears :
     pub same_tree : new.tree.tree ≡ noted.tree
     pub watched : new.watcher.watcher ≡ walked.watcher
 
-  -- the items of the tree: its folders, and the files that were noted, behind those that were noted before
+  -- the items of the tree: the files that were noted, behind those that were noted before, and its folders
   abbrev pub items_listed : {old new : Made} {noted : NotedFiles T} {walked : Recorder W} → ListsTree old new noted walked → List Item
-  items_listed {noted = noted} lists = items_of files_only (records_of registry options lists.profiled.visits) ++ noted.files.items
+  items_listed {noted = noted} lists = noted.files.items ++ items_of files_only (records_of registry options lists.profiled.visits)
 
   -- The tree was walked to its end, and the recorder learned of all that was skipped, behind what it had. It keeps what is
   -- unreadable. The report has exactly the differences between the items of the list and those of the tree as it was listed,

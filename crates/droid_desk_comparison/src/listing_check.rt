@@ -38,7 +38,7 @@ pub fn check_listing<T: Tree, W: Watcher>(
         Ok(_) => {
             let folders = take_items(alloc, &mut profiler.recipient.items);
             let files = take_items(alloc, &mut profiler.tree.files);
-            match compare_listed(alloc, &mut profiler.watcher, listed.items, folders, files) {
+            match compare_listed(alloc, &mut profiler.watcher, listed.items, files, folders) {
                 Ok(checked) => Ok(checked),
                 Err(fault) => Err(fault),
             }
@@ -47,19 +47,20 @@ pub fn check_listing<T: Tree, W: Watcher>(
     }
 }
 
-/// Compares the items of a list with folders and files. The recorder then keeps what is unreadable.
+/// Compares the items of a list with files and folders. The recorder then keeps what is unreadable.
 fn compare_listed<W>(
     alloc: Global,
     recorder: &mut Recorder<W>,
     listed: Inventory,
-    folders: Vec<Item>,
     files: Vec<Item>,
+    folders: Vec<Item>,
 ) -> Result<Checked, CheckFault>
-    ensures compared { IfOk result (λ checked. Compares listed (folders.items ++ files.items) checked recorder.old recorder.new) }
-    ensures ended { IfErr result (λ fault. IsAfterWalk fault (folders.items ++ files.items)) }
+    ensures compared { IfOk result (λ checked. Compares listed (files.items ++ folders.items) checked recorder.old recorder.new) }
+    ensures ended { IfErr result (λ fault. IsAfterWalk fault (files.items ++ folders.items)) }
     ensures watched { recorder.new.watcher ≡ recorder.old.watcher }
 {
-    let items = joined(folders, files)?;
+    // The folders are few beside their files, so that less is moved.
+    let items = joined(files, folders)?;
     match compare_found(alloc, recorder, listed, items) {
         Ok(checked) => Ok(checked),
         Err(fault) => Err(fault),
