@@ -1,7 +1,6 @@
 //! Identifies a file by its windows, the first and the last bytes, and by its name.
 
 ghost use Rattle.std.specs.Prelude.{◌≡◌, ℕ, List, IfOk, length};
-ghost use Rattle.std.specs.List.{list_any};
 ghost use Rattle.std.specs.Str.{str_to_ascii_lowercase};
 ghost use Rattle.droid_pronom_formats.specs.Found.{Chosen, IsLeft, IsFoundBy, IsNamed};
 ghost use Rattle.droid_pronom_formats.specs.FoundWindows.{HitsWindows, AreFlagsOf};
@@ -9,8 +8,8 @@ ghost use Rattle.droid_pronom_formats.specs.FoundWindows.{HitsWindows, AreFlagsO
 use crate::registry::Registry;
 use droid_frame::{Method, Texts};
 use droid_pronom_formats::{
-    Found, beaten_formats, extension, hit_formats, is_mismatch, lower_case, named_formats,
-    puids_of, unbeaten,
+    Found, beaten_formats, extension, hit_formats, is_any_set, is_mismatch, lower_case,
+    named_formats, puids_of, unbeaten,
 };
 use std::alloc::{AllocError, Global};
 
@@ -32,13 +31,6 @@ fn left_formats(
     }
     let beaten = beaten_formats(alloc, hit.as_slice(), registry.priorities())?;
     unbeaten(alloc, hit.as_slice(), beaten.as_slice())
-}
-
-/// Returns whether a flag is set.
-fn is_any_set(flags: &[bool]) -> bool
-    ensures { result ≡ list_any (λ flag. flag) flags.now }
-{
-    flags.iter().any(|flag| *flag)
 }
 
 /// Returns the PUIDs of the formats that the extension names. `wanted` is the extension in lower case.

@@ -1,9 +1,9 @@
--- A signature whose byte is not at its offset does not hit.
+-- A signature none of whose bytes is at their offset does not hit.
 use Rattle.std.proofs.Common.{◌≡◌, ℕ, ◌<◌, List, [], ◌∷◌, ◌++◌, length, get_or, Option, Some, None}
 use Rattle.std.specs.Prelude.{IfSome}
 use Rattle.std.specs.List.{AllByRecursion}
 use Rattle.droid_pronom_pattern.specs.Patterns.{BeginsWithin}
-use Rattle.droid_pronom_pattern.proofs.HeadLemmas.{begins_byte}
+use Rattle.droid_pronom_pattern.specs.FirstBytes.{Has}
 use Rattle.droid_pronom_formats.specs.FoundWindows.{HitsWindows}
 use Rattle.droid_pronom_formats.specs.Heads.{IsHeadOf, KeepsHead}
 use Rattle.droid_pronom_formats.specs.declared.head.Head.{Head}
@@ -19,11 +19,11 @@ keeps_more None sequences more h = tt
 keeps_more (Some head) [] more h = absurd h
 keeps_more (Some head) (first ∷ rest) more h = h
 
--- the byte is not there
+-- none of the bytes is there
 pub ruled_out : (head : Head) (sequences : List ByteSequence) (first last : List ℕ) → KeepsHead (Some head) sequences
-    → ((head.offset < length first) × (get_or first head.offset 0 ≡ head.byte) → ⊥) → AllByRecursion (HitsWindows first last) sequences → ⊥
+    → ((head.offset < length first) × Has head.bytes (get_or first head.offset 0) → ⊥) → AllByRecursion (HitsWindows first last) sequences → ⊥
 ruled_out head [] first last keeps misses all = keeps
 ruled_out head (sequence ∷ more) first last keeps misses all =
     let hit : BeginsWithin sequence.pattern first sequence.offsets.min sequence.offsets.max = rw keeps.anchor at all.0 in
     let there : BeginsWithin sequence.pattern first head.offset head.offset = rw (keeps.min, keeps.max) at hit in
-    misses (begins_byte sequence.pattern head.byte first head.offset keeps.byte there)
+    misses (keeps.bytes first head.offset there)

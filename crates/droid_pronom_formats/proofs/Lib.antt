@@ -7,3 +7,4 @@ pub mod HeadLemmas
 pub mod MarkSteps
 pub mod Marks
 pub mod RegistryForms
+pub mod SetFlags

@@ -1,21 +1,23 @@
-//! The byte that a signature needs at one offset.
+//! The bytes of which a signature needs one at one offset.
 
-ghost use Rattle.std.specs.Prelude.{◌≡◌, ◌↔◌, ◌<◌, IfSome, IsTrue, length, slice_index};
+ghost use Rattle.std.specs.Prelude.{◌↔◌, ◌<◌, IfSome, IsTrue, length, slice_index};
 ghost use Rattle.droid_pronom_formats.specs.Heads.{IsHeadOf};
+ghost use Rattle.droid_pronom_pattern.specs.FirstBytes.{Has};
 
 use crate::rows::{Anchor, ByteSequence};
+use droid_pronom_pattern::FirstBytes;
 
-/// A byte and its offset from the beginning of a file.
+/// Bytes, and their offset from the beginning of a file.
 #[derive(Clone, Copy, Debug)]
 pub(crate) struct Head {
     pub(crate) offset: u16,
-    pub(crate) byte: u8,
+    pub(crate) bytes: FirstBytes,
 }
 
 impl Head {
-    /// Returns the byte without which the byte sequence does not hit.
+    /// Returns the bytes without one of which the byte sequence does not hit.
     ///
-    /// There is one if the byte sequence has one offset from the beginning, and its pattern begins with one byte.
+    /// There are such if the byte sequence has one offset from the beginning, and its pattern begins with one of them.
     pub(crate) fn of(sequence: &ByteSequence) -> Option<Head>
         ensures { IfSome result (λ head. IsHeadOf head sequence.now) }
     {
@@ -25,20 +27,20 @@ impl Head {
         }
         match sequence.offsets.anchor {
             Anchor::Bof => {
-                let byte = sequence.pattern.first_byte()?;
-                Some(Head { offset, byte })
+                let bytes = sequence.pattern.first_bytes()?;
+                Some(Head { offset, bytes })
             }
             Anchor::Eof => None,
         }
     }
 
-    /// Returns whether the byte stands at its offset in these bytes.
+    /// Returns whether one of the bytes stands at their offset in these bytes.
     pub(crate) fn is_in(self, first: &[u8]) -> bool
-        ensures { IsTrue result ↔ ((self.offset < length first.now) × (slice_index first.now self.offset ≡ self.byte)) }
+        ensures { IsTrue result ↔ ((self.offset < length first.now) × Has self.bytes (slice_index first.now self.offset)) }
     {
         let place = self.offset as usize;
         if place < first.len() {
-            first[place] == self.byte
+            self.bytes.has(first[place])
         } else {
             false
         }

@@ -25,4 +25,4 @@ pub use steps::extension::extension;
 pub use steps::hits::hit_formats;
 pub use steps::listings::{is_mismatch, named_formats};
 pub use steps::priority::{beaten_formats, unbeaten};
-pub use steps::puids::puids_of;
+pub use steps::puids::{is_any_set, puids_of};

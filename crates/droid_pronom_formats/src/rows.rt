@@ -52,7 +52,7 @@ pub struct ByteSequence {
 #[derive(Debug, Drop)]
 pub struct Signature {
     place: u32,
-    // The byte without which the first byte sequence does not hit, if there is one.
+    // The bytes without one of which the first byte sequence does not hit, if there are such.
     head: Option<Head>,
     sequences: Vec<ByteSequence>,
 }
@@ -100,7 +100,7 @@ impl Signature {
         self.place
     }
 
-    /// Returns whether a byte in the file's first bytes shows that not all byte sequences hit.
+    /// Returns whether a byte among the file's first bytes shows that not all byte sequences hit.
     pub(crate) fn is_ruled_out(&self, first: &[u8]) -> bool
         ensures { IsTrue result → (last : List ℕ) → AllByRecursion (HitsWindows first.now last) self.now.sequences → ⊥ }
     {

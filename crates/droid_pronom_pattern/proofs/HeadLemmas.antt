@@ -6,7 +6,7 @@ use Rattle.std.proofs.lemmas.List.{get_or-take, get_or-drop}
 use Rattle.memchr.specs.Find.{IsFirstByte}
 use Rattle.droid_pronom_pattern.specs.declared.direction.Direction.TheVariants as direction
 use Rattle.droid_pronom_pattern.specs.declared.class.Class.{Class}
-use Rattle.droid_pronom_pattern.specs.Patterns.{Element, Byte, AnyByte, Gap, OpenGap, Range, Except, Choice, BeginsWithin, first_byte}
+use Rattle.droid_pronom_pattern.specs.Patterns.{Element, BeginsWithin}
 use Rattle.droid_pronom_pattern.specs.Tokens.{accepts, element_of_class}
 use Rattle.droid_pronom_pattern.specs.Positions.{Leads, Path}
 use Rattle.droid_pronom_pattern.proofs.StepLemmas.{class_steps}
@@ -95,25 +95,3 @@ reported_past es bytes at past = (
   λ h. absurd (false≢true h),
   λ (b : BeginsWithin es bytes at at). absurd (let from = b.from_low in let inside = b.inside in omega arith),
 )
-
--- a match begins with the byte that its first element is
-pub begins_byte : (es : List Element) (b : ℕ) (bytes : List ℕ) (at : ℕ) → first_byte es ≡ Some b → BeginsWithin es bytes at at
-    → (at < length bytes) × (get_or bytes at 0 ≡ b)
-begins_byte [] b bytes at e h = cc
-begins_byte (Byte x ∷ es) b bytes at e h =
-    let here : h.offset ≡ at = let low = h.from_low in let high = h.to_high in omega arith in
-    let (front, back, whole, first, rest) = h.matched in
-    let bytes_are : take h.count (drop h.offset bytes) ≡ x ∷ back = whole ∙ ap (λ xs. xs ++ back) first in
-    let some : 0 < h.count = let long = ap length bytes_are in omega (arith, long, length-take h.count (drop h.offset bytes)) in
-    let read : get_or (take h.count (drop h.offset bytes)) 0 0 ≡ get_or bytes (h.offset + 0) 0 = get_or-take h.count (drop h.offset bytes) 0 0 some ∙ get_or-drop h.offset bytes 0 0 in
-    let place : h.offset + 0 ≡ at = omega (arith, here) in
-    let is : x ≡ b = cc in (
-      let inside = h.inside in omega (arith, here, some),
-      ap (λ k. get_or bytes k 0) (sym place) ∙ sym read ∙ ap (λ xs. get_or xs 0 0) bytes_are ∙ is,
-    )
-begins_byte (AnyByte ∷ es) b bytes at e h = cc
-begins_byte (Gap least most ∷ es) b bytes at e h = cc
-begins_byte (OpenGap least ∷ es) b bytes at e h = cc
-begins_byte (Range low high ∷ es) b bytes at e h = cc
-begins_byte (Except x ∷ es) b bytes at e h = cc
-begins_byte (Choice alternatives ∷ es) b bytes at e h = cc

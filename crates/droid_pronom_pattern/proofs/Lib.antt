@@ -1,6 +1,7 @@
 pub mod CellLemmas
 pub mod ClassLemmas
 pub mod FaultLemmas
+pub mod FirstByteLemmas
 pub mod FrontLemmas
 pub mod HeadLemmas
 pub mod LangTests

@@ -2,6 +2,7 @@
 pub mod PatternText
 pub mod Patterns
 pub mod LangTest
+pub mod FirstBytes
 -- For proofs: what the private steps of reading and matching promise each other.
 pub mod Fronts
 pub mod Tokens

@@ -77,14 +77,3 @@ is_gap (Choice alternatives) = false
 -- at least one element is not a gap, so that a match has at least one byte
 abbrev pub has_byte : List Element → Bool
 has_byte es = list_any (λ e. not (is_gap e)) es
-
--- the byte that each match begins with, if the first element is one byte
-abbrev pub first_byte : List Element → Option ℕ
-first_byte [] = None
-first_byte (Byte b ∷ es) = Some b
-first_byte (AnyByte ∷ es) = None
-first_byte (Gap least most ∷ es) = None
-first_byte (OpenGap least ∷ es) = None
-first_byte (Range low high ∷ es) = None
-first_byte (Except b ∷ es) = None
-first_byte (Choice alternatives ∷ es) = None

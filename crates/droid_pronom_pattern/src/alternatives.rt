@@ -1,11 +1,13 @@
-//! Compares the alternatives of a choice with the bytes at one place.
+//! Compares the alternatives of a choice with the bytes at one place, and finds the bytes with which they begin.
 
-ghost use Rattle.std.specs.Prelude.{◌≡◌, ℕ, IsTrue, false};
+ghost use Rattle.std.specs.Prelude.{◌≡◌, ℕ, IsTrue, IfSome, false};
 ghost use Rattle.memchr.specs.Find.{OccursAt};
+ghost use Rattle.droid_pronom_pattern.specs.FirstBytes.{BeginsIn};
 ghost use Rattle.droid_pronom_pattern.specs.Patterns.{Choice};
 ghost use Rattle.droid_pronom_pattern.specs.Cells.{alternatives_in};
 ghost use Rattle.droid_pronom_pattern.specs.Positions.{Leads};
 
+use crate::first_bytes::FirstBytes;
 use crate::pool::{cut_run, rest_from};
 use crate::short::front_number;
 
@@ -38,4 +40,22 @@ fn stands_at(run: &[u8], bytes: &[u8], place: usize) -> bool
         }
     }
     true
+}
+
+/// Returns bytes with one of which each alternative begins, if none is empty. The alternatives stand at the front of `packed`.
+pub(crate) fn first_bytes_of(packed: &[u8]) -> Option<FirstBytes>
+    ensures { IfSome result (λ few. BeginsIn few (Choice (alternatives_in packed.now))) }
+{
+    let mut rest = rest_from(packed, 2);
+    let (run, _) = cut_run(rest);
+    let first = *run.first()?;
+    let mut few = FirstBytes::range(first, first);
+    let count = front_number(packed);
+    for _ in 0..count {
+        let (run, after) = cut_run(rest);
+        let first = run.first()?;
+        few = few.with(*first);
+        rest = after;
+    }
+    Some(few)
 }

@@ -1,14 +1,15 @@
 //! The cells of a compact pattern, three bytes each.
 
-ghost use Rattle.std.specs.Prelude.{◌≡◌, ◌↔◌, ◌+◌, ◌++◌, ◌<◌, ◌≤◌, ℕ, List, IfSome, IsTrue, OnOk, length, ◌∷◌};
-ghost use Rattle.droid_pronom_pattern.specs.Patterns.{Element, first_byte};
+ghost use Rattle.std.specs.Prelude.{◌≡◌, ◌↔◌, ◌+◌, ◌++◌, ◌<◌, ◌≤◌, ℕ, List, IfSome, IsTrue, OnOk, length};
+ghost use Rattle.droid_pronom_pattern.specs.FirstBytes.{BeginsIn};
 ghost use Rattle.droid_pronom_pattern.specs.Cells.{element_at, elements_at};
 ghost use Rattle.droid_pronom_pattern.specs.Positions.{Leads, Reaches, IsAt, IsInside, AreSetsOf};
 
-use crate::alternatives::none_stands;
+use crate::alternatives::{first_bytes_of, none_stands};
 use crate::class::Class;
 use crate::class_set::{ClassSet, one};
 use crate::direction::Direction;
+use crate::first_bytes::FirstBytes;
 use crate::pool::{rest_from, short_of};
 use crate::short::{Short, front_number};
 use crate::step::choice;
@@ -82,19 +83,19 @@ impl Cell {
         }
     }
 
-    /// Returns the one byte that the cell matches, if it is that.
-    pub(crate) fn byte(&self) -> Option<u8>
-        ensures { (pool : List ℕ) (es : List Element) → result ≡ first_byte (element_at pool self.now ∷ es) }
+    /// Returns bytes with one of which the cell's match begins, if it is never empty and does not begin with any byte.
+    pub(crate) fn first_bytes(&self, pool: &[u8]) -> Option<FirstBytes>
+        ensures { IfSome result (λ few. BeginsIn few (element_at pool.now self.now)) }
     {
         match self {
-            Cell::Byte(wanted) => Some(*wanted),
-            Cell::Range { .. }
-            | Cell::Except(_)
+            Cell::Byte(wanted) => Some(FirstBytes::range(*wanted, *wanted)),
+            Cell::Range { low, high } => Some(FirstBytes::range(*low, *high)),
+            Cell::Choice { at } => first_bytes_of(rest_from(pool, at.get())),
+            Cell::Except(_)
             | Cell::AnyByte
             | Cell::OpenGap { .. }
             | Cell::Stars { .. }
-            | Cell::Gap { .. }
-            | Cell::Choice { .. } => None,
+            | Cell::Gap { .. } => None,
         }
     }
 

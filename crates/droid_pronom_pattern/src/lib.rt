@@ -9,6 +9,7 @@ mod class_set;
 mod compact_form;
 mod direct_match;
 mod direction;
+mod first_bytes;
 mod parser;
 mod pattern;
 mod pattern_fault;
@@ -18,5 +19,6 @@ mod step;
 mod token;
 
 pub use class_cache::ClassCache;
+pub use first_bytes::FirstBytes;
 pub use pattern::Pattern;
 pub use pattern_fault::PatternFault;

@@ -1,7 +1,8 @@
 //! The pattern of a byte sequence.
 
 ghost use Rattle.std.specs.Prelude.{◌≡◌, ◌↔◌, ◌≤◌, List, length, IsTrue, IfOk, IfSome, OnErr, IsErrOf};
-ghost use Rattle.droid_pronom_pattern.specs.Patterns.{Element, MatchesFrom, MatchesTo, BeginsWithin, EndsWithin, first_byte};
+ghost use Rattle.droid_pronom_pattern.specs.Patterns.{Element, MatchesFrom, MatchesTo, BeginsWithin, EndsWithin};
+ghost use Rattle.droid_pronom_pattern.specs.FirstBytes.{AreFirst};
 ghost use Rattle.droid_pronom_pattern.specs.PatternText.{Spells};
 ghost use Rattle.droid_pronom_pattern.specs.ClassCaches.{AreOf};
 
@@ -9,6 +10,7 @@ use crate::class_cache::ClassCache;
 use crate::compact_form::{Packed, pack};
 use crate::direct_match::{settled_at, settled_before};
 use crate::direction::Direction;
+use crate::first_bytes::FirstBytes;
 use crate::parser::tokens_of;
 use crate::pattern_fault::PatternFault;
 use crate::token::any_byte;
@@ -70,14 +72,13 @@ impl Pattern {
         Ok(Pattern { packed })
     }
 
-    /// Returns the byte that each match begins with, if the pattern's first element is one byte.
-    pub fn first_byte(&self) -> Option<u8>
-        ensures { result ≡ first_byte self.now }
+    /// Returns bytes with one of which each match begins, if the pattern's first element says so: a byte, a range of bytes, or
+    /// alternatives none of which is empty.
+    pub fn first_bytes(&self) -> Option<FirstBytes>
+        ensures { IfSome result (λ few. AreFirst few self.now) }
     {
-        match self.packed.cells.first() {
-            Some(cell) => cell.byte(),
-            None => None,
-        }
+        let cell = self.packed.cells.first()?;
+        cell.first_bytes(self.packed.pool.as_slice())
     }
 
     /// Returns whether a match begins at this position.

@@ -72,11 +72,12 @@ pub fn hit_formats(
     let mut end = ClassCache::new(alloc);
     let mut hit = vec![in alloc; false; count]?;
     for signature in signatures {
-        let place = signature.place() as usize;
-        if hit[place] {
+        // The test that passes over most signatures stands first.
+        if signature.is_ruled_out(first) {
             continue;
         }
-        if signature.is_ruled_out(first) {
+        let place = signature.place() as usize;
+        if hit[place] {
             continue;
         }
         if all_hit(

@@ -1,6 +1,7 @@
 //! Collects the PUIDs of the formats that were found.
 
 ghost use Rattle.std.specs.Prelude.{◌≡◌, IfOk, length};
+ghost use Rattle.std.specs.List.{list_any};
 ghost use Rattle.droid_pronom_formats.specs.Found.{Chosen};
 ghost use Rattle.droid_pronom_formats.specs.FoundWindows.{Stands};
 
@@ -13,6 +14,10 @@ pub fn puids_of(alloc: Global, formats: &[Format], flags: &[bool]) -> Result<Tex
     requires { length flags.now ≡ length formats.now }
     ensures { IfOk result (λ puids. Chosen (Stands flags.now) 0 formats.now puids) }
 {
+    let none = !is_any_set(flags);
+    if none {
+        return Ok(Texts::new(alloc));
+    }
     let mut puids = Texts::new(alloc);
     for (place, format) in formats.iter().enumerate() {
         if flags[place] {
@@ -20,4 +25,12 @@ pub fn puids_of(alloc: Global, formats: &[Format], flags: &[bool]) -> Result<Tex
         }
     }
     Ok(puids)
+}
+
+/// Returns whether a flag is set.
+#[tactic(auto, using(crate::proofs::SetFlags::any_same))]
+pub fn is_any_set(flags: &[bool]) -> bool
+    ensures { result ≡ list_any (λ flag. flag) flags.now }
+{
+    flags.contains(&true)
 }

@@ -1,4 +1,4 @@
--- The byte that the signature needs is not at its offset.
+-- None of the bytes of which the signature needs one is at their offset.
 use Rattle.std.proofs.Common.{ap, sym, ◌∙◌}
 use Rattle.std.proofs.lemmas.Bool.{not-true, false≢true}
 use Rattle.droid_pronom_formats.specs.Registry.{Signed}
