@@ -12,9 +12,8 @@ ghost use Rattle.droid_tree.specs.Paths.{below};
 use droid_fixity_forms::Item;
 use droid_fixity_profile::item_of_node;
 use droid_frame::{Blob, HashValue, NodeKind};
-use droid_tree::{EntryKind, FolderEntry, Tree, TreeFault, name_of};
+use droid_tree::{EntryKind, FolderEntry, Tree, TreeFault, name_of, order_of_names};
 use std::alloc::{AllocError, Global};
-use std::cmp::Ordering;
 
 /// A tree whose files are noted as their folders are listed. A walk sees its folders, and the entries that it skips.
 #[derive(Drop)]
@@ -62,36 +61,10 @@ fn take_files(
 ) -> Result<(), AllocError>
     ensures { OnOk result (NotesEntries path.now entries.old.items files.old.items files.new.items entries.new.items) }
 {
-    entries.sort_by(|first, second| order_of(first.name.as_slice(), second.name.as_slice()))?;
+    entries.sort_by(|first, second| order_of_names(first.name.as_slice(), second.name.as_slice()))?;
     note_files(alloc, files, path, entries.as_slice())?;
     keep_left(entries);
     Ok(())
-}
-
-/// Compares two names: by their first bytes, and where these are the same as a whole.
-fn order_of(first: &[u8], second: &[u8]) -> Ordering {
-    match front_of(first).cmp(&front_of(second)) {
-        Ordering::Less => Ordering::Less,
-        Ordering::Equal => first.cmp(second),
-        Ordering::Greater => Ordering::Greater,
-    }
-}
-
-/// Returns the first eight bytes of a name as a number, as if zeros stood behind a shorter one: two of them are compared in
-/// the time of one step.
-fn front_of(name: &[u8]) -> u64 {
-    match name.first_chunk::<8>() {
-        Some(front) => u64::from_be_bytes(*front),
-        None => {
-            let mut front = [0; 8];
-            for (place, byte) in name.iter().enumerate() {
-                if place < 8 {
-                    front[place] = *byte;
-                }
-            }
-            u64::from_be_bytes(front)
-        }
-    }
 }
 
 /// Removes the files that are noted.

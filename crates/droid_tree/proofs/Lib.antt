@@ -1,4 +1,5 @@
 pub mod FileReads
+pub mod NameFronts
 pub mod Runs
 pub mod Splitting
 pub mod Tallies

@@ -2,6 +2,7 @@ pub mod Counts
 pub mod Heard
 pub mod Kinds
 pub mod Listings
+pub mod NameFronts
 pub mod Observation
 pub mod Order
 pub mod Paths

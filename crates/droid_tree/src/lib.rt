@@ -7,6 +7,7 @@
 mod fault;
 mod folder_entry;
 mod listing;
+mod name_order;
 mod order;
 mod pending_folder;
 mod pieces;
@@ -18,6 +19,7 @@ mod watcher;
 pub use fault::{TreeFault, WalkFault};
 pub use folder_entry::{EntryKind, FolderEntry};
 pub use listing::{Listing, name_of, read_folder};
+pub use name_order::order_of_names;
 pub use pending_folder::{NODE_LIMIT, PendingFolder, TURNS, add_pending, only_the_top, path_below};
 pub use pieces::{begin_of, next_len, read_piece, see_end};
 pub use skipped::{Skipped, unread};

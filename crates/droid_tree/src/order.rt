@@ -7,6 +7,7 @@ ghost use Rattle.droid_tree.specs.declared.folder_entry.FolderEntry.{FolderEntry
 
 use crate::folder_entry::FolderEntry;
 use crate::listing::Listing;
+use crate::name_order::order_of_names;
 use std::alloc::{AllocError, Global};
 use std::cmp::Ordering;
 
@@ -15,7 +16,7 @@ pub(crate) fn in_order(alloc: Global, entries: Vec<FolderEntry>) -> Result<Listi
     ensures { IfOk result (λ listing. Splits entries.items listing.entries.items listing.repeated.items) }
 {
     let mut sorted = entries;
-    sorted.sort_by(|first, second| first.name.as_slice().cmp(second.name.as_slice()))?;
+    sorted.sort_by(|first, second| order_of_names(first.name.as_slice(), second.name.as_slice()))?;
     let listing = split(alloc, sorted)?;
     Ok(listing)
 }
@@ -63,7 +64,7 @@ fn comes_next(entries: &[FolderEntry], entry: &FolderEntry) -> bool
 fn is_before(first: &FolderEntry, second: &FolderEntry) -> bool
     ensures { IsTrue result ↔ IsBefore first.now.name second.now.name }
 {
-    match first.name.as_slice().cmp(second.name.as_slice()) {
+    match order_of_names(first.name.as_slice(), second.name.as_slice()) {
         Ordering::Less => true,
         Ordering::Equal => false,
         Ordering::Greater => false,
