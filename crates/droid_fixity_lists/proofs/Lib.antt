@@ -1,3 +1,4 @@
+mod Digits
 mod Names
 pub mod Numbers
 mod PlainLists

@@ -2,10 +2,10 @@
 use Rattle.std.specs.Prelude.{ℕ, ◌==◌, ◌&&◌, ◌^◌, nat_lt, Bool, false, List, [], ◌∷◌, length, Option, Some, None, Result, Ok, Err, codes, if◌then◌else◌}
 use Rattle.std.specs.Char.{is_ascii_digit}
 use Rattle.std.specs.List.{list_all}
-use Rattle.std.specs.Option.{option_map}
+use Rattle.std.specs.Option.{option_map, unwrap_or}
 use Rattle.std.specs.Str.{bytes_eq}
 use Rattle.std.specs.Str.Parse.{digits_value}
-use Rattle.hex.specs.Hex.{decode_sized}
+use Rattle.hex.specs.Hex.{decode_sized, hex_digit_value}
 use Rattle.hex.specs.declared.FromHexError.{FromHexError}
 use Rattle.droid_frame.specs.types.hash_kind.HashKind.{HashKind}
 use Rattle.droid_frame.specs.types.hash_kind.HashKind.TheVariants as hashes
@@ -41,6 +41,10 @@ abbrev pub moment_of : List ℕ → Option (Option (List ℕ))
 moment_of text =
     if length text == 0 then Some None
     else if length text == 19 then Some (Some text) else None
+
+-- the value of a hexadecimal digit, and 16 for another byte
+abbrev pub digit_of : ℕ → ℕ
+digit_of c = unwrap_or (hex_digit_value c) 16
 
 -- the digest that hexadecimal digits stand for
 abbrev pub md5_of : Result (List ℕ) FromHexError → Option HashValue

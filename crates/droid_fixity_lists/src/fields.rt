@@ -1,6 +1,7 @@
 //! The fields of a row.
 
-ghost use Rattle.std.specs.Prelude.{◌≡◌, ◌==◌, IsAscii, IsTrue, length};
+ghost use Rattle.std.specs.Prelude.{◌≡◌, ◌==◌, IsAscii, IsTrue, Ok, length};
+ghost use Rattle.hex.specs.Hex.{decode_sized};
 ghost use Rattle.std.specs.Char.{is_ascii_digit};
 ghost use Rattle.std.specs.List.{list_all};
 ghost use Rattle.droid_fixity_lists.specs.Fields as fields;
@@ -96,13 +97,68 @@ fn digest_of(digest: HashKind, text: &[u8]) -> Option<HashValue>
 {
     match digest {
         HashKind::Nothing => None,
-        HashKind::Md5 => match <[u8; 16] as FromHex>::from_hex(text) {
-            Ok(bytes) => Some(HashValue::Md5(bytes)),
-            Err(_) => None,
-        },
-        HashKind::Sha256 => match <[u8; 32] as FromHex>::from_hex(text) {
-            Ok(bytes) => Some(HashValue::Sha256(bytes)),
-            Err(_) => None,
-        },
+        HashKind::Md5 => md5_of(text),
+        HashKind::Sha256 => sha256_of(text),
+    }
+}
+
+fn md5_of(text: &[u8]) -> Option<HashValue>
+    ensures { result ≡ fields.md5_of (decode_sized text.now 16) }
+{
+    let mut bytes = [0; 16];
+    let read = is_decoded(text, &mut bytes);
+    if read {
+        return Some(HashValue::Md5(bytes));
+    }
+    match <[u8; 16] as FromHex>::from_hex(text) {
+        Ok(bytes) => Some(HashValue::Md5(bytes)),
+        Err(_) => None,
+    }
+}
+
+fn sha256_of(text: &[u8]) -> Option<HashValue>
+    ensures { result ≡ fields.sha256_of (decode_sized text.now 32) }
+{
+    let mut bytes = [0; 32];
+    let read = is_decoded(text, &mut bytes);
+    if read {
+        return Some(HashValue::Sha256(bytes));
+    }
+    match <[u8; 32] as FromHex>::from_hex(text) {
+        Ok(bytes) => Some(HashValue::Sha256(bytes)),
+        Err(_) => None,
+    }
+}
+
+/// Decodes hexadecimal digits, and returns whether they are so many, and all of them digits. Unlike `hex` it looks at no digit
+/// before it goes on: which digits a hash has cannot be foretold, and each wrong guess of the processor costs as much as ten.
+fn is_decoded(text: &[u8], bytes: &mut [u8]) -> bool
+    ensures { IsTrue result → decode_sized text.now (length bytes.old) ≡ Ok bytes.new }
+{
+    if text.len() % 2 != 0 || text.len() / 2 != bytes.len() {
+        return false;
+    }
+    let mut most: u8 = 0;
+    for place in 0..bytes.len() {
+        let high = digit_of(text[2 * place]);
+        let low = digit_of(text[2 * place + 1]);
+        most = most.max(high).max(low);
+        bytes[place] = high.wrapping_mul(16).wrapping_add(low);
+    }
+    most < 16
+}
+
+/// Returns the value of a hexadecimal digit, and 16 for another byte.
+fn digit_of(c: u8) -> u8
+    ensures { result ≡ fields.digit_of c }
+{
+    if b'A' <= c && c <= b'F' {
+        c - b'A' + 10
+    } else if b'a' <= c && c <= b'f' {
+        c - b'a' + 10
+    } else if b'0' <= c && c <= b'9' {
+        c - b'0'
+    } else {
+        16
     }
 }
