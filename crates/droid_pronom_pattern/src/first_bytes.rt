@@ -3,7 +3,9 @@
 ghost use Rattle.std.specs.Prelude.{◌≡◌, ◌↔◌, ◌≤◌, ℕ, IsTrue};
 ghost use Rattle.droid_pronom_pattern.specs.FirstBytes.{Has};
 
-/// The bytes of two ranges, both ends included. Each match of a pattern begins with one of them, but there may be more of them.
+/// The bytes of two ranges, from the low to the high one, both included.
+///
+/// Each match of a pattern begins with one of them. There may be more of them than matches begin with.
 #[derive(Clone, Copy, Debug)]
 pub struct FirstBytes {
     pub low: u8,
