@@ -31,5 +31,5 @@ pub fn puids_of(alloc: Global, formats: &[Format], flags: &[bool]) -> Result<Tex
 pub fn is_any_set(flags: &[bool]) -> bool
     ensures { result ≡ list_any (λ flag. flag) flags.now }
 {
-    flags.contains(&true)
+    flags.iter().any(|flag| *flag)
 }
