@@ -7,7 +7,6 @@ import os
 import subprocess
 import sys
 import tempfile
-import threading
 import time
 
 sys.path.insert(0, os.path.join(os.path.dirname(os.path.abspath(__file__)), ".."))
@@ -65,28 +64,25 @@ def submit(folder, top, *options):
         return timed(lambda: subprocess.run(words, check=True, stdout=subprocess.DEVNULL, stderr=subprocess.DEVNULL))
 
 
-def ask_folders(port, client, count):
-    with connect(port) as stream:
-        for number in range(1, count + 1):
-            stream.sendall(folder(number, b"%d-%d" % (client, number), client=client))
-            assert len(read_exactly(stream, REPLY)) == REPLY
+def folder_frame(number, client):
+    """A frame that adds a folder. All have one size."""
+    return folder(number, b"%02d-%06d" % (client, number), client=client)
 
 
-def folders(clients, each, *options, env=None):
-    """Seconds that so many clients take for so many folders each, one at a time."""
+def folders(where, clients, each, *options, env=None):
+    """Seconds that so many clients take for so many folders each, one at a time. The clients are of waiting_clients.c: sixteen of
+    Python's threads would take longer than the service."""
+    asked = [os.path.join(where, f"asked-{client}") for client in range(1, clients + 1)]
+    for client, path in enumerate(asked, 1):
+        with open(path, "wb") as made:
+            made.writelines(folder_frame(number, client) for number in range(1, each + 1))
+    words = [built(where, "waiting_clients.c", "waiting_clients"), None, len(folder_frame(1, 1)), REPLY, *asked]
     with Service(*options, env=env) as service:
         with connect(service.port) as stream:
             stream.sendall(create(1, client=1_000))
             read_exactly(stream, REPLY)
-        threads = [threading.Thread(target=ask_folders, args=(service.port, client, each)) for client in range(1, clients + 1)]
-
-        def work():
-            for thread in threads:
-                thread.start()
-            for thread in threads:
-                thread.join()
-
-        return timed(work)
+        words[1] = service.port
+        return float(subprocess.run([str(word) for word in words], stdout=subprocess.PIPE, check=True).stdout)
 
 
 # prints the seconds of a loop that writes 300 bytes and calls fdatasync
@@ -108,10 +104,18 @@ def synced(path, count, env=None):
     return seconds
 
 
+def built(folder, source, name, *options):
+    """Builds a program or a library from a source in C beside this file, once, and returns its path."""
+    made = os.path.join(folder, name)
+    if not os.path.exists(made):
+        given = os.path.join(os.path.dirname(os.path.abspath(__file__)), source)
+        subprocess.run([os.environ.get("CC", "cc"), "-O2", *options, "-o", made, given, "-ldl"], check=True)
+    return made
+
+
 def slowed(folder):
     """The variables with which a program's fdatasync takes as long as that of a common disk."""
-    made, source = os.path.join(folder, "slow_sync.so"), os.path.join(os.path.dirname(os.path.abspath(__file__)), "slow_sync.c")
-    subprocess.run([os.environ.get("CC", "cc"), "-shared", "-fPIC", "-o", made, source, "-ldl"], check=True)
+    made = built(folder, "slow_sync.c", "slow_sync.so", "-shared", "-fPIC")
     return os.environ | {"LD_PRELOAD": made, "SYNC_MICROSECONDS": str(SLOW)}
 
 
@@ -121,7 +125,7 @@ def compare_folders(folder, clients, count, wanted, env=None, where="this disk")
     for turn in range(ROUNDS):
         loops.append(ALONE / synced(os.path.join(folder, "loop"), ALONE, env))
         journal = os.path.join(folder, f"{clients}-{turn}-{env is None}")
-        rates.append(count / folders(clients, count // clients, "--journal", journal, env=env))
+        rates.append(count / folders(folder, clients, count // clients, "--journal", journal, env=env))
     rate, loop = middle(rates), middle(loops)
     print(f"folders by {clients} clients, {where}: {rate:.0f} a second, the loop {loop:.0f}: {rate / loop:.2f} ({wanted})")
 

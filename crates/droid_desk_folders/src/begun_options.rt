@@ -8,7 +8,7 @@ use droid_tree_submission::Options;
 use std::fmt::{self, Display, Formatter, Write};
 
 /// What a submission was begun with, if that is not what was given now.
-#[derive(Clone, Copy, Debug)]
+#[derive(Clone, Copy)]
 pub enum BegunOptions {
     /// Another `--hash`: this one.
     OtherHash(HashKind),

@@ -7,7 +7,7 @@ use droid_fixity_profile::SeeFault;
 use std::alloc::AllocError;
 
 /// Why the profile could not be compared with the folder. All but `Memory` are mistakes of the service.
-#[derive(Clone, Copy, Debug, PartialEq, Eq)]
+#[derive(Clone, Copy)]
 pub enum CheckFault {
     /// Out of memory.
     Memory,

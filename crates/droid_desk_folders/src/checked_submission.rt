@@ -13,7 +13,7 @@ use droid_tree::{Tree, WalkFault, count};
 use droid_tree_remote::{Connection, Options, RemoteFault, Sender, Submitted, Upload, submit};
 
 /// Why a tree was not submitted, or its profile not compared with it.
-#[derive(Clone, Copy, Debug)]
+#[derive(Clone, Copy)]
 pub enum CommandFault {
     /// The tree could not be counted. Nothing was sent.
     Uncounted(WalkFault),

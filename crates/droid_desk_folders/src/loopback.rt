@@ -18,7 +18,7 @@ const SHORTEST_PAUSE: u64 = 50;
 const LONGEST_PAUSE: u64 = 2_000;
 
 /// Where to connect to, and how long to wait.
-#[derive(Clone, Copy, Debug, PartialEq, Eq)]
+#[derive(Clone, Copy)]
 pub struct LoopbackSettings {
     /// The port.
     pub port: u16,

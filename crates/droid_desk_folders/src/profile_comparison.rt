@@ -38,7 +38,7 @@ pub struct Compared {
 }
 
 /// Why the profile could not be compared.
-#[derive(Clone, Copy, Debug)]
+#[derive(Clone, Copy)]
 pub enum ComparisonFault {
     /// The export could not be read.
     NoExport(TransferFault),

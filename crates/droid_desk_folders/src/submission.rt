@@ -96,25 +96,41 @@ where
     R: Net<Listener = TcpListener, Stream = TcpStream>,
 {
     let mut upload = upload;
-    match submit_and_check(&mut upload, walk_options(options), NODE_LIMIT) {
+    let checked = submit_and_check(&mut upload, walk_options(options), NODE_LIMIT);
+    let Upload {
+        client,
+        watcher,
+        ..
+    } = upload;
+    let mut client = client;
+    end_checked(rt, &mut client, watcher, options, absolute, checked)
+}
+
+/// Reports how a submission ended, and how the profile differs. The client is lent, so that it is dropped at one place.
+fn end_checked<R>(
+    rt: &R,
+    client: &mut PortSender<'_, R>,
+    watcher: Recorder<Reporter<'_, R>>,
+    options: SubmitOptions<'_>,
+    absolute: &str,
+    checked: Result<Compared, CommandFault>,
+) -> SubmissionEnding
+where
+    R: Files<File = File> + Env + Clock + Print + Eprint + AllocGlobal,
+    R: Net<Listener = TcpListener, Stream = TcpStream>,
+{
+    match checked {
         Ok(compared) => {
-            let Upload { watcher, .. } = upload;
             let ending = end_compared(rt, &watcher, options, absolute, &compared);
             watcher.watcher.end();
             ending
         }
         Err(CommandFault::Uncounted(fault)) => SubmissionEnding::Uncounted(fault),
         Err(CommandFault::Unsubmitted(fault)) => {
-            let Upload {
-                client,
-                watcher,
-                ..
-            } = upload;
             watcher.watcher.end();
             unsubmitted(client, walk_options(options), fault)
         }
         Err(CommandFault::Uncompared { profile, fault }) => {
-            let Upload { watcher, .. } = upload;
             let ending = end_uncompared(rt, &watcher, options, profile, fault);
             watcher.watcher.end();
             ending
@@ -183,7 +199,7 @@ fn print_differences<R: Eprint>(rt: &R, compared: &Compared) {
 
 /// Returns how a submission ends that ended early.
 fn unsubmitted<R>(
-    client: PortSender<'_, R>,
+    client: &mut PortSender<'_, R>,
     options: Options,
     fault: RemoteFault,
 ) -> SubmissionEnding
@@ -212,18 +228,17 @@ fn broken<R>(opener: &Loopback<'_, R>, fault: RemoteFault) -> SubmissionEnding {
 /// Returns how a submission ends of which a number was used for another request. If that was the request for the
 /// profile, the submission was begun with other options.
 fn with_other_options<R>(
-    client: PortSender<'_, R>,
+    client: &mut PortSender<'_, R>,
     options: Options,
     fault: RemoteFault,
 ) -> SubmissionEnding
 where
     R: Clock + Eprint + Net<Listener = TcpListener, Stream = TcpStream>,
 {
-    let mut client = client;
     if client.in_flight.known.profile.is_some() {
         return SubmissionEnding::Unsubmitted(fault);
     }
-    let Ok(begun) = options_of(&mut client, options) else {
+    let Ok(begun) = options_of(client, options) else {
         return SubmissionEnding::Unsubmitted(fault);
     };
     match begun_of(options, begun) {

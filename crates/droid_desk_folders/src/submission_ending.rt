@@ -14,7 +14,7 @@ use droid_tree_remote::{RemoteFault, TransferFault};
 use std::io::ErrorKind;
 
 /// A file that a submission writes.
-#[derive(Clone, Copy, Debug, PartialEq, Eq)]
+#[derive(Clone, Copy)]
 pub enum OutputFile {
     /// The CSV of the profile.
     Export,
@@ -25,7 +25,7 @@ pub enum OutputFile {
 }
 
 /// How the submission of a folder ends.
-#[derive(Clone, Copy, Debug)]
+#[derive(Clone, Copy)]
 pub enum SubmissionEnding {
     /// The service's profile is the folder.
     Whole,

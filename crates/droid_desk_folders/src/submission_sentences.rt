@@ -49,11 +49,11 @@ impl SubmissionEnding {
         match self {
             SubmissionEnding::NoConnection(cause) => print_no_connection(rt, port, cause),
             SubmissionEnding::OtherOptions(begun) => print_other_options(rt, port, begun),
-            SubmissionEnding::Disturbed => {
-                eprintln!(rt;
-                    "port {port}: other clients sent requests between the parts of the CSV, a hundred times: run the same command again later"
-                )
-            }
+            SubmissionEnding::Disturbed => print_port(
+                rt,
+                port,
+                "other clients sent requests between the parts of the CSV, a hundred times: run the same command again later",
+            ),
             SubmissionEnding::Unchecked(CheckFault::Memory) => eprintln!(rt; "{NO_MEMORY}"),
             SubmissionEnding::Unchecked(fault) => {
                 eprintln!(rt; "port {port}: {}: {MISTAKE}", check_sentence(fault))
@@ -140,10 +140,12 @@ fn print_walking<R: Eprint>(
     match fault {
         SubmissionFault::Memory => print_transfer(rt, options, TransferFault::Memory),
         SubmissionFault::Ended => print_transfer(rt, options, TransferFault::Broken),
-        SubmissionFault::Reply => {
-            eprintln!(rt; "port {port}: a reply came that does not fit its request: {MISTAKE}")
-        }
-        SubmissionFault::Refused(refusal) => print_refusal(rt, port, refusal),
+        SubmissionFault::Reply => print_port(
+            rt,
+            port,
+            "a reply came that does not fit its request: this is a mistake in droid_desk or in the service",
+        ),
+        SubmissionFault::Refused(refusal) => print_port(rt, port, refusal_sentence(refusal)),
         SubmissionFault::TooLong => {
             print_folder(
                 rt,
@@ -180,17 +182,17 @@ fn print_transfer<R: Eprint>(
                 options.to.wait
             )
         }
-        TransferFault::Stranger => {
-            eprintln!(rt;
-                "port {port}: what came is no reply to the request: is droid_desk serve listening there?"
-            )
-        }
-        TransferFault::Restarted => {
-            eprintln!(rt;
-                "port {port}: the service has lost what was sent, so it was restarted: run the same command again, it starts anew"
-            )
-        }
-        TransferFault::Refused(refusal) => print_refusal(rt, port, refusal),
+        TransferFault::Stranger => print_port(
+            rt,
+            port,
+            "what came is no reply to the request: is droid_desk serve listening there?",
+        ),
+        TransferFault::Restarted => print_port(
+            rt,
+            port,
+            "the service has lost what was sent, so it was restarted: run the same command again, it starts anew",
+        ),
+        TransferFault::Refused(refusal) => print_port(rt, port, refusal_sentence(refusal)),
         TransferFault::Busy => print_busy(rt, options),
     }
 }
@@ -203,11 +205,12 @@ fn print_busy<R: Eprint>(rt: &R, options: SubmitOptions<'_>) -> io::Result<()> {
     )
 }
 
-/// Says what a refusal means.
-fn print_refusal<R: Eprint>(rt: &R, port: u16, refusal: Refusal) -> io::Result<()> {
-    eprintln!(rt; "port {port}: {}", refusal_sentence(refusal))
+/// Prints a sentence about the service on a port.
+fn print_port<R: Eprint>(rt: &R, port: u16, sentence: &str) -> io::Result<()> {
+    eprintln!(rt; "port {port}: {sentence}")
 }
 
+/// Says what a refusal means.
 fn refusal_sentence(refusal: Refusal) -> &'static str {
     match refusal {
         Refusal::LimitReached(Limit::Profiles) =>

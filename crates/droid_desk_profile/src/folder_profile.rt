@@ -2,7 +2,7 @@
 
 use crate::named_registry::{NamedRegistry, RegistryLine};
 use crate::other_files::OtherFiles;
-use crate::output_files::{OutputFiles, create_page};
+use crate::output_files::{OutputFiles, create_page, give_up};
 use crate::profile_ending::ProfileEnding;
 use crate::profile_page::add_page;
 use crate::skipped_file::SkippedFile;
@@ -55,7 +55,10 @@ where
     };
     let page = match create_page(rt, options) {
         Ok(page) => page,
-        Err(ending) => return ending,
+        Err(ending) => {
+            files.give_up();
+            return ending;
+        }
     };
     match tree_of(rt, options, &mut files) {
         Ok(tree) => {
@@ -70,10 +73,11 @@ where
                 files,
                 keeps,
             );
-            add_page(rt, registry.name, options, ending, csv, page)
+            add_page(rt, registry.name, options, ending, &csv, page)
         }
         Err(ending) => {
             files.give_up();
+            give_up(page);
             ending
         }
     }

@@ -8,7 +8,7 @@ use std::alloc::Global;
 use std::fs::{File, Files};
 
 /// A file that a profile writes.
-#[derive(Clone, Copy, Debug, PartialEq, Eq)]
+#[derive(Clone, Copy)]
 pub enum OutputFile {
     /// The CSV.
     Csv,
@@ -41,8 +41,21 @@ impl<'a, R: Files<File = File> + AllocGlobal> OutputFiles<'a, R> {
         see_other(rt, options.output, options.skipped, OutputFile::Skipped)?;
         see_other(rt, options.manifest, options.skipped, OutputFile::Skipped)?;
         let csv = create(rt, options.output, OutputFile::Csv)?;
-        let manifest = create(rt, options.manifest, OutputFile::Manifest)?;
-        let skipped = create(rt, options.skipped, OutputFile::Skipped)?;
+        let manifest = match create(rt, options.manifest, OutputFile::Manifest) {
+            Ok(manifest) => manifest,
+            Err(ending) => {
+                give_up(csv);
+                return Err(ending);
+            }
+        };
+        let skipped = match create(rt, options.skipped, OutputFile::Skipped) {
+            Ok(skipped) => skipped,
+            Err(ending) => {
+                give_up(csv);
+                give_up(manifest);
+                return Err(ending);
+            }
+        };
         Ok(OutputFiles {
             csv,
             manifest,
@@ -168,7 +181,7 @@ fn complete<R: Files>(
 }
 
 /// Removes what was written of a file, if there is one.
-fn give_up<R: Files>(output: Option<Output<'_, R>>) {
+pub(crate) fn give_up<R: Files>(output: Option<Output<'_, R>>) {
     if let Some(output) = output {
         output.give_up();
     }

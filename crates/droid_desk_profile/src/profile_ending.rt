@@ -10,7 +10,7 @@ use droid_profile_csv::CsvFault;
 use droid_tree_disk::OutputFault;
 
 /// How the profile of a folder ends.
-#[derive(Clone, Copy, Debug)]
+#[derive(Clone, Copy)]
 pub enum ProfileEnding {
     /// Everything in the folder is in the profile, symbolic links aside.
     Whole,

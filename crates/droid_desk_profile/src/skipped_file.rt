@@ -14,7 +14,7 @@ use droid_tree::Skipped;
 use std::alloc::{AllocError, Global};
 
 /// Why not all of the CSV was written.
-#[derive(Clone, Copy, Debug, PartialEq, Eq)]
+#[derive(Clone, Copy)]
 pub enum SkippedFault {
     /// Out of memory.
     Memory,

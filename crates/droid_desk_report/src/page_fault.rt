@@ -9,7 +9,7 @@ use droid_tree_disk::OutputFault;
 use std::alloc::AllocError;
 
 /// Why the page of a CSV was not written.
-#[derive(Clone, Copy, Debug)]
+#[derive(Clone, Copy)]
 pub enum PageFault {
     /// The file for the page could not be created, or not be put in its place.
     NoOutput(OutputFault),

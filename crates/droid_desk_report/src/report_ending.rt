@@ -8,7 +8,7 @@ use droid_report::ProfileFault;
 use std::io::ErrorKind;
 
 /// How a report ended.
-#[derive(Clone, Copy, Debug)]
+#[derive(Clone, Copy)]
 pub enum ReportEnding {
     /// The page was written.
     Whole,

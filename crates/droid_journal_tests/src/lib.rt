@@ -1,6 +1,9 @@
 //! Tests of the journal over a file in memory that tears.
 #![tactic(auto)]
 
+mod accepting;
+#[cfg(test)]
+mod batches;
 mod counter;
 mod memory_log;
 mod memory_name;

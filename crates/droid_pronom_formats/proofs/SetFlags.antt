@@ -5,10 +5,11 @@ use Rattle.droid_pronom_formats.specs.Found.{Chosen, end, passed}
 use Rattle.droid_pronom_formats.specs.FoundWindows.{Stands}
 use Rattle.droid_pronom_formats.specs.declared.format.Format.{Format}
 
+-- a test that is the flag itself
 pub any_same : (test : Bool → Bool) (flags : List Bool) → test true ≡ true → test false ≡ false → list_any test flags ≡ list_any (λ (flag : Bool). flag) flags
-any_same test [] yes no = refl
-any_same test (true ∷ flags) yes no = rw yes refl
-any_same test (false ∷ flags) yes no = rw no (any_same test flags yes no)
+any_same test [] on off = refl
+any_same test (true ∷ flags) on off = rw on
+any_same test (false ∷ flags) on off = rw off (any_same test flags on off)
 
 none_stands : (flags : List Bool) (k : ℕ) → list_any (λ (flag : Bool). flag) flags ≡ false → Stands flags k → ⊥
 none_stands [] k none stands = cc

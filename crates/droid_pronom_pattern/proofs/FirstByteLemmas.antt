@@ -1,10 +1,11 @@
 -- The bytes with which a match begins.
-use Rattle.std.proofs.Common.{◌≡◌, ◌∙◌, ℕ, zero, suc, ◌+◌, ◌<◌, ◌≤◌, List, [], ◌∷◌, ◌++◌, length, take, drop, get_or, Contains, refl, sym, ap, subst, arith, length-take, length-drop}
-use Rattle.std.specs.List.{flat_map}
+use Rattle.std.proofs.Common.{◌≡◌, ◌∙◌, ℕ, zero, suc, ◌+◌, ◌<◌, ◌≤◌, List, [], ◌∷◌, ◌++◌, length, take, drop, get_or, Option, Some, None, sym, ap, subst, arith, length-take}
+use Rattle.std.specs.List.{flat_map, slice_get}
+use Rattle.std.specs.Prelude.{IfSome}
 use Rattle.std.proofs.lemmas.List.{get_or-take, get_or-drop}
-use Rattle.droid_pronom_pattern.specs.Cells.{element_at, elements_at, more_of}
+use Rattle.droid_pronom_pattern.specs.Cells.{element_at, elements_at}
 use Rattle.droid_pronom_pattern.specs.FirstBytes.{AreFirst, BeginsIn, Has}
-use Rattle.droid_pronom_pattern.specs.Patterns.{Element, Byte, Range, Choice, BeginsWithin}
+use Rattle.droid_pronom_pattern.specs.Patterns.{Element, Byte, Range, Choice}
 use Rattle.droid_pronom_pattern.specs.declared.cell.Cell.{Cell}
 use Rattle.droid_pronom_pattern.specs.declared.first_bytes.FirstBytes.{FirstBytes}
 
@@ -39,6 +40,15 @@ match_begins few e es begins bytes at h =
     )
 
 -- the first cell is the first element
-pub cells_begin : (few : FirstBytes) (pool : List ℕ) (cell : Cell) (cells all : List Cell) → all ≡ cell ∷ cells → BeginsIn few (element_at pool cell) → AreFirst few (flat_map (elements_at pool) all)
-cells_begin few pool cell cells all is begins =
-    rw is (match_begins few (element_at pool cell) _ begins)
+pub cells_begin : (r : Option FirstBytes) (pool : List ℕ) (cell : Cell) (cells : List Cell) (es : List Element) → Some cell ≡ slice_get cells 0
+    → es ≡ flat_map (elements_at pool) cells → IfSome r (λ few. BeginsIn few (element_at pool cell)) → IfSome r (λ few. AreFirst few es)
+cells_begin None pool cell cells es is same h = h
+cells_begin (Some few) pool cell [] es is same h = absurd cc
+cells_begin (Some few) pool cell (first ∷ rest) es is same h =
+    let one : first ≡ cell = cc in
+    rw (same, one) (match_begins few (element_at pool cell) _ h)
+
+-- the first item of a list
+pub front_of : (xs : List ℕ) (x : ℕ) → Some x ≡ slice_get xs 0 → (more : List ℕ) × (xs ≡ x ∷ more)
+front_of [] x is = absurd cc
+front_of (y ∷ ys) x is = (ys, cc)

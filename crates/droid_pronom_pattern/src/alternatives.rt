@@ -42,7 +42,8 @@ fn stands_at(run: &[u8], bytes: &[u8], place: usize) -> bool
     true
 }
 
-/// Returns bytes with one of which each alternative begins, if none is empty. The alternatives stand at the front of `packed`.
+/// Returns bytes with one of which each alternative begins, if none is empty. The alternatives stand at the front of
+/// `packed`.
 pub(crate) fn first_bytes_of(packed: &[u8]) -> Option<FirstBytes>
     ensures { IfSome result (λ few. BeginsIn few (Choice (alternatives_in packed.now))) }
 {

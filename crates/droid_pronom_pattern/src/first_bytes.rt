@@ -1,15 +1,17 @@
 //! The bytes with which a match can begin.
 
-ghost use Rattle.std.specs.Prelude.{◌↔◌, ◌≤◌, ℕ, IsTrue};
+ghost use Rattle.std.specs.Prelude.{◌≡◌, ◌↔◌, ◌≤◌, ℕ, IsTrue};
 ghost use Rattle.droid_pronom_pattern.specs.FirstBytes.{Has};
 
-/// The bytes of two ranges. Each match of a pattern begins with one of them, but there may be more of them.
+/// The bytes of two ranges, from the low to the high one, both included.
+///
+/// Each match of a pattern begins with one of them. There may be more of them than matches begin with.
 #[derive(Clone, Copy, Debug)]
 pub struct FirstBytes {
-    pub(crate) low: u8,
-    pub(crate) high: u8,
-    pub(crate) other_low: u8,
-    pub(crate) other_high: u8,
+    pub low: u8,
+    pub high: u8,
+    pub other_low: u8,
+    pub other_high: u8,
 }
 
 impl FirstBytes {

@@ -72,8 +72,8 @@ impl Pattern {
         Ok(Pattern { packed })
     }
 
-    /// Returns bytes with one of which each match begins, if the pattern's first element says so: a byte, a range of bytes, or
-    /// alternatives none of which is empty.
+    /// Returns bytes with one of which each match begins, if the pattern's first element says so: a byte, a range of
+    /// bytes, or alternatives none of which is empty.
     pub fn first_bytes(&self) -> Option<FirstBytes>
         ensures { IfSome result (λ few. AreFirst few self.now) }
     {

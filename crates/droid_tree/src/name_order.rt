@@ -7,7 +7,8 @@ ghost use Rattle.droid_tree.specs.NameFronts.{IsFront};
 
 use std::cmp::Ordering;
 
-/// Compares two names by their bytes: first by the first eight bytes of each as a number, which takes a tenth of the time.
+/// Compares two names by their bytes. If both have eight or more, the first eight of each are compared as one number, which
+/// decides most pairs.
 pub fn order_of_names(first: &[u8], second: &[u8]) -> Ordering
     ensures { result ≡ slice_cmp nat_cmp first.now second.now }
 {
@@ -24,7 +25,7 @@ pub fn order_of_names(first: &[u8], second: &[u8]) -> Ordering
     }
 }
 
-/// Returns the first eight bytes as a number, if there are so many.
+/// Returns the first eight bytes of a name as a number, or `None` if it is shorter.
 fn front_of(name: &[u8]) -> Option<u64>
     ensures { IfSome result (λ front. IsFront name.now front) }
 {

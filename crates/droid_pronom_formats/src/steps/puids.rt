@@ -14,11 +14,11 @@ pub fn puids_of(alloc: Global, formats: &[Format], flags: &[bool]) -> Result<Tex
     requires { length flags.now ≡ length formats.now }
     ensures { IfOk result (λ puids. Chosen (Stands flags.now) 0 formats.now puids) }
 {
+    let mut puids = Texts::new(alloc);
     let none = !is_any_set(flags);
     if none {
-        return Ok(Texts::new(alloc));
+        return Ok(puids);
     }
-    let mut puids = Texts::new(alloc);
     for (place, format) in formats.iter().enumerate() {
         if flags[place] {
             puids.push(format.puid.try_clone(alloc)?)?;
@@ -28,7 +28,6 @@ pub fn puids_of(alloc: Global, formats: &[Format], flags: &[bool]) -> Result<Tex
 }
 
 /// Returns whether a flag is set.
-#[tactic(auto, using(crate::proofs::SetFlags::any_same))]
 pub fn is_any_set(flags: &[bool]) -> bool
     ensures { result ≡ list_any (λ flag. flag) flags.now }
 {

@@ -1,9 +1,7 @@
 -- An alternative that doesn't stand there, and all of them.
-use Rattle.std.proofs.Common.{◌≡◌, ℕ, suc, ◌+◌, ◌-◌, take, drop, arith}
+use Rattle.std.proofs.Common.{◌≡◌, suc, ◌+◌, ◌-◌, take, drop, arith}
 use Rattle.memchr.specs.Find.{OccursAt}
-use Rattle.droid_pronom_pattern.specs.Patterns.{Choice}
 use Rattle.droid_pronom_pattern.specs.Cells.{front_number, runs_in}
-use Rattle.droid_pronom_pattern.specs.Positions.{Leads}
 use Rattle.droid_pronom_pattern.proofs.StepLemmas.{choice_less, leads_nowhere}
 use Rattle.droid_pronom_pattern.proofs.alternatives.none_stands.Goals as goal
 

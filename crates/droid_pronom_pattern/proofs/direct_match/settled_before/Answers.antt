@@ -1,5 +1,5 @@
 -- One more cell, a cell that fails, and all of them.
-use Rattle.std.proofs.Common.{◌≡◌, ◌+◌, ◌-◌, ◌++◌, ◌∷◌, [], get_or, length, take, arith, length-take}
+use Rattle.std.proofs.Common.{◌-◌, get_or, length, take, arith, length-take}
 use Rattle.std.proofs.lemmas.List.{get_or_default}
 use Rattle.droid_pronom_pattern.specs.declared.cell.Cell.TheVariants as cell
 use Rattle.droid_pronom_pattern.proofs.PathLemmas.{rest_and_last, no_items}

@@ -1,10 +1,15 @@
-use Rattle.std.proofs.Common.{◌<◌, ◌∷◌, [], length, append_assoc, arith}
+-- No flag is set, one more flag, and all of them.
+use Rattle.std.proofs.Common.{◌<◌, ◌∷◌, [], length, append_assoc, sym, ◌∙◌, arith}
 use Rattle.std.proofs.lemmas.List.{append-nil}
 use Rattle.droid_pronom_formats.specs.FoundWindows.{Stands}
 use Rattle.droid_pronom_formats.proofs.Flags.{rest_of_item, stands_at, stands_not}
 use Rattle.droid_pronom_formats.proofs.MarkSteps.{chosen_step, passed_step, chosen_end}
+use Rattle.droid_pronom_formats.proofs.SetFlags.{none_chosen}
 use Rattle.droid_pronom_formats.proofs.steps.puids.puids_of.Goals as goal
 use Rattle.droid_pronom_formats.proofs.steps.puids.puids_of.Goals.{then-flags-place+in_ok-try_clone+in_ok-push, else-flags-place}
+
+pub returns-then-none : goal.returns-then-none
+returns-then-none c = rw c.new-puids.ensures (none_chosen c.args.flags.now c.args.formats.now (sym c.is_any_set-none.ensures ∙ c.if-none.true))
 
 pub loop-place-preserved : goal.loop-place-preserved
 loop-place-preserved c = λ rest more.

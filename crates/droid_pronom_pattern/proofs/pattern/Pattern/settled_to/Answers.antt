@@ -1,6 +1,6 @@
 -- Before the beginning, and where the cells decide.
 use Rattle.std.proofs.Common.{sym, arith}
-use Rattle.droid_pronom_pattern.proofs.TailLemmas.{ended_within, ended_past}
+use Rattle.droid_pronom_pattern.proofs.TailLemmas.{ended_within}
 use Rattle.droid_pronom_pattern.proofs.pattern.Pattern.settled_to.Goals as goal
 
 pub returns : goal.returns
