@@ -1,16 +1,16 @@
 //! Help texts of `registry`.
 
 pub const CONVERSION_ABOUT: &str =
-    "Make a registry file of PRONOM's signature file, for --registry";
+    "Make a registry file, for --registry, from PRONOM's signature file";
 
 pub const SIGNATURE_FILE_HELP: &str =
     "PRONOM's signature file, as DROID uses it: DROID_SignatureFile_V120.xml, say";
 
 pub const REGISTRY_OUTPUT_HELP: &str =
-    "Write the registry to this file, never a part of it (default: standard output)";
+    "Write the registry to this file, never an incomplete one (default: standard output)";
 
 pub const CONVERSION_QUIET_HELP: &str =
-    "Print only how much was taken and how much was left out, without a line for each";
+    "Print only counts of what was taken and left out, without a line for each thing";
 
 pub const CONVERSION_HELP: &str = "\
 The National Archives publishes PRONOM's signature file a few times a year. The registry has its
@@ -18,12 +18,12 @@ formats with their names, versions, media types, extensions and priorities, and 
 its signatures. A signature is taken whole or not at all.
 
 Standard error has the version and the date of FILE; how many formats, signatures, extensions and
-priorities were taken; how much was left out, with a line for each thing that says why; and the MD5 of
+priorities were taken; how much was left out, and a line that says why for each thing; and the MD5 of
 the registry. With --output, OUT.txt gets a line with the version, the date and the MD5.
 
 Exit status:
 
-  0  the registry has everything of FILE
+  0  the registry has everything that FILE has
   2  the command line is wrong
   3  FILE could not be opened or read (Read), or has more than 67,108,864 bytes (TooLong); it is not
      XML (NotWellFormed), has a document type (Doctype), more than 16 elements inside one another

@@ -69,8 +69,8 @@ NUMBER your own number for the request. The replies come once the input has ende
   taken HELD                             a piece was taken; HELD pieces are held now
   finished METHOD MISMATCH HASH PUIDS    a file was finished; METHOD is Signature,
                                          Extension or none; MISMATCH is true if its
-                                         extension is none of its formats'; HASH has the
-                                         digits of its hash; - means no hash or no PUID
+                                         formats list only other extensions; HASH has
+                                         the digits of its hash; - means no hash or PUID
   abandoned                              a file was given up
   progress HELD MISSING                  pieces held, and the first missing one; for a
                                          whole file both are its number of pieces

@@ -14,16 +14,16 @@ pub const MATCH_ALL_HELP: &str =
 pub const HASH_HELP: &str = "Hash of each file: md5 (default), sha256 or none";
 
 pub const OUTPUT_HELP: &str =
-    "Write the CSV to this file, never a part of it (default: standard output)";
+    "Write the CSV to this file, never an incomplete one (default: standard output)";
 
 pub const MANIFEST_HELP: &str =
-    "Write the files' checksums to this file, for `md5sum -c` or `sha256sum -c`, never a part of them";
+    "Write the files' checksums to this file, for `md5sum -c` or `sha256sum -c`, never an incomplete list";
 
 pub const LEFT_OUT_HELP: &str =
-    "Write what was skipped to this file, as a CSV of paths and reasons, never a part of it";
+    "Write what was skipped to this file, as a CSV of paths and reasons, never an incomplete one";
 
 pub const PAGE_HELP: &str =
-    "Also write a page of the profile to this file, to look at, never a part of it";
+    "Also write a page with the profile's numbers to this file, never an incomplete one";
 
 pub const QUIET_HELP: &str = "Print neither progress nor the summary";
 
@@ -37,8 +37,8 @@ written while DIR is read.
 The file of --manifest has a line for each file of the CSV: its checksum, and its path below DIR.
 Check it by `md5sum -c FILE` or, after --hash sha256, by `sha256sum -c FILE`, both run in DIR.
 
-PAGE gets the page that `droid_desk report` makes of the CSV, once everything else is written. Until
-then the CSV is also kept in memory. What is said of a FILE below is true of PAGE too.
+PAGE is the page that `droid_desk report` makes of the CSV. It is written last, and until then the
+CSV is also kept in memory. Below, FILE means PAGE too.
 
 Symbolic links below DIR are never followed, and are no part of a profile. What can't be profiled has
 no row: sockets and devices; names that are not UTF-8 or that a profile can't have; a name that a
@@ -52,9 +52,9 @@ terminal in one line that is updated. The summary at the end counts the files id
 signature, by extension and not at all, mismatches, the ten most frequent formats, what was skipped
 and how many links are among that, bytes and seconds.
 
-Each FILE is complete, or as it was before, and has a path of its own. It may be inside DIR: its old
-version is listed, the new one isn't. For the CSV of a folder in that folder use --output, not `>`: a
-file that grows while it is read is skipped.
+At the end each FILE is complete, or as it was before. No two may have the same path. FILE may be
+inside DIR: its old version is listed, the new one isn't. To write the CSV into DIR itself use
+--output, not `>`: a file that grows while it is read is skipped.
 
 Exit status:
 
@@ -64,7 +64,7 @@ Exit status:
   4  DIR is not a folder (Folder); the CSV or a FILE could not be written (Write); a FILE could not
      be created or replaced (Output); there are more than 4,294,967,295 folders and files (Numbers);
      or memory ran out (Memory). Standard output ends with a whole row, if it could be written
-  5  the CSV is written, but something else than symbolic links was skipped
+  5  the CSV is written, but something other than symbolic links was skipped
   6  there was no memory for the command line
 
 If several apply: the first of 2, 3, 6, 4, 5. With 3, 4 and 6 standard error says what happened

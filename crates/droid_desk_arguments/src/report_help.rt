@@ -1,19 +1,19 @@
 //! Help texts of `report`.
 
 pub const REPORT_ABOUT: &str =
-    "Make a page of a profile, to look at: one HTML file with its numbers";
+    "Make a page with the numbers of a profile: one HTML file for a browser";
 
 pub const PROFILE_FILE_HELP: &str = "The CSV of `profile` or of `submit --export`";
 
 pub const TITLE_HELP: &str = "The page's title (default: the file's name)";
 
 pub const PAGE_OUTPUT_HELP: &str =
-    "Write the page to this file, never a part of it (default: standard output)";
+    "Write the page to this file, never an incomplete one (default: standard output)";
 
 pub const REPORT_HELP: &str = "\
-The page says how many folders, files, bytes and formats there are, how the files were identified, how
-old and how large they are, which have no format, several or one that their extension is none of, and
-which have one hash and one size. It stands alone: it has no script, and loads nothing.
+The page says how many folders, files, bytes and formats there are, how the files were identified, and
+how old and how large they are. It lists files without a format, with several formats or with an
+unexpected extension, and equal files (the same hash and size). It has no script and loads nothing.
 
 Exit status:
 

@@ -4,7 +4,7 @@ pub const RUN_ABOUT: &str =
     "Read request frames from standard input, and write a reply frame for each to standard output";
 
 pub const JOURNAL_HELP: &str =
-    "Append each accepted request to this file, and start with those that it has (default: start empty)";
+    "Append each accepted request to this file, and start with the requests in it (default: start empty)";
 
 pub const RUN_HELP: &str = "\
 Each frame is one request to a service that starts empty, or with what --journal has. Numbers are
@@ -21,16 +21,16 @@ written.
 
 With --journal each accepted request is appended to the journal with its reply, and the reply is sent
 only once both are on the disk. So nothing that was answered is lost if the service is killed: start
-it again with the journal and the registry. A journal that is not there is made. Behind its last whole
-record a crash may have left a part of one: this is moved to FILE.torn, and standard error says so.
-Only one process at a time can use a journal.
+it again with the journal and the registry. If there is no such file, it is created. A crash may leave
+a part of a record at the end: this part is moved to FILE.torn, and standard error says so. Only one
+process at a time can use a journal.
 
 Exit status:
 
   0  the input ended between frames, or 1,000,000 frames were answered without a journal
   2  the command line is wrong
   3  the registry file could not be opened or read, or is not a registry; or the journal is damaged,
-     is none, or was made with another registry or version of droid_desk (Journal at N)
+     is not a journal, or was made with another registry or version of droid_desk (Journal at N)
   4  a frame could not be read, or a reply not be written: Truncated, BadVersion, TooLong, Memory,
      Read or Write; the journal could not be opened, read or written (Journal); or another process has
      it open (Journal in use). All frames before were answered
@@ -53,7 +53,7 @@ pub const CONNECTIONS_HELP: &str = "Exit after this many connections (1 to 1000,
 pub const AT_ONCE_HELP: &str = "Serve up to this many connections at once, in turns (1 to 64)";
 
 pub const IDLE_HELP: &str =
-    "With --at-once: close a connection that sends and takes nothing for so long (1 to 3600, default 60)";
+    "With --at-once: close a connection that neither sends nor takes anything for this long (1 to 3600, default 60)";
 
 pub const FOREVER_HELP: &str = "With --at-once, in the place of --connections: never exit";
 
@@ -62,9 +62,9 @@ pub const VERBOSE_HELP: &str =
 
 pub const SERVE_HELP: &str = "\
 The service prints `listening P` to standard output once it listens. It answers each connection as
-`droid_desk run` answers its input, up to 1,000,000 frames without --journal and --at-once. The next
-connection finds all that the ones before have sent. When the service ends, all is lost, unless it has
-a journal: `droid_desk run --help` says how. A large journal may be made smaller at the start:
+`droid_desk run` answers its input, up to 1,000,000 frames without --journal and --at-once. Later
+connections find what earlier ones have sent. When the service ends, all is lost, unless it has a
+journal: `droid_desk run --help` explains it. A large journal may be made smaller at the start:
 `droid_desk compact --help`. Failed connections aren't logged and don't stop it: a client that lost
 its connection sends its requests again under the same numbers.
 
@@ -78,7 +78,7 @@ Exit status:
   0  that many connections were served, whatever ended each of them
   2  the command line is wrong
   3  the registry file could not be opened or read, or is not a registry; or the journal is damaged,
-     is none, or was made with another registry or version of droid_desk (Journal at N)
+     is not a journal, or was made with another registry or version of droid_desk (Journal at N)
   4  the port is not free, or a connection could not be accepted (Socket); `listening P` could not be
      written (Write); the journal could not be opened, read or written (Journal); or another process
      has it open (Journal in use)
@@ -98,13 +98,13 @@ pub const SEND_PORT_HELP: &str =
     "Connect to this port of 127.0.0.1, where `serve` listens (1 to 65535)";
 
 pub const CLIENT_HELP: &str =
-    "Your ID: new for other requests, the same to send these again (0 to 4294967295)";
+    "Your ID: the same to send the same lines again, another one for other lines (0 to 4294967295)";
 
 pub const FIRST_HELP: &str = "Number of the first request (0 to 9223372036854775807, default 1)";
 
 pub const SEND_HELP: &str = "\
-The lines are those of `droid_desk script --help`, but leave out CLIENT and NUMBER; so are the reply
-lines. Each request is sent under the next number once the one before was answered; a bad line takes
+The lines and the replies are those of `droid_desk script --help`, but a line leaves out CLIENT and
+NUMBER. Each request is sent under the next number, once the one before was answered; a bad line takes
 no number. The same lines sent again are the same requests: each gets its first reply again, and is
 done once.
 
@@ -113,7 +113,7 @@ Exit status:
   0  every line was a request, and every reply was printed, refusals too
   2  the command line is wrong
   4  could not connect (Socket); the service closed the connection where a reply was due (Closed), or
-     answered what was not asked (Stranger, Repeated, Malformed); the numbers are used up
+     sent something else (Stranger, Repeated, Malformed); the numbers are used up
      (NumbersUsedUp); memory ran out (Memory); or a stream failed (Truncated, BadVersion, TooLong,
      Read, Write)
   5  some line was bad

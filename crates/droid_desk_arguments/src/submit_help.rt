@@ -24,13 +24,14 @@ pub const TIMEOUT_HELP: &str =
 pub const PIECE_SIZE_HELP: &str =
     "Send files in pieces of this many bytes (1 to 4194304, default 262144)";
 
-pub const EXPORT_HELP: &str = "At the end write the profile's CSV to this file, never a part of it";
+pub const EXPORT_HELP: &str =
+    "At the end write the profile's CSV to this file, never an incomplete one";
 
 pub const SKIPPED_HELP: &str =
-    "At the end write what was skipped to this file, as a CSV of paths and reasons, never a part of it";
+    "At the end write what was skipped to this file, as a CSV of paths and reasons, never an incomplete one";
 
 pub const SUBMIT_PAGE_HELP: &str =
-    "At the end write a page of the profile to this file, to look at, never a part of it";
+    "At the end write a page with the profile's numbers to this file, never an incomplete one";
 
 pub const SUBMIT_HELP: &str = "\
 The folder becomes one profile of the service. You can give the same command again after any
@@ -52,9 +53,9 @@ that the service still has the profile. It sends up to sixteen requests ahead of
 
 At the end the client reads the profile's CSV, even without --export, and compares it with the
 folder. Standard output has the profile's number. Standard error has what was skipped, what differs,
-what is in the profile and not in the folder, and the progress, as by `profile`. PAGE gets the page
-that `droid_desk report` makes of the CSV. Each FILE and PAGE is complete, or as it was before, has a
-path of its own, and must lie outside DIR.
+what is in the profile and not in the folder, and the progress, as `profile` prints it. PAGE is the
+page that `droid_desk report` makes of the CSV. At the end each FILE and PAGE is complete, or as it
+was before. No two may have the same path, and none may lie inside DIR.
 
 Exit status:
 
@@ -70,13 +71,13 @@ Exit status:
        Busy       64 files of other submissions are unfinished, and no place came free within --wait
        Options    the submission had another --hash, --limit or --match-all: the message names it
        Profiles   the service has 64 profiles, and takes no more
-       Entries    DIR has more than 100,000 folders and files, which is seen before anything is sent
-       Bytes      the files are too long together to be counted
+       Entries    DIR has more than 100,000 folders and files; nothing was sent
+       Bytes      the total size of the files is too large a number; nothing was sent
        Folders    new folders appeared meanwhile: run the command again
        Disturbed  other requests came between the parts of the CSV, a hundred times
        Write      a FILE or PAGE could not be written
-       Output     a FILE or PAGE lies inside DIR, is another one of them, or could not be created or
-                  replaced
+       Output     a FILE or PAGE lies inside DIR, has the path of another one, or could not be created
+                  or replaced
        Memory     memory ran out, here or in the service
      or by another refusal of a request, such as NoSuchProfile, NoSuchNode, NotAFolder, NumberReused,
      Store or Malformed; `droid_desk script --help` lists all refusals

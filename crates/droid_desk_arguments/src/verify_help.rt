@@ -8,7 +8,7 @@ pub const VERIFY_FOLDER_HELP: &str = "The folder to compare: everything inside i
 pub const AGAINST_HELP: &str =
     "Compare with this file: the CSV of `profile` or of `submit --export`, or a list of checksums";
 
-pub const QUICK_HELP: &str = "Compare sizes and moments alone, and read no file";
+pub const QUICK_HELP: &str = "Compare only sizes and modification times, and read no file";
 
 pub const IDENTIFY_HELP: &str =
     "Identify each file too, and compare its formats with those of FILE; not together with --quick";
@@ -20,24 +20,24 @@ pub const VERIFY_HELP: &str = "\
 FILE is the CSV of `profile` or of `submit --export`, with any of the three hash columns, or a list as
 `md5sum` and `sha256sum` write it, with paths below DIR. If DIR is a bag (it has a bagit.txt) and the
 first line of FILE names a file below `data`, FILE is the bag's manifest, and the folder `data` of DIR
-is compared. Which of these FILE is, is seen from its first line; all of it is read before DIR is.
+is compared. The first line of FILE shows which of these it is. All of FILE is read before DIR.
 
 Standard output gets a CSV: a header, and a row for each difference, in the order of the paths.
 
-  changed     the file has another hash or size, or one of both is a folder
+  changed     the file has another hash or size, or is a folder on one side and a file on the other
   missing     DIR does not have the path
   new         FILE does not have the path
-  moved       one missing file is one new file: no other missing or new file has their hash and size
+  moved       a missing file and a new file, and no others, have the same hash and size
   format      the file has other formats than FILE says; only with --identify
-  unreadable  something could not be opened or read, or changed meanwhile, or can't be in a profile:
-              its name is not UTF-8, say. What FILE has below an unreadable folder is not missing
+  unreadable  something could not be opened or read, changed meanwhile, or can't be in a profile (its
+              name is not UTF-8, say). What FILE lists below an unreadable folder is not missing
 
 `path` is the path below DIR and begins with `/`; `size`, `hash` and `formats` are those of FILE,
 `found_path`, `found_size`, `found_hash` and `found_formats` those of DIR, and `reason` says why
-something is unreadable. Formats are identifiers (PUIDs) with a space between two, in rows of `format`
-alone. Sizes are compared where FILE has them, and moments only with --quick. A list of checksums
-names files alone, so folders are then not compared; it has no sizes, so with --quick only the names
-of files are; and it has no formats, so --identify needs a CSV.
+something is unreadable. Only rows of `format` have formats: identifiers (PUIDs), separated by spaces.
+Sizes are compared where FILE has them, modification times only with --quick. A list of checksums has
+no folders, sizes or formats: folders are then not compared, --quick compares only the names of files,
+and --identify needs a CSV.
 
 Symbolic links below DIR are never followed, and count as if they were not there. Standard error has
 what was skipped, the progress, and a summary at the end: how many files and bytes were compared, and

@@ -7,7 +7,7 @@ use droid_frame::HashKind;
 use droid_tree_submission::Options;
 use std::fmt::{self, Display, Formatter, Write};
 
-/// What a submission was begun with, if that is not what was given now.
+/// The options that a submission was begun with, as far as they differ from those given now.
 #[derive(Clone, Copy)]
 pub enum BegunOptions {
     /// Another `--hash`: this one.
@@ -20,8 +20,8 @@ pub enum BegunOptions {
     OtherLimit,
 }
 
-/// Returns what differs, by the options that the service takes the submission with, if it takes some of those tried.
-/// Returns `None` if they are the given ones.
+/// Returns which options differ. `begun` are the options with which the service takes the submission, or `None` if it takes
+/// none of those that were tried. Returns `None` if they are the given ones.
 pub(crate) fn begun_of(given: Options, begun: Option<Options>) -> Option<BegunOptions>
     ensures { result ≡ begun_of given begun }
 {

@@ -11,8 +11,8 @@ use droid_tree_disk::{Output, OutputFault};
 use std::fs::{File, Files};
 use std::time::Clock;
 
-/// Checks that the files can be created, that no two are the same, and that none would lie in the folder, whose absolute
-/// path this is.
+/// Checks that the files can be created, that no two are the same, and that none would lie in the folder with this absolute
+/// path.
 pub(crate) fn see_outputs<R: Files<File = File> + AllocGlobal>(
     rt: &R,
     options: SubmitOptions<'_>,
@@ -27,7 +27,7 @@ pub(crate) fn see_outputs<R: Files<File = File> + AllocGlobal>(
     Ok(())
 }
 
-/// Checks that the second of two files that may be named is not the first.
+/// Checks that two files are not the same, if both are named.
 fn see_other<R: Files + AllocGlobal>(
     rt: &R,
     first: Option<&str>,
@@ -44,8 +44,8 @@ fn see_other<R: Files + AllocGlobal>(
     }
 }
 
-/// Checks that a file can be created, and that it would not lie in the folder. There it would change when the folder
-/// around it was last changed, and so which request adds that folder.
+/// Checks that a file can be created, and that it would not lie in the folder. There it would change the modification time
+/// of the folder around it, and with it the request that adds that folder.
 fn see_place<R: Files<File = File> + AllocGlobal>(
     rt: &R,
     absolute: &str,
@@ -97,8 +97,8 @@ pub(crate) fn write_skipped<R: Files<File = File> + AllocGlobal>(
     }
 }
 
-/// Writes the page of the profile, if a file is named for it. Its title is the name of the folder, of which `absolute` is the
-/// absolute path; it says that it is made from the CSV's file, or from the folder if no file is named for the CSV.
+/// Writes the page of the profile, if a file is named for it. `absolute` is the absolute path of the folder, whose name is the
+/// title. The page says that it is made from the CSV's file, or from the folder if no file is named for the CSV.
 pub(crate) fn write_report<R: Files<File = File> + Clock + AllocGlobal>(
     rt: &R,
     options: SubmitOptions<'_>,

@@ -217,7 +217,7 @@ where
     }
 }
 
-/// Returns how a submission ends whose connection broke: if none was ever made, there was nothing that could break.
+/// Returns how a submission ends when its connection broke. If no connection was ever made, it says so.
 fn broken<R>(opener: &Loopback<'_, R>, fault: RemoteFault) -> SubmissionEnding {
     match opener.failed {
         Some(cause) if !opener.has_joined => SubmissionEnding::NoConnection(cause),
@@ -225,8 +225,8 @@ fn broken<R>(opener: &Loopback<'_, R>, fault: RemoteFault) -> SubmissionEnding {
     }
 }
 
-/// Returns how a submission ends of which a number was used for another request. If that was the request for the
-/// profile, the submission was begun with other options.
+/// Returns how a submission ends when one of its numbers is used for another request. If this is the number of the
+/// request for the profile, the submission was begun with other options.
 fn with_other_options<R>(
     client: &mut PortSender<'_, R>,
     options: Options,

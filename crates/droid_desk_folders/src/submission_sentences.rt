@@ -104,10 +104,11 @@ fn walk_advice(fault: WalkFault) -> &'static str {
         WalkFault::Exchange | WalkFault::Reply | WalkFault::TooLong => {
             "this is a mistake in droid_desk"
         }
-        WalkFault::Folders => "new folders appeared while it was read: run it again",
-        WalkFault::Entries => "too large: take its subfolders one by one",
+        WalkFault::Folders => "new folders appeared while it was read: run the same command again",
+        WalkFault::Entries =>
+            "more than 100,000 folders and files: submit its subfolders one by one",
         WalkFault::Bytes =>
-            "its files are too long together to be counted: take its subfolders one by one",
+            "the total size of its files is too large a number: submit its subfolders one by one",
     }
 }
 
@@ -185,7 +186,7 @@ fn print_transfer<R: Eprint>(
         TransferFault::Stranger => print_port(
             rt,
             port,
-            "what came is no reply to the request: is droid_desk serve listening there?",
+            "what came is not a reply to the request: is droid_desk serve listening there?",
         ),
         TransferFault::Restarted => print_port(
             rt,
@@ -216,7 +217,7 @@ fn refusal_sentence(refusal: Refusal) -> &'static str {
         Refusal::LimitReached(Limit::Profiles) =>
             "the service has 64 profiles and takes no more: start another service on another port",
         Refusal::NumberReused =>
-            "the client's number for a request is used for another request: give another --client",
+            "this client has used the number of a request for another one: give another --client",
         Refusal::NoSuchProfile | Refusal::NoSuchNode | Refusal::NotAFolder | Refusal::NotAFile =>
             "the service no longer has what was sent: run the same command again",
         // Each piece was taken before, or is less than sixteen behind one that was.
@@ -235,6 +236,7 @@ fn check_sentence(fault: CheckFault) -> &'static str {
         CheckFault::Memory => "out of memory",
         CheckFault::NoProfile => "the CSV that came is not that of a profile",
         CheckFault::SamePath => "the profile has two entries of one path",
-        CheckFault::Moment => "the profile took an entry whose moment it must refuse",
+        CheckFault::Moment =>
+            "the profile has an entry with a modification time that the service must refuse",
     }
 }

@@ -49,8 +49,8 @@ where
     }
 }
 
-/// Makes the journal at a path smaller. None is made if none is there. Its records are those that were written, by their check
-/// values; what stands behind them is cut off, or told as damage, by opening it as `serve` does.
+/// Makes the journal at a path smaller. If there is none, none is made. By their check values its records are those that were
+/// written. What stands behind them is cut off, or reported as damage, by opening the journal as `serve` does.
 fn compact_journal<'a, R>(
     rt: &'a R,
     source: RegistrySource<'a>,
@@ -102,8 +102,8 @@ where
     put_smaller(rt, path, journal.file(), registry)
 }
 
-/// Returns whether only opening a journal tells what is wrong with it, or mends it: it has no whole header, or bytes behind its
-/// records.
+/// Returns whether a journal has to be opened to find out what is wrong with it, or to mend it: it has no whole header, or bytes
+/// behind its records.
 fn needs_opening(fault: JournalFault) -> bool {
     matches!(
         fault,

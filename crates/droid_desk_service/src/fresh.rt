@@ -17,8 +17,8 @@ pub const LIMITS: Limits = Limits {
     unfinished: 64,
 };
 
-/// Reads a registry file, and makes an empty service that identifies files by it and has the program's limits. Notes in
-/// `formats` how many formats the registry has, once it was read.
+/// Reads a registry file, and makes an empty service that identifies files by it and has the program's limits. Sets
+/// `formats` to the number of formats that the registry has, once it was read.
 pub fn fresh_service<F: SteadyRead>(
     alloc: Global,
     file: &mut F,

@@ -73,10 +73,10 @@ pub fn open_journal<F: LogFile + Drop>(
     // A crash is not taken for damage, nor for another registry.
     ensures lawful { (n : ℕ) (setting : Setting) (s header : List ℕ) (synced all : History) → F.has file s → IsHeaderOf registry.now header → IsLeft setting header s synced all → IsErrOf result (Fault.Damage n) → ⊥ }
     ensures other_header { IsErrOf result Fault.Header → (s header : List ℕ) → F.has file s → IsHeaderOf registry.now header → HasHeader header s → ⊥ }
-    // Damage is told only where a record stands behind it that was written when all before it was on the disk.
+    // Damage is reported only where a record stands behind it that was written when all before it was on the disk.
     ensures damage { (n : ℕ) → IsErrOf result (Fault.Damage n) → (s : List ℕ) → F.has file s → IsDamaged registry.now s n }
-    // A record is told only if no service of this registry and these limits got its request behind those before it, or not
-    // with its reply.
+    // A record is reported only if no service of this registry and these limits accepts its request after those before it, and
+    // answers it with this reply.
     ensures refuted { (n : ℕ) → IsErrOf result (Fault.Record n) → (setting : Setting) (s : List ℕ) → StandsFor setting service [] → IsSettingFor registry.now setting → F.has file s → IsRefuted setting registry.now s n }
 {
     let text = header_text(alloc, registry)?;

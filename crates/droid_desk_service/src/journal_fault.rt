@@ -19,7 +19,7 @@ pub enum JournalFault {
     Closed(Fault),
     /// The smaller journal beside the file could not be made or written. The file is as it was.
     NotSmaller(Option<ErrorKind>),
-    /// The smaller journal did not get the name of the file for sure. The name leads to one of them.
+    /// It is not certain that the smaller journal got the name of the file. The name leads to one of them.
     NotExchanged,
 }
 
@@ -88,15 +88,15 @@ impl JournalFault {
     pub(crate) fn print_advice<R: Eprint>(&self, rt: &R, path: &str) -> io::Result<()> {
         match self {
             JournalFault::Unopened(kind) => eprintln!(rt;
-                "{path}: {kind}: is the path right, and its folder yours to write?"
+                "{path}: could not be opened ({kind}): check the path, and whether you may write in its folder"
             ),
             JournalFault::Closed(Fault::Record(at)) => {
                 eprintln!(rt;
-                    "{path}: record {at} does not get its reply: restore a copy of the file"
+                    "{path}: the reply in record {at} is not the one that its request gets: restore a copy of the file"
                 )
             }
             JournalFault::Closed(Fault::Damage(records)) => eprintln!(rt;
-                "{path}: damaged behind record {records}, and whole records follow: restore a copy of the file"
+                "{path}: damaged after record {records}, and whole records follow: restore a copy of the file"
             ),
             JournalFault::NotSmaller(Some(kind)) => {
                 eprintln!(rt; "{path}.new: {kind}: {path} is as it was")
@@ -113,15 +113,16 @@ impl JournalFault {
 fn advice_of(fault: &JournalFault) -> &'static str {
     match fault {
         JournalFault::InUse => "another droid_desk has this journal open: stop it first",
-        JournalFault::NotAFile => "a folder, a link or a device: name a file, or a new name",
+        JournalFault::NotAFile =>
+            "this is a folder, a link or a device: name a file, or a path where nothing is yet",
         JournalFault::Unopened(_) => "could not be opened",
         JournalFault::Closed(Fault::Header) => {
-            "no journal of this registry and this version of droid_desk: name the registry of its first start, or a new file"
+            "not a journal of this registry and this version of droid_desk: name the registry of its first start, or a new file"
         }
         JournalFault::Closed(Fault::Memory) => {
             "out of memory: close other programs, or allow this one more, and start again"
         }
-        JournalFault::Closed(Fault::Read) => "could not be read: is the disk well?",
+        JournalFault::Closed(Fault::Read) => "could not be read: check the disk",
         JournalFault::NotSmaller(_) => "could not be made smaller",
         JournalFault::NotExchanged => {
             "has all its records, but the smaller journal could not be synced or renamed: try again"

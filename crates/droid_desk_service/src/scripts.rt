@@ -36,8 +36,8 @@ pub fn script_by_sample<R: SteadyRead, W: SteadyWrite>(
     script_by_registry(alloc, &mut file, &mut None, reader, writer)
 }
 
-/// Reads a registry file, and runs a script over a fresh service that identifies files by it. Notes in `formats` how many
-/// formats the registry has, once it was read.
+/// Reads a registry file, and runs a script over a fresh service that identifies files by it. Sets `formats` to the
+/// number of formats that the registry has, once it was read.
 pub fn script_by_registry<F: SteadyRead, R: SteadyRead, W: SteadyWrite>(
     alloc: Global,
     file: &mut F,

@@ -50,7 +50,7 @@ pub fn make_smaller<F: LogFile, N: LogFile + Drop, X: Exchange<N>>(
     ensures sizes { (s : List ℕ) → F.has old.now s → N.has new [] → IfOk result (λ it. AreSizesOf registry.now s it.before it.after) }
     // Only an exchange that failed may have touched the name.
     ensures untouched { IfErr result (λ fault. fault ≢ RewriteFault.Exchange → exchange.new ≡ exchange.old) }
-    // A journal of this registry is not told to be of another, nor to have bytes behind it where it has none.
+    // A journal of this registry is not reported as one of another, nor as one with bytes behind it if it has none.
     ensures other_header { IsErrOf result RewriteFault.Header → (s header : List ℕ) → F.has old.now s → IsHeaderOf registry.now header → HasHeader header s → ⊥ }
     ensures behind { (n : ℕ) → IsErrOf result (RewriteFault.Behind n) → (s : List ℕ) → F.has old.now s → HasBytesBehind registry.now s n }
 {

@@ -10,7 +10,7 @@ from lib.submissions import WithSmallTree, fault, submit
 from lib.trees import walk
 
 OTHER_HASH = b": its hash in the profile is another\n"
-STRANGER = "port %d: what came is no reply to the request: is droid_desk serve listening there?"
+STRANGER = "port %d: what came is not a reply to the request: is droid_desk serve listening there?"
 MISTAKE = "port %d: {}: this is a mistake in droid_desk or in the service"
 NO_FIT = MISTAKE.format("a reply came that does not fit its request")
 NO_PROFILE = MISTAKE.format("the CSV that came is not that of a profile")
