@@ -32,7 +32,7 @@ Exit status:
      bytes (LongRegistry)
   4  the registry or OUT.txt could not be written (Write), or could not be created or replaced, or
      would be FILE itself (Output); or memory ran out (Memory). OUT is complete, or as it was before
-  5  the registry is written, but something of FILE was left out
+  5  the registry is written, but something in FILE was left out or has an unknown name
   6  there was no memory for the command line
 
 With 3, 4 and 6 standard error says what happened and what to do.
