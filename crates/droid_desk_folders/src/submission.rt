@@ -127,7 +127,8 @@ where
         }
         Err(CommandFault::Uncounted(fault)) => SubmissionEnding::Uncounted(fault),
         Err(CommandFault::Unsubmitted(fault)) => {
-            watcher.watcher.end();
+            let begun = client.in_flight.known.profile.is_some();
+            end_progress(watcher.watcher, begun);
             unsubmitted(client, walk_options(options), fault)
         }
         Err(CommandFault::Uncompared { profile, fault }) => {
@@ -135,6 +136,15 @@ where
             watcher.watcher.end();
             ending
         }
+    }
+}
+
+/// Ends the progress, with a summary if a profile was begun: before that nothing of the folder was sent.
+fn end_progress<R: Eprint + Clock>(reporter: Reporter<'_, R>, begun: bool) {
+    if begun {
+        reporter.end();
+    } else {
+        reporter.clear();
     }
 }
 
