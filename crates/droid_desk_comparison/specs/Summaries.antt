@@ -61,7 +61,7 @@ format_line identify count = if identify then count_line (codes "format") count 
 -- whether the files were read is said of their number and of their bytes
 abbrev pub files_name : Bool → List ℕ
 files_name false = codes "files compared"
-files_name true = codes "files compared by size and moment alone"
+files_name true = codes "files compared by size and modification time alone"
 
 abbrev pub bytes_name : Bool → List ℕ
 bytes_name false = codes "bytes compared"

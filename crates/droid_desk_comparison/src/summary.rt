@@ -170,7 +170,7 @@ fn files_name(quick: bool) -> &'static str
     ensures { result.now ≡ summaries.files_name quick }
 {
     if quick {
-        "files compared by size and moment alone"
+        "files compared by size and modification time alone"
     } else {
         "files compared"
     }

@@ -45,7 +45,7 @@ words_before _ = codes "differs: "
 
 abbrev pub words_after : List Item → Difference → List ℕ
 words_after listed (Changed l f changes) = codes ": the profile has another " ++ part_text changes
-words_after listed (Touched l f) = codes ": the profile has another moment"
+words_after listed (Touched l f) = codes ": the profile has another modification time"
 words_after listed (Missing l) = []
 words_after listed (New f) = []
 words_after listed (Moved l f) = codes ": the profile has it as " ++ shown_text (path_at listed l)

@@ -49,7 +49,9 @@ impl Display for Rest<'_> {
             Difference::Changed { changes, .. } => {
                 write!(f, ": the profile has another {}", part_of(changes))
             }
-            Difference::Touched { .. } => f.write_str(": the profile has another moment"),
+            Difference::Touched { .. } => f.write_str(
+                ": the profile has another modification time",
+            ),
             Difference::Missing { .. } => f.write_str(""),
             Difference::New { .. } => f.write_str(""),
             Difference::Moved { listed, .. } => {

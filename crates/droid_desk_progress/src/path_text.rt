@@ -79,7 +79,7 @@ pub fn cause(why: Skipped) -> &'static str
         Skipped::Refused(Refusal::BadName) => "its name is too long or can't be in a profile",
         Skipped::Refused(Refusal::PathTooLong) => "its path is longer than 4,096 bytes",
         Skipped::Refused(Refusal::TooLarge) => "it is too large",
-        Skipped::Refused(Refusal::BadOption) => "its moment is out of range",
+        Skipped::Refused(Refusal::BadOption) => "its modification time is out of range",
         Skipped::Refused(Refusal::LimitReached(_)) => "the profile has no place for more",
         Skipped::Refused(Refusal::NameTaken | Refusal::NumberReused) =>
             "changed since it was submitted",

@@ -371,7 +371,7 @@ class Lists(InLists):
         ]
         status, out, said = verify(self.top, "--against", path, "--quick")
         self.assertEqual((rows_in(out), status), (rows, 5), said)
-        self.assertIn(b"files compared by size and moment alone: 6\n", said)
+        self.assertIn(b"files compared by size and modification time alone: 6\n", said)
 
     def test_quick_with_a_list_of_checksums_compares_names(self):
         self.file(b"/a", b"a")

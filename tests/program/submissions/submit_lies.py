@@ -114,8 +114,8 @@ class OfTheExport(Lies):
     def test_other_fields(self):
         for old, new, line in (
             (b'"513"', b'"514"', b"differs: /z.bin: the profile has another length"),
-            (b'"2017-07-14T02:40:00"', b'"2017-07-14T02:40:01"', b"differs: /sub: the profile has another moment"),
-            (b'"2001-09-09T01:46:40"', b'"2001-09-09T01:46:39"', b"differs: /a.bin: the profile has another moment"),
+            (b'"2017-07-14T02:40:00"', b'"2017-07-14T02:40:01"', b"differs: /sub: the profile has another modification time"),
+            (b'"2001-09-09T01:46:40"', b'"2001-09-09T01:46:39"', b"differs: /a.bin: the profile has another modification time"),
             (b'"","Folder"', b'"0","File"', b"differs: /sub: the profile has another kind"),
             (b'"/a.bin"', b'"/c.bin"', b"differs: /a.bin: the profile has it as /c.bin"),
         ):

@@ -15,7 +15,7 @@ SKIPS = {
     "BadName": b"its name is too long or can't be in a profile",
     "PathTooLong": b"its path is longer than 4,096 bytes",
     "NameTaken": b"changed since it was submitted",
-    "BadOption": b"its moment is out of range",
+    "BadOption": b"its modification time is out of range",
     "TooLarge": b"it is too large",
     "Nodes": b"the profile has no place for more",
 }
