@@ -16,7 +16,7 @@
 #   signatures/run.sh   registries made of signature files, beside a model in Python
 #   identification.py   a file of each shape by random registries, beside the model
 #   install.py    the manual page, the completions and what `make install` writes
-#   readme.sh     the commands of README.md, pasted into a shell
+#   readme.sh     the commands of README.md and of the program's page, pasted into a shell
 set -u
 top=$(cd "$(dirname "$0")/../.." && pwd)
 tests=$top/tests/program
@@ -52,6 +52,7 @@ example() {
     part sh "$tests/journal/run.sh" "$program"
     part sh "$tests/submissions/run.sh" "$program"
     part sh "$tests/readme.sh" "$program"
+    part sh "$tests/readme.sh" "$program" "$top/crates/droid_desk/README.md"
 } &
 part sh "$tests/cases.sh" "$program"
 part example "$top/examples" "$program"

@@ -2,6 +2,9 @@
 #![tactic(auto)]
 
 #[cfg(test)]
+mod example;
+
+#[cfg(test)]
 mod tests {
     use droid_page::{Body, Cell, Escaped, Page, Table};
     use std::alloc::{AllocError, Global};

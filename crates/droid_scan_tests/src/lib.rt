@@ -11,4 +11,6 @@ mod feeding;
 #[cfg(test)]
 mod lengths;
 #[cfg(test)]
+mod page;
+#[cfg(test)]
 mod schedules;
