@@ -9,16 +9,20 @@ import unittest
 
 from journal_compact import compact, smaller_of
 from journal_file import read
-from journal_session import InJournal, contents, run_journal, serving, store
+from journal_session import NO_ROOM_BESIDE, NOT_EXCHANGED, UNREAD, UNWRITTEN, InJournal, contents, not_beside, printed, run_journal, serving
+from journal_session import store, unopened
 from lib.connections import SECONDS, connect, read_exactly, read_frame
 from lib.frames import HEADER, create, export, folder
-from lib.program import faults, preloaded
+from lib.program import preloaded
 from model_frames import answer, service_of_the_sample
 from journal_smaller import ASKED, MORE
 
 FILE, TORN, NEW = "desk.journal", "desk.journal.torn", "desk.journal.new"
 CLIENTS = 6
 ROUNDS = 12
+# an error of the device, as the program names it
+BROKEN = "uncategorized error"
+UNOPENED, NOT_BESIDE = unopened(BROKEN), not_beside(BROKEN)
 
 
 FOLDERS = [create(1), folder(2, b"a"), folder(3, b"b")]
@@ -34,6 +38,31 @@ def is_open(stream):
         return stream.recv(1, socket.MSG_PEEK) != b""
     except ConnectionError:
         return False
+
+
+def sentences(call):
+    """Those that may be printed where this call of `run` fails. What is cut off is read once more, and goes into a file that is
+    opened, so a journal that has such an end may also be called unwritten."""
+    verb, name = call.split()[:2]
+    if call in (f"open {FILE}", f"lock {FILE}"):
+        return {UNOPENED}
+    if verb in ("write", "cut") or name == TORN or call == f"sync {FILE}":
+        return {UNWRITTEN}
+    return {UNREAD, UNWRITTEN} if verb == "read" else {UNOPENED, UNWRITTEN}
+
+
+def smaller_sentences(call):
+    """Those that may be printed where this call of `compact` fails."""
+    verb, name = call.split()[:2]
+    if call in (f"open {FILE}", f"lock {FILE}"):
+        return {UNOPENED}
+    if verb == "read":
+        return {UNREAD}
+    if call == f"write {NEW}":
+        return {NO_ROOM_BESIDE}
+    if verb == "rename" or call == f"sync {NEW}":
+        return {NOT_EXCHANGED}
+    return {NOT_BESIDE} if name == NEW else {UNOPENED, NOT_BESIDE, NOT_EXCHANGED}
 
 
 def due_to(asked):
@@ -155,15 +184,22 @@ class Failing(Noted):
     def closes(self, before, asked):
         """With each call failing: what was answered is in the file, the program ends by its journal, and the next one goes on."""
         due = due_to(asked)
-        earlier = read(before).records if before else []
+        earlier, told = read(before).records if before else [], set()
         for call, (status, written, said) in self.each_in_turn(before, lambda env: run_journal(self.path, b"".join(asked), env=env)):
             named = b"".join(line for line in said.splitlines(True) if not line.startswith(b"journal: "))
-            self.assertEqual((status, faults(named)), (4, b"fault: Journal\n"), call)
+            told |= self.ends_by(status, named, sentences(call), call)
             self.assertTrue(due.startswith(written), call)
             left = contents(self.path) if os.path.exists(self.path) else b""
             kept = b"".join(it.reply for it in read(left).records[len(earlier) :]) if left else b""
             self.assertTrue(kept.startswith(written) and due.startswith(kept), call)
             self.assertEqual(run_journal(self.path, b"".join(asked))[:2], (0, due), call)
+        self.assertEqual(told, {UNOPENED, UNREAD, UNWRITTEN})
+
+    def ends_by(self, status, said, may, call):
+        """The command ended by its journal, and one of these sentences was printed: that one, in a set."""
+        found = {it for it in may if printed("Journal", it, self.path) == said}
+        self.assertEqual((status, len(found)), (4, 1), (call, said))
+        return found
 
     def test_a_new_journal(self):
         self.closes(None, ASKED)
@@ -177,15 +213,19 @@ class Failing(Noted):
         self.assertEqual(run_journal(self.path, b"".join(ASKED))[0], 0)
         old = contents(self.path)
         new = smaller_of(old)
-        renamed = False
+        renamed, told = False, set()
         for call, (status, _, said) in self.each_in_turn(old, lambda env: compact(self.path, env=env)):
-            self.assertEqual((status, faults(said)), (4, b"fault: Journal\n"), call)
+            sentence = self.ends_by(status, said, smaller_sentences(call), call)
+            told |= sentence
             found = contents(self.path)
             self.assertIn(found, (old, new), call)
             renamed |= found == new
+            if found == new:
+                self.assertEqual(sentence, {NOT_EXCHANGED}, call)
             self.assertEqual(compact(self.path, "--quiet")[0], 0, call)
             self.assertEqual((contents(self.path), os.listdir(self.folder)), (new, [FILE]), call)
         self.assertTrue(renamed)
+        self.assertEqual(told, {UNOPENED, UNREAD, NOT_BESIDE, NO_ROOM_BESIDE, NOT_EXCHANGED})
 
     def test_serve(self):
         """A write or a sync fails while two connections are open: both are closed, and the service ends."""
@@ -201,7 +241,7 @@ class Failing(Noted):
                 # (a request is a write and a sync)
                 self.assertEqual(self.asks(service.port, closed=True), place // 2)
                 self.assertEqual(service.process.wait(SECONDS), 4)
-                self.assertEqual(faults(service.process.stderr.read()), b"fault: Journal\n")
+                self.assertEqual(service.process.stderr.read(), printed("Journal", UNWRITTEN, self.path))
             self.assertIn(len(read(contents(self.path)).records), (place // 2, place // 2 + 1))
 
     def asks(self, port, closed):

@@ -11,7 +11,8 @@ import unittest
 
 from journal_file import header_size, md5, next_check, read, record_bytes
 from journal_full import limited
-from journal_session import REGISTRY, InJournal, contents, run_journal, sample_bytes, serving, store
+from journal_session import IN_USE, NO_FILE, NO_ROOM_BESIDE, OTHER_HEADER, REGISTRY, InJournal, contents, cut_off, damaged, not_beside
+from journal_session import other_reply, run_journal, sample_bytes, serving, store, unopened
 from journal_smaller import ASKED, EXPORT_ALL, MORE, AskedByModel
 from lib.connections import SECONDS, connect, read_exactly
 from lib.frames import HEADER, NODE, PIECE, create, file, finish, piece, reply
@@ -59,9 +60,9 @@ class Compaction(AskedByModel):
         self.assertFalse(os.path.exists(path + ".new"))
         return new
 
-    def stays(self, found, status, fault):
+    def stays(self, found, status, fault, sentence, path=None):
         """The command ended so; the file is as it was, and no other one is left."""
-        self.ends(found, status, f"fault: {fault}")
+        self.ends(found, status, fault, sentence, path)
         self.assertEqual(contents(self.path), self.before)
         self.assertFalse(os.path.isfile(self.path + ".new"))
 
@@ -126,8 +127,7 @@ class Compaction(AskedByModel):
         old = self.make(ASKED)
         store(self.path, old + b"\1\0\0")
         status, out, said = compact(self.path)
-        cut = b"journal: 3 bytes behind the last whole record are now in %s.torn\n" % os.fsencode(self.path)
-        self.assertEqual((status, out, said), (0, b"", cut + told(self.path, old, smaller_of(old))))
+        self.assertEqual((status, out, said), (0, b"", cut_off(3, self.path) + told(self.path, old, smaller_of(old))))
         self.assertEqual((contents(self.path), contents(self.path + ".torn")), (smaller_of(old), b"\1\0\0"))
 
     def test_faults_of_a_start(self):
@@ -136,20 +136,20 @@ class Compaction(AskedByModel):
         data = self.becomes_smaller()
         changed = bytearray(data)
         changed[header_size() + 30] ^= 1
-        for given, fault, registry in (
-            (data, "Journal at 0", ["--registry", EVERYDAY]),
-            (sample_bytes(), "Journal at 0", REGISTRY),
-            (bytes(changed), "Journal at 1", REGISTRY),
+        for given, fault, sentence, registry in (
+            (data, "Journal at 0", OTHER_HEADER, ["--registry", EVERYDAY]),
+            (sample_bytes(), "Journal at 0", OTHER_HEADER, REGISTRY),
+            (bytes(changed), "Journal at 1", damaged(0), REGISTRY),
         ):
             store(self.path, given)
             self.before = given
-            self.stays(compact(self.path, registry=registry), 3, fault)
+            self.stays(compact(self.path, registry=registry), 3, fault, sentence)
 
     def test_a_reply_that_was_changed(self):
         """A record has a reply that no service gives, and a right check value: it keeps it, and no service begins with it."""
         store(self.path, self.with_another_reply(self.make(ASKED)))
         self.becomes_smaller()
-        self.ends(run_journal(self.path, ASKED[0]), 3, "fault: Journal at 4")
+        self.ends(run_journal(self.path, ASKED[0]), 3, "Journal at 4", other_reply(4))
 
     def with_another_reply(self, data):
         """The fourth record of these bytes has another reply."""
@@ -164,16 +164,17 @@ class Compaction(AskedByModel):
     def test_in_use(self):
         self.before = self.make(ASKED)
         with serving(self.path, "--forever", killed=True):
-            self.stays(compact(self.path), 4, "Journal in use")
+            self.stays(compact(self.path), 4, "Journal in use", IN_USE)
         with open(self.path, "rb") as held:
             fcntl.flock(held, fcntl.LOCK_EX)
-            self.stays(compact(self.path), 4, "Journal in use")
+            self.stays(compact(self.path), 4, "Journal in use", IN_USE)
         self.becomes_smaller()
 
     def test_no_such_file(self):
         """None is made."""
-        for path in (self.path, os.path.join(self.folder, "none", "file"), "", "x" * 300):
-            self.ends(compact(path), 4, "fault: Journal")
+        for path in (self.path, os.path.join(self.folder, "none", "file"), ""):
+            self.ends(compact(path), 4, "Journal", unopened("entity not found"), path)
+        self.ends(compact("x" * 300), 4, "Journal", unopened("invalid filename"), "x" * 300)
         self.assertEqual(os.listdir(self.folder), [])
 
     def test_no_regular_file(self):
@@ -182,7 +183,7 @@ class Compaction(AskedByModel):
         os.symlink(self.path, link)
         os.mkfifo(pipe)
         for path in (self.folder, link, "/dev/null", "/dev/full", pipe):
-            self.ends(compact(path), 4, "fault: Journal")
+            self.ends(compact(path), 4, "Journal", NO_FILE, path)
 
     def test_owner_and_mode(self):
         """The smaller file has those of the old one."""
@@ -200,7 +201,8 @@ class Compaction(AskedByModel):
 
     def test_no_registry(self):
         self.before = self.make(ASKED)
-        self.stays(compact(self.path, registry=["--registry", os.path.join(self.folder, "none")]), 3, "Read")
+        none = os.path.join(self.folder, "none")
+        self.stays(compact(self.path, registry=["--registry", none]), 3, "Read", "{0}: no such file: check the path after --registry", none)
 
     def test_a_file_beside_it(self):
         """One that is left over is removed, also where it is longer; one that another process has open is not, nor a folder."""
@@ -209,12 +211,12 @@ class Compaction(AskedByModel):
         store(beside, self.before * 3)
         with open(beside, "rb") as held:
             fcntl.flock(held, fcntl.LOCK_EX)
-            self.ends(compact(self.path), 4, "fault: Journal")
+            self.ends(compact(self.path), 4, "Journal", not_beside("resource busy"))
             self.assertEqual((contents(self.path), contents(beside)), (self.before, self.before * 3))
         self.becomes_smaller()
         os.mkdir(beside)
         new = contents(self.path)
-        self.ends(compact(self.path), 4, "fault: Journal")
+        self.ends(compact(self.path), 4, "Journal", not_beside("entity already exists"))
         self.assertEqual(contents(self.path), new)
 
     def test_a_full_disk(self):
@@ -222,9 +224,7 @@ class Compaction(AskedByModel):
         self.before = self.make(ASKED + MORE)
         most = len(smaller_of(self.before))
         for size in (0, 1, header_size(), most // 2, most - 1):
-            found = compact(self.path, before=limited(size))
-            self.stays(found, 4, "Journal")
-            self.assertIn(b"is the disk full?", found[2])
+            self.stays(compact(self.path, before=limited(size)), 4, "Journal", NO_ROOM_BESIDE)
         self.assertEqual(compact(self.path, "--quiet", before=limited(most))[:2], (0, b""))
         self.assertEqual(contents(self.path), smaller_of(self.before))
 
@@ -313,7 +313,7 @@ class BeforeServing(InJournal):
                 stream.sendall(b"".join(short))
                 self.assertEqual(read_exactly(stream, len(due)), due)
             # it has the lock of the file that has the name now
-            self.ends(run_journal(self.path), 4, "fault: Journal in use")
+            self.ends(run_journal(self.path), 4, "Journal in use", IN_USE)
             service.process.kill()
             service.process.wait()
             return service.process.stderr.read()
@@ -362,8 +362,7 @@ class BeforeServing(InJournal):
         asked, replies = self.files(17, 0)
         old = contents(self.path)
         store(self.path, old + bytes(9))
-        cut = b"journal: 9 bytes behind the last whole record are now in %s.torn\n" % os.fsencode(self.path)
-        self.assertEqual(self.answers(asked, replies), cut + told(self.path, old, smaller_of(old)))
+        self.assertEqual(self.answers(asked, replies), cut_off(9, self.path) + told(self.path, old, smaller_of(old)))
         self.goes_on_with(smaller_of(old))
 
 

@@ -6,10 +6,9 @@ import unittest
 from concurrent.futures import ThreadPoolExecutor
 
 from journal_file import header_size, header_text, read
-from journal_session import InJournal, contents, run_journal, sample_bytes, serving, store
+from journal_session import OTHER_HEADER, InJournal, contents, cut_off, damaged, printed, run_journal, sample_bytes, serving, store
 from lib.connections import connect, read_exactly
 from lib.frames import EXPORT, abandon, create, export_body, file, finish, folder, frame, piece
-from lib.program import faults
 from model_frames import answer, service_of_the_sample
 
 STEP = int(os.environ.get("STEP", "9"))
@@ -38,21 +37,22 @@ class Damage(InJournal):
         status, written, said = run_journal(path, EXPORT_ALL)
         left = contents(path)
         torn = contents(path + ".torn") if os.path.exists(path + ".torn") else b""
-        found = (status, written, faults(said.replace(b"journal: ", b"registry: ")), left, torn)
-        due = self.due(data)
+        found = (status, written, said, left, torn)
+        due = self.due(data, path)
         for name in (path, path + ".torn"):
             if os.path.exists(name):
                 os.remove(name)
         return None if found == due else (place, found[:3], due[:3])
 
-    def due(self, data):
+    def due(self, data, path):
         text = header_text(sample_bytes())
         if not data.startswith(text) or len(data) < header_size():
-            return 3, b"", b"fault: Journal at 0\n", data, b""
+            return 3, b"", printed("Journal at 0", OTHER_HEADER, path), data, b""
         found = read(data)
         if found.damaged:
-            return 3, b"", b"fault: Journal at %d\n" % (len(found.records) + 1), data, b""
-        return 0, self.exports[len(found.records)], b"", data[: found.end], data[found.end :]
+            count = len(found.records)
+            return 3, b"", printed(f"Journal at {count + 1}", damaged(count), path), data, b""
+        return 0, self.exports[len(found.records)], cut_off(len(data) - found.end, path), data[: found.end], data[found.end :]
 
     def all_start(self, changed):
         with ThreadPoolExecutor(len(os.sched_getaffinity(0))) as pool:

@@ -6,7 +6,8 @@ import socket
 import unittest
 
 from journal_file import header_size, header_text, md5, next_check, read, record_bytes
-from journal_session import REGISTRY, InJournal, contents, run_journal, sample_bytes, serving, store
+from journal_session import IN_USE, NO_FILE, OTHER_HEADER, REGISTRY, InJournal, contents, cut_off, other_reply, run_journal
+from journal_session import sample_bytes, serving, store, unopened
 from lib.connections import connect, free_port, read_exactly
 from lib.frames import ADD_FOLDER, EXPORT, HEADER, NODE, create, export_body, file, finish, folder, frame, piece, reply, status
 from lib.program import EVERYDAY, Serve, faults, preloaded, run_plainly
@@ -140,37 +141,35 @@ class LongBodies(InJournal):
             for at in (body + place * part, min(body + (place + 1) * part, body + self.SIZES[-1]) - 1):
                 changed = self.whole[:at] + bytes([self.whole[at] ^ 1]) + self.whole[at + 1 :]
                 store(self.path, changed)
-                code, written, said = run_journal(self.path)
-                self.assertEqual((code, written, faults(said.replace(b"journal: ", b"registry: "))), (0, b"", b""))
+                self.assertEqual(run_journal(self.path), (0, b"", cut_off(len(changed) - kept, self.path)))
                 self.assertEqual((contents(self.path), contents(self.path + ".torn")), (changed[:kept], changed[kept:]))
                 os.remove(self.path + ".torn")
 
 
 class Refused(InJournal):
-    def refuses(self, status, fault, *more, given=ASKED[1]):
+    def refuses(self, status, fault, sentence):
         """The start ends so, and the file is as it was."""
         before = contents(self.path)
-        self.ends(run_journal(self.path, given, *more), status, f"fault: {fault}")
+        self.ends(run_journal(self.path, ASKED[1]), status, fault, sentence)
         self.assertEqual(contents(self.path), before)
 
     def test_another_registry(self):
         self.assertEqual(run_journal(self.path, ASKED[0])[0], 0)
         before = contents(self.path)
         code, written, said = run_plainly(["run", "--registry", EVERYDAY, "--journal", self.path], ASKED[1])
-        self.assertEqual((code, written, faults(said.encode()).decode()), (3, b"", "fault: Journal at 0\n"))
-        self.assertIn("registry", said)
+        self.ends((code, written, said.encode("ascii")), 3, "Journal at 0", OTHER_HEADER)
         self.assertEqual(contents(self.path), before)
 
     def test_no_journal(self):
         for data in (b"x", b"droid_desk journal 1\n", sample_bytes(), bytes(100), header_text(sample_bytes())[:-1] + b"x"):
             store(self.path, data)
-            self.refuses(3, "Journal at 0")
+            self.refuses(3, "Journal at 0", OTHER_HEADER)
 
     def test_two_processes(self):
         with serving(self.path, "--forever", killed=True):
-            self.ends(run_journal(self.path, ASKED[0]), 4, "fault: Journal in use")
+            self.ends(run_journal(self.path, ASKED[0]), 4, "Journal in use", IN_USE)
             code, written, said = run_plainly(["serve", "--port", free_port(), *REGISTRY, "--journal", self.path])
-            self.assertEqual((code, written, faults(said.encode()).decode()), (4, b"", "fault: Journal in use\n"))
+            self.ends((code, written, said.encode("ascii")), 4, "Journal in use", IN_USE)
         self.assertEqual(run_journal(self.path, ASKED[0])[0], 0)
 
     def test_a_file_that_lost_its_name(self):
@@ -181,7 +180,7 @@ class Refused(InJournal):
         self.assertEqual(run_journal(other, b"".join(ASKED[:2]))[0], 0)
         before = contents(other)
         env = preloaded("SYNCED", JOURNAL="/desk.journal", SYNCED=os.path.join(self.folder, "synced"), REPLACEMENT=other)
-        self.ends(run_journal(self.path, ASKED[2], env=env), 4, "fault: Journal in use")
+        self.ends(run_journal(self.path, ASKED[2], env=env), 4, "Journal in use", IN_USE)
         self.assertEqual(contents(self.path), before)
         self.assertEqual(run_journal(self.path, b"".join(ASKED[:3])), (0, by_model(ASKED[:3]), b""))
 
@@ -191,19 +190,20 @@ class Refused(InJournal):
         pipe = os.path.join(self.folder, "pipe")
         os.mkfifo(pipe)
         for path in (self.folder, link, "/dev/null", "/dev/full", pipe):
-            self.ends(run_journal(path, ASKED[0]), 4, "fault: Journal")
+            self.ends(run_journal(path, ASKED[0]), 4, "Journal", NO_FILE, path)
         self.assertFalse(os.path.exists(self.path))
 
     def test_a_folder_that_is_missing(self):
-        for path in (os.path.join(self.folder, "none", "file"), os.path.join(self.path, "file"), "", "x" * 300):
-            self.ends(run_journal(path, ASKED[0]), 4, "fault: Journal")
+        for path in (os.path.join(self.folder, "none", "file"), os.path.join(self.path, "file"), ""):
+            self.ends(run_journal(path, ASKED[0]), 4, "Journal", unopened("entity not found"), path)
+        self.ends(run_journal("x" * 300, ASKED[0]), 4, "Journal", unopened("invalid filename"), "x" * 300)
 
     @unittest.skipIf(os.geteuid() == 0, "root may read each file")
     def test_unreadable(self):
         self.assertEqual(run_journal(self.path, ASKED[0])[0], 0)
         for mode in (0o000, 0o200, 0o400):
             os.chmod(self.path, mode)
-            self.ends(run_journal(self.path, ASKED[1]), 4, "fault: Journal")
+            self.ends(run_journal(self.path, ASKED[1]), 4, "Journal", unopened("permission denied"))
         os.chmod(self.path, 0o600)
         self.assertEqual(len(read(contents(self.path)).records), 1)
 
@@ -219,7 +219,7 @@ class Refused(InJournal):
             made += record_bytes(start, check, record)
             check = next_check(start, check, record)
         store(self.path, made)
-        self.refuses(3, "Journal at 2")
+        self.refuses(3, "Journal at 2", other_reply(2))
 
 
 if __name__ == "__main__":

@@ -7,10 +7,10 @@ import subprocess
 import unittest
 
 from journal_file import header_size, read
-from journal_session import REGISTRY, InJournal, contents, run_journal
+from journal_session import REGISTRY, UNWRITTEN, InJournal, contents, printed, run_journal
 from lib.connections import SECONDS, connect, free_port, read_frame
 from lib.frames import MADE, NODE, create, folder
-from lib.program import PROGRAM, faults
+from lib.program import PROGRAM
 from model_frames import answer, service_of_the_sample
 
 
@@ -32,7 +32,7 @@ class Full(InJournal):
         for size in range(0, 3_000, 131):
             path = f"{self.path}{size}"
             status, written, said = run_journal(path, b"".join(asked), before=limited(size))
-            self.assertEqual((status, faults(said)), (4, b"fault: Journal\n"), size)
+            self.assertEqual((status, said), (4, printed("Journal", UNWRITTEN, path)), size)
             self.assertTrue(replies.startswith(written))
             data = contents(path)
             self.assertEqual(len(data), size)
@@ -70,8 +70,7 @@ class Full(InJournal):
             except ConnectionError:
                 pass
         out, said = process.communicate(timeout=SECONDS)
-        self.assertEqual((process.returncode, out, faults(said)), (4, b"", b"fault: Journal\n"))
-        self.assertIn(b"is the disk full?", said)
+        self.ends((process.returncode, out, said), 4, "Journal", UNWRITTEN)
         self.assertGreater(answered, 10)
         # (the profile and the folders; one more may be whole, of which no reply came)
         self.assertIn(len(read(contents(self.path)).records), (answered + 1, answered + 2))
@@ -82,8 +81,7 @@ class Full(InJournal):
         with open(self.path, "ab") as file:
             file.write(bytes(500))
         before = contents(self.path)
-        status, written, said = run_journal(self.path, folder(2, b"a"), before=limited(100))
-        self.assertEqual((status, written, faults(said)), (4, b"", b"fault: Journal\n"))
+        self.ends(run_journal(self.path, folder(2, b"a"), before=limited(100)), 4, "Journal", UNWRITTEN)
         self.assertEqual(contents(self.path), before)
 
 

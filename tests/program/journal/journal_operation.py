@@ -12,7 +12,8 @@ import unittest
 
 from journal_compact import compact
 from journal_file import header_size, md5, next_check, read, record_bytes
-from journal_session import REGISTRY, InJournal, contents, run_journal, sample_bytes, serving, store
+from journal_session import OTHER_HEADER, REGISTRY, UNWRITTEN, InJournal, contents, damaged, not_beside, printed, run_journal, sample_bytes
+from journal_session import serving, store, unopened, without_notes
 from lib.connections import SECONDS, connect, listen, read_exactly, read_frame
 from lib.frames import FINISHED, MADE, NODE, create, cut, export, file, finish, folder, piece
 from lib.program import EVERYDAY, PROGRAM, Serve, faults, run_plainly
@@ -108,15 +109,14 @@ class SmallDisk(InJournal):
             asked += [file(3 * node, b"%d" % node, 60_000, 60_000), piece(3 * node + 1, node, 0, bytes(60_000)), finish(3 * node + 2, node)]
         due = replies_to(asked)
         status, written, said = run_journal(self.path, b"".join(asked))
-        self.assertEqual((status, faults(said)), (4, b"fault: Journal\n"))
-        self.assertIn(b"is the disk full?", said)
+        self.assertEqual((status, said), (4, printed("Journal", UNWRITTEN, self.path)))
         self.assertTrue(due.startswith(written) and len(written) > 600)
         kept = b"".join(it.reply for it in read(contents(self.path)).records)
         self.assertTrue(kept.startswith(written) and due.startswith(kept))
         # the torn end has no room beside it, and nothing is cut; nor has a smaller journal, if a record is torn
         before = contents(self.path)
         if len(before) > read(before).end:
-            self.assertEqual(run_journal(self.path, asked[0])[0], 4)
+            self.ends(run_journal(self.path, asked[0]), 4, "Journal", UNWRITTEN)
             self.assertEqual(contents(self.path), before)
         subprocess.run(["mount", "-o", "remount,size=8m", self.disk], check=True)
         self.assertEqual(run_journal(self.path, b"".join(asked))[:2], (0, due))
@@ -138,17 +138,15 @@ class Folders(InJournal):
         before = contents(self.path)
         os.chown(self.path, NOBODY, NOBODY)
         new = self.path + ".other"
-        self.ends(run_journal(new, create(1), before=as_nobody), 4, "fault: Journal")
-        self.ends(compact(self.path, before=as_nobody), 4, "fault: Journal")
+        self.ends(run_journal(new, create(1), before=as_nobody), 4, "Journal", unopened("permission denied"), new)
+        self.ends(compact(self.path, before=as_nobody), 4, "Journal", not_beside("permission denied"))
         self.assertEqual((contents(self.path), os.listdir(self.folder)), (before, ["desk.journal"]))
         self.assertEqual(run_journal(self.path, create(1), before=as_nobody)[:2], (0, replies_to([create(1)])))
 
     def test_a_file_of_somebody_else(self):
         for mode in (0o600, 0o644, 0o444):
             os.chmod(self.path, mode)
-            found = run_journal(self.path, create(1), before=as_nobody)
-            self.ends(found, 4, "fault: Journal")
-            self.assertIn(b"permission denied", found[2])
+            self.ends(run_journal(self.path, create(1), before=as_nobody), 4, "Journal", unopened("permission denied"))
 
 
 class Modes(InJournal):
@@ -227,7 +225,8 @@ class Registries(InJournal):
                 more = ["--journal", self.path] if command == ["run"] else [self.path, "--quiet"]
                 code, out, said = run_plainly([*command, *words, *more], create(1))
                 self.assertEqual((code, out), (status, written if command == ["run"] else b""), (words, command))
-                self.assertEqual("fault: Journal at 0\n" in said, status == 3)
+                if status == 3:
+                    self.assertEqual(without_notes(said.encode("ascii")), printed("Journal at 0", OTHER_HEADER, self.path))
                 self.assertEqual(contents(self.path), before)
 
     def test_a_journal_of_a_later_version(self):
@@ -236,8 +235,7 @@ class Registries(InJournal):
         data[19:20] = b"3"
         store(self.path, bytes(data))
         for found in (run_journal(self.path, create(1)), compact(self.path)):
-            self.ends(found, 3, "fault: Journal at 0")
-            self.assertIn(b"version of droid_desk", found[2])
+            self.ends(found, 3, "Journal at 0", OTHER_HEADER)
         self.assertEqual(contents(self.path), bytes(data))
 
 
@@ -261,7 +259,7 @@ class FarBehind(InJournal):
             stored.seek(FAR)
             stored.write(check + record_bytes(start, check, third))
         size = os.path.getsize(self.path)
-        self.ends(run_journal(self.path, create(1)), 3, "fault: Journal at 1")
+        self.ends(run_journal(self.path, create(1)), 3, "Journal at 1", damaged(0))
         self.assertEqual((os.path.getsize(self.path), os.listdir(self.folder)), (size, ["desk.journal"]))
 
 

@@ -6,10 +6,50 @@ import tempfile
 import unittest
 
 from lib.connections import SECONDS
-from lib.program import PROGRAM, SAMPLE, Serve, faults
+from lib.program import PROGRAM, SAMPLE, Serve
+
+# The sentence behind each `fault: Journal`, of the journal at a path.
+IN_USE = "{0}: another droid_desk has this journal open: stop it first"
+NO_FILE = "{0}: this is a folder, a link or a device: name a file, or a path where nothing is yet"
+OTHER_HEADER = "{0}: not a journal of this registry and this version of droid_desk: name the registry of its first start, or a new file"
+UNREAD = "{0}: could not be read: check the disk"
+UNWRITTEN = "{0}: could not be written, so nothing more is answered: is the disk full? Make room, and start again"
+NO_ROOM_BESIDE = "{0}.new: could not be written: is the disk full? {0} is as it was"
+NOT_EXCHANGED = "{0}: has all its records, but the smaller journal could not be synced or renamed: try again"
 
 # `run` and `serve` print this where the sample registry is named as a file: nothing
 REGISTRY = ["--registry", SAMPLE]
+
+
+def unopened(why):
+    return f"{{0}}: could not be opened ({why}): check the path, and whether you may write in its folder"
+
+
+def not_beside(why):
+    return f"{{0}}.new: {why}: {{0}} is as it was"
+
+
+def other_reply(record):
+    return f"{{0}}: the reply in record {record} is not the one that its request gets: restore a copy of the file"
+
+
+def damaged(records):
+    return f"{{0}}: damaged after record {records}, and whole records follow: restore a copy of the file"
+
+
+def printed(fault, sentence, path):
+    """A fault and the sentence behind it, as bytes of standard error."""
+    return f"fault: {fault}\n{sentence.format(path)}\n".encode("ascii")
+
+
+def without_notes(said):
+    """Standard error (bytes) without notes on the registry."""
+    return b"".join(line for line in said.splitlines(keepends=True) if not line.startswith(b"registry: "))
+
+
+def cut_off(count, path):
+    """What is printed where so many bytes were cut off."""
+    return f"journal: {count} bytes behind the last whole record are now in {path}.torn\n".encode("ascii") if count else b""
 
 
 def sample_bytes():
@@ -49,6 +89,7 @@ class InJournal(unittest.TestCase):
         self.folder = folder.name
         self.path = os.path.join(self.folder, "desk.journal")
 
-    def ends(self, found, status, fault):
-        """The command ended with this status and fault, and wrote nothing."""
-        self.assertEqual((found[0], found[1], faults(found[2])), (status, b"", fault.encode("ascii") + b"\n"))
+    def ends(self, found, status, fault, sentence, path=None):
+        """The command ended with this status, this fault and this sentence, and wrote nothing."""
+        due = printed(fault, sentence, self.path if path is None else path)
+        self.assertEqual((found[0], found[1], without_notes(found[2])), (status, b"", due))

@@ -5,7 +5,7 @@ import random
 import unittest
 
 from journal_file import header_size, md5, next_check, read, record_bytes
-from journal_session import InJournal, contents, run_journal, store
+from journal_session import InJournal, contents, cut_off, damaged, other_reply, run_journal, store
 from lib.frames import EXPORT, HEADER, NODE, REFUSED, TAKEN, abandon, create, cut, export_body, file, finish, folder, frame, piece, reply, status
 from model_frames import answer, service_of_the_sample
 from smaller_file import smaller
@@ -115,8 +115,7 @@ class Smaller(AskedByModel):
         self.make(ASKED)
         data = contents(self.path)
         store(self.path, data + b"\1\0\0")
-        said = b"journal: 3 bytes behind the last whole record are now in %s.torn\n" % self.path.encode()
-        self.assertEqual(run_journal(self.path, EXPORT_ALL), (0, self.due([EXPORT_ALL]), said))
+        self.assertEqual(run_journal(self.path, EXPORT_ALL), (0, self.due([EXPORT_ALL]), cut_off(3, self.path)))
         self.assertEqual(contents(self.path), data)
 
     def test_each_front(self):
@@ -131,7 +130,7 @@ class Smaller(AskedByModel):
         changed = bytearray(data)
         changed[header_size() + 30] ^= 1
         store(self.path, bytes(changed))
-        self.ends(run_journal(self.path, ASKED[0]), 3, "fault: Journal at 1")
+        self.ends(run_journal(self.path, ASKED[0]), 3, "Journal at 1", damaged(0))
 
     def rewritten(self, records):
         """Writes these records, with right check values, behind the header."""
@@ -148,7 +147,7 @@ class Smaller(AskedByModel):
         records = self.records()
         for place, other in ((2, reply(TAKEN, 3, 2)), (3, reply(NODE, 4, 7))):
             self.rewritten([it._replace(reply=other) if at == place else it for at, it in enumerate(records)])
-            self.ends(run_journal(self.path, ASKED[0]), 3, f"fault: Journal at {place + 1}")
+            self.ends(run_journal(self.path, ASKED[0]), 3, f"Journal at {place + 1}", other_reply(place + 1))
 
     def test_a_bare_frame_of_a_client(self):
         """No client can send one: it is malformed, and does not go into the journal."""
