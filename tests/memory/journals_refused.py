@@ -25,6 +25,14 @@ EARLIER = [create(1), file(2, b"a.msg", 7, 7), piece(3, 1, 0, b"message")]
 LATER = [finish(4, 1), folder(5, b"in"), folder(6, b"out")]
 TORN = bytes(30)
 NOTED = b"journal: 30 bytes behind the last whole record are now in "
+# what may be printed by the status, where PATH is the journal's (a file that could not be opened or written is `fault: Journal`)
+OF_JOURNAL = b"PATH: out of memory: close other programs, or allow this one more, and start again\n"
+NO_MEMORY = b"out of memory: close other programs, or allow this one more, and try again\n"
+SENTENCES = {
+    3: {os.fsencode(SAMPLE) + b": " + NO_MEMORY},
+    4: {OF_JOURNAL, NO_MEMORY},
+    6: {NO_MEMORY, b"out of memory while the command line was read\n"},
+}
 # the body of a refusal for memory
 MEMORY = bytes([18])
 
@@ -32,6 +40,11 @@ MEMORY = bytes([18])
 def due_to(requests):
     """The replies that the model gives to these requests, one after another."""
     return list(cut(answer(service_of_the_sample(), b"".join(requests))[0]))
+
+
+def is_fault(status, said):
+    """Whether this is printed where memory ended the command with this status."""
+    return faults(said) == b"fault: Journal\n" or said in {b"fault: Memory\n" + it for it in SENTENCES[status]}
 
 
 class Refused(unittest.TestCase):
@@ -57,7 +70,7 @@ class Refused(unittest.TestCase):
             os.remove(name)
         if os.path.exists(name + ".torn"):
             os.remove(name + ".torn")
-        return done.returncode, done.stdout, done.stderr, left
+        return done.returncode, done.stdout, done.stderr.replace(os.fsencode(name), b"PATH"), left
 
     def is_right(self, before, requests, stored):
         """Whether an end is right, where records of these requests were there, which the file has as `stored`: nothing of them is
@@ -66,14 +79,14 @@ class Refused(unittest.TestCase):
         whole = dict(zip(stored, before))
 
         def check(status, written, said, left):
-            named = faults(b"".join(line for line in said.splitlines(True) if not line.startswith(NOTED)))
+            said = b"".join(line for line in said.splitlines(True) if not line.startswith(NOTED))
             found = list(cut(written))
             answered = [(request, reply) for request, reply in zip(requests, found) if (reply.kind, reply.body) != (REFUSED, MEMORY)]
             accepted = [(request, reply) for request, reply in answered if reply.kind != REFUSED]
             records = read(left).records if left else []
             kept = [(whole.get(record.request, record.request), next(cut(record.reply))) for record in records]
             return (
-                (named == b"" if status == 0 else status in STATUSES and named in (b"fault: Memory\n", b"fault: Journal\n"))
+                (said == b"" if status == 0 else status in STATUSES and is_fault(status, said))
                 and [request for request, _ in kept[: len(before)]] == before[: len(kept)]
                 and (not before or len(kept) >= len(before))
                 and kept[len(before) :][: len(accepted)] == accepted
@@ -95,6 +108,7 @@ class Refused(unittest.TestCase):
         wrong = [f"allocation {number} of {len(numbers)}: {end[:3]}" for number, end in zip(numbers, ended) if not is_right(*end)]
         self.assertEqual(wrong, [], "\n".join(wrong))
         self.assertEqual({end[0] for end in ended}, STATUSES)
+        self.assertTrue(any(end[2].endswith(b"fault: Memory\n" + OF_JOURNAL) for end in ended))
 
 
 class JournalsRefused(Refused):
@@ -130,14 +144,14 @@ class SmallerJournalsRefused(Refused):
         self.assertGreaterEqual(len(numbers), FEWEST)
         with ThreadPoolExecutor(len(os.sched_getaffinity(0))) as pool:
             ended = list(pool.map(lambda number: self.compacted({"REFUSE": str(number)}), numbers))
-        for number, (status, named, left, files) in zip(numbers, ended):
+        for number, (status, said, left, files) in zip(numbers, ended):
             self.assertIn(status, STATUSES, number)
-            self.assertIn(named, (b"",) if status == 0 else (b"fault: Memory\n", b"fault: Journal\n"), number)
+            self.assertTrue(said == b"" if status == 0 else is_fault(status, said), (number, said))
             self.assertEqual((left, files), (self.new if status == 0 else self.data, 1), number)
         self.assertIn(4, {end[0] for end in ended})
 
     def compacted(self, variables):
-        """Makes a journal of these bytes smaller: the status, the faults, what is left of it, and how many files."""
+        """Makes a journal of these bytes smaller: the status, what was said, what is left of it, and how many files."""
         with tempfile.TemporaryDirectory() as place:
             path = os.path.join(place, "desk.journal")
             with open(path, "wb") as made:
@@ -146,7 +160,7 @@ class SmallerJournalsRefused(Refused):
             words = [PROGRAM, "compact", "--registry", SAMPLE, "--quiet", path]
             done = subprocess.run(words, capture_output=True, timeout=60, env=environment)
             with open(path, "rb") as found:
-                return done.returncode, faults(done.stderr), found.read(), len(os.listdir(place))
+                return done.returncode, done.stderr.replace(os.fsencode(path), b"PATH"), found.read(), len(os.listdir(place))
 
 
 if __name__ == "__main__":
