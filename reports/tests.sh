@@ -1,6 +1,6 @@
 #!/bin/bash
-echo -17 > /proc/self/autogroup
-cd /work/gate/5; date
+echo -19 > /proc/self/autogroup
+cd /work/gate/t; date
 time sh tests/program/run.sh $1
 date
 time sh tests/registry/run.sh $1

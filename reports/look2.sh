@@ -1,0 +1,2 @@
+#!/bin/bash
+date; grep "^rt:.*NOT" /work/scratch/gate$1.log | tail -5; grep "^rt:" /work/scratch/gate$1.log | grep -v kept | tail -${2:-4}; for p in $(pgrep -x rattle); do echo $p $(readlink /proc/$p/cwd | sed 's#/tmp/rt-copy-[^/]*/repo#COPY#') $(tr '\0' ' ' < /proc/$p/cmdline | awk '{print $2,$4}') $(ps -o etime=,pcpu=,time= -p $p); done; for f in /work/h/*.READY; do echo "$(basename $f): $(tail -1 $f | cut -c1-150)"; done; free -g | awk 'NR==2{print "free",$7}'
