@@ -70,8 +70,7 @@ def folder_frame(number, client):
 
 
 def folders(where, clients, each, *options, env=None):
-    """Seconds that so many clients take for so many folders each, one at a time. The clients are of waiting_clients.c: sixteen of
-    Python's threads would take longer than the service."""
+    """Seconds that so many clients take for so many folders each, one at a time. The clients are of waiting_clients.c."""
     asked = [os.path.join(where, f"asked-{client}") for client in range(1, clients + 1)]
     for client, path in enumerate(asked, 1):
         with open(path, "wb") as made:
