@@ -1,6 +1,6 @@
 //! Reading a record from the front of bytes.
 
-ghost use Rattle.std.specs.Prelude.{◌≡◌, ℕ, List, Some, IfNone, IfSome};
+ghost use Rattle.std.specs.Prelude.{◌≡◌, ◌≤◌, ℕ, List, Some, IfNone, IfSome, length};
 ghost use Rattle.droid_journal_chain.specs.Chains.{BeginsNoRecord, BeginsWith};
 ghost use Rattle.droid_journal_chain.specs.Reading.{Gives, check_at, first_at, number_at, record_at, request_in, string_at};
 ghost use Rattle.droid_journal_chain.specs.Records.{checksum, made};
@@ -47,7 +47,7 @@ pub fn record_by<'a>(
     bytes: &'a [u8],
     sum: Option<[u8; 16]>,
 ) -> Option<Found<'a>>
-    requires sum { IfSome sum (λ it. (request : List ℕ) → request_in bytes.now ≡ Some request → it ≡ checksum request) }
+    requires sum { IfSome sum (λ it. (request : List ℕ) → request_in bytes.now ≡ Some request → 18 ≤ length request → it ≡ checksum request) }
     ensures found { IfSome result (λ x. BeginsWith start.now check.now bytes.now (made x.first x.request.now x.reply.now) x.check x.rest.now) }
     ensures none { IfNone result (BeginsNoRecord start.now check.now bytes.now) }
     ensures read { Gives (λ x. (made x.first x.request.now x.reply.now, x.check, x.rest.now)) result (record_at start.now check.now bytes.now) }
@@ -63,7 +63,7 @@ fn read_record<'a>(
     bytes: &'a [u8],
     sum: Option<[u8; 16]>,
 ) -> Option<Found<'a>>
-    requires { IfSome sum (λ it. (request : List ℕ) → request_in bytes.now ≡ Some request → it ≡ checksum request) }
+    requires { IfSome sum (λ it. (request : List ℕ) → request_in bytes.now ≡ Some request → 18 ≤ length request → it ≡ checksum request) }
     ensures read { Gives (λ x. (made x.first x.request.now x.reply.now, x.check, x.rest.now)) result (record_at start.now check.now bytes.now) }
     ensures sum { IfSome result (λ x. x.sum ≡ checksum x.request.now) }
 {

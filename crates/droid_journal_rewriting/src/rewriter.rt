@@ -130,12 +130,7 @@ impl<N: LogFile> Taker for Rewriter<N> {
 
     ghost took = { λ aim rewriter its. IsWriting N.has aim rewriter its };
 
-    fn take(
-        &mut self,
-        request: &[u8],
-        sum: [u8; 16],
-        reply: &[u8],
-    ) -> Result<(), RewriteFault> {
+    fn take(&mut self, request: &[u8], sum: [u8; 16], reply: &[u8]) -> Result<(), RewriteFault> {
         let stamp = stamp_of(request);
         if self.stamps.has(stamp) {
             return Ok(());
