@@ -3,6 +3,7 @@
 ghost use Rattle.std.specs.Prelude.{◌≡◌, ◌<◌, ◌++◌, ℕ, [], IfSome, drop, length, slice_index, slice_index_or, take};
 ghost use Rattle.droid_journal_rewriting.specs.Sums.{AreSumsIn, IsEndOf, IsSumOf, body_in, kind_in, request_or_none};
 ghost use Rattle.droid_journal_chain.specs.Reading.{request_in};
+ghost use Rattle.droid_lanes.specs.Lanes.{piece};
 ghost use Rattle.md5.specs.Md5.{md5};
 
 use droid_journal_chain::request_of;
@@ -104,7 +105,7 @@ fn skipped(bytes: &[u8], count: usize) -> &[u8]
 
 /// Computes the checksums of the requests at the fronts of eight byte strings.
 fn digests_of(ends: [&[u8]; 8]) -> [[u8; 16]; 8]
-    ensures { (lane : ℕ) → lane < 8 → slice_index_or result lane [] ≡ md5 (kind_in (slice_index ends lane).now ++ body_in (slice_index ends lane).now) }
+    ensures { (lane : ℕ) → lane < 8 → slice_index_or result lane [] ≡ md5 (kind_in (piece lane ends.entry) ++ body_in (piece lane ends.entry)) }
 {
     let mut lanes = Md5Lanes::new();
     lanes.update([
