@@ -24,7 +24,6 @@ use std::marker::Model;
 /// [`put`](Assembly::put) makes a piece pending. The caller then commits it elsewhere, and calls
 /// [`settle`](Assembly::settle) to keep the piece, or [`take_back`](Assembly::take_back) to drop it. The assembly keeps
 /// no piece before the first missing one: it keeps their first and last bytes (the windows) and their hash so far.
-#[derive(Debug)]
 pub struct Assembly {
     size: u64,
     piece_size: u32,

@@ -19,7 +19,6 @@ use std::marker::Model;
 
 /// The unfinished files of a service, each with the pieces that were taken of it. A file is found by
 /// the number of its profile and its own number there, which no two of them share.
-#[derive(Debug)]
 pub struct UnfinishedFiles {
     files: Vec<UnfinishedFile>,
     limit: u32,

@@ -9,7 +9,6 @@ use std::alloc::{AllocError, Global};
 use std::marker::Model;
 
 /// The criteria of a filter, in order. In contracts it is the list of them.
-#[derive(Debug)]
 pub struct Criteria {
     items: Vec<Criterion>,
 }

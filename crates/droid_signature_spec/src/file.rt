@@ -8,7 +8,7 @@ use droid_frame::Text;
 use std::marker::Model;
 
 /// What carries a name that the reader does not know.
-#[derive(Clone, Copy, Debug, PartialEq, Eq)]
+#[derive(Clone, Copy, PartialEq, Eq)]
 pub enum UnknownPart {
     Element,
     Attribute,

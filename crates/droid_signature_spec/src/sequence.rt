@@ -6,7 +6,7 @@ use crate::subsequence::SubSequence;
 use std::marker::Model;
 
 /// From where the offsets of a byte sequence count.
-#[derive(Clone, Copy, Debug, PartialEq, Eq)]
+#[derive(Clone, Copy, PartialEq, Eq)]
 pub enum Reference {
     /// `BOFoffset`: the beginning of the file.
     Beginning,

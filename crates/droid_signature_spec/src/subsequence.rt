@@ -6,7 +6,7 @@ use droid_frame::Text;
 use std::marker::Model;
 
 /// Two offsets in bytes, as the attributes give them. An attribute that is missing is `None`.
-#[derive(Clone, Copy, Debug, PartialEq, Eq)]
+#[derive(Clone, Copy, PartialEq, Eq)]
 pub struct OffsetRange {
     /// `SubSeqMinOffset` or `MinOffset`.
     pub min: Option<u32>,
