@@ -14,7 +14,7 @@ use std::alloc::{AllocError, Global};
 
 /// What the assembly keeps of the front of a file, the bytes before the first missing piece: the first and the last of
 /// them, and the hash of all of them so far.
-#[derive(Debug, Drop)]
+#[derive(Drop)]
 pub(crate) struct Front {
     first: Vec<u8>,
     last: Ring,

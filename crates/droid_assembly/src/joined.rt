@@ -9,7 +9,7 @@ use std::marker::Model;
 pub(crate) const JOINED_LIMIT: usize = 512;
 
 /// The bytes of small pieces, joined in a buffer of fixed size. In contracts it is the list of its bytes.
-#[derive(Debug, Drop)]
+#[derive(Drop)]
 pub(crate) struct Joined {
     bytes: [u8; JOINED_LIMIT],
     count: usize,

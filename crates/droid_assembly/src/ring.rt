@@ -8,7 +8,7 @@ use std::alloc::{AllocError, Global};
 use std::mem;
 
 /// The last bytes so far, in a ring buffer.
-#[derive(Debug, Drop)]
+#[derive(Drop)]
 pub(crate) struct Ring {
     bytes: Vec<u8>,
     // The index of the oldest byte. When the buffer is full, the next byte replaces it.

@@ -3,7 +3,7 @@
 use droid_frame::HashValue;
 
 /// The size and the hash of a whole file.
-#[derive(Clone, Copy, Debug, PartialEq, Eq)]
+#[derive(Clone, Copy, PartialEq, Eq)]
 pub struct Sealed {
     /// The size of the file in bytes.
     pub size: u64,

@@ -12,7 +12,7 @@ use std::marker::Model;
 const SEVERAL_LIMIT: usize = 16;
 
 /// Several consecutive pieces, in an array of fixed size. In contracts it is the list of their bytes.
-#[derive(Debug, Drop)]
+#[derive(Drop)]
 pub(crate) struct Several {
     blobs: [Option<Blob>; SEVERAL_LIMIT],
     count: usize,

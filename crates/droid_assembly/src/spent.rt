@@ -11,7 +11,7 @@ use std::marker::Model;
 /// The pieces that an assembly no longer needs, in order of index. It allocates nothing. In contracts it is the list of
 /// their bytes.
 // Usually there is one piece or none. The array of `Several` is a field of its own so that it isn't cleared then.
-#[derive(Debug, Drop)]
+#[derive(Drop)]
 pub struct Spent {
     one: Option<Blob>,
     several: Option<Several>,

@@ -1,7 +1,7 @@
 //! The first and the last bytes of a file.
 
 /// The first and the last bytes of a file, in which signatures are searched. In a short file they overlap.
-#[derive(Clone, Copy, Debug)]
+#[derive(Clone, Copy)]
 pub struct Windows<'a> {
     /// The first bytes of the file, up to the scan limit.
     pub first: &'a [u8],

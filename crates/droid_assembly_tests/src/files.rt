@@ -171,7 +171,7 @@ pub fn expect_file(
     requires { assembly.old.pending ≡ None }
     ensures { assembly.new.pending ≡ None }
 {
-    assert_eq!(rt; assembly.seal(), Ok(sealed));
+    assert!(rt; assembly.seal() == Ok(sealed));
     let windows = assembly.windows();
     assert!(rt; windows.first == first && windows.last == last);
 }

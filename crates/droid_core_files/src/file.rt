@@ -3,7 +3,7 @@
 use droid_assembly::Assembly;
 
 /// An unfinished file: its profile, its number there, and the pieces that were taken of it.
-#[derive(Debug, Drop)]
+#[derive(Drop)]
 pub struct UnfinishedFile {
     /// The number of the profile.
     pub profile: u32,

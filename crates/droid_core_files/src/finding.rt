@@ -4,7 +4,7 @@ use droid_assembly::Sealed;
 use droid_pronom::Found;
 
 /// What a whole file is: its size and hash, and what it is identified as.
-#[derive(Debug, Drop)]
+#[derive(Drop)]
 pub struct Finding {
     /// The size and the hash of the whole file.
     pub sealed: Sealed,

@@ -19,7 +19,7 @@ use droid_frame::Refusal;
 use droid_store::{NodeRow, NodeState, ProfileRow, Store, StoreFault};
 
 /// A file's row, and that of its profile.
-#[derive(Debug, Drop)]
+#[derive(Drop)]
 pub struct FileRow {
     /// The profile.
     pub profile: ProfileRow,
@@ -42,7 +42,7 @@ impl FileRow {
 }
 
 /// An unfinished file: its rows, and the place of its assembly.
-#[derive(Debug, Drop)]
+#[derive(Drop)]
 pub struct UnfinishedRow {
     /// The rows of the file and of its profile.
     pub row: FileRow,

@@ -3,7 +3,7 @@
 ghost use Rattle.std.specs.Prelude.{◌≡◌, nat_le};
 
 /// A count of profiles, nodes or unfinished files, beside its limit.
-#[derive(Clone, Copy, Debug, PartialEq, Eq)]
+#[derive(Clone, Copy, PartialEq, Eq)]
 pub struct Room {
     /// How many there are.
     pub count: u64,

@@ -13,7 +13,7 @@ const BETWEEN_WRITINGS: u64 = 100;
 const MOST_CALLS: u32 = 15;
 
 /// How much is printed.
-#[derive(Clone, Copy, Debug, PartialEq, Eq)]
+#[derive(Clone, Copy, PartialEq, Eq)]
 pub enum Verbosity {
     /// Neither progress nor the summary.
     Quiet,

@@ -19,7 +19,7 @@ use Rattle.droid_wire.specs.Setting.{Setting}
 -- what a journal begins with: a line that says what it is, a line with the limits of its service, and the MD5 (RFC 1321) of
 -- the bytes of the registry
 abbrev pub header_text : List ℕ → List ℕ
-header_text registry = (codes "droid_desk journal 2" ++ 10 ∷ (codes "64 profiles, 100000 nodes, 64 unfinished files" ++ 10 ∷ [])) ++ md5 registry
+header_text registry = (codes "droid_desk journal 3" ++ 10 ∷ (codes "64 profiles, 100000 nodes, 64 unfinished files" ++ 10 ∷ [])) ++ md5 registry
 
 -- a header is that, and 16 bytes more, which no client knows
 pub record IsHeaderOf (registry header : List ℕ) : Type 0 where

@@ -133,7 +133,10 @@ where
     if is_as_it_was(rt, path, &journal, &registry) {
         return Ok(journal);
     }
-    drop(journal);
+    // The file is closed before it is opened again.
+    {
+        let _closed = journal;
+    }
     journal_for(rt, source, path)
 }
 

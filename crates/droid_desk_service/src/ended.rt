@@ -128,7 +128,7 @@ impl Ended<'_> {
             Ending::Script(fault) => print_sentence(rt, script_advice(fault)),
             Ending::Stream(fault) => print_sentence(rt, frame_advice(*fault)),
             Ending::Send(fault) if is_of_the_service(fault) => {
-                eprintln!(rt; "port {}: {}", port_of(self.used), send_advice(fault))
+                print_of_port(rt, port_of(self.used), send_advice(fault))
             }
             Ending::Send(fault) => print_sentence(rt, send_advice(fault)),
             Ending::Socket => print_port(rt, port_of(self.used), self.cause),
@@ -170,13 +170,13 @@ fn print_registry<R: Eprint>(
     };
     if let RegistryFault::Read = fault {
         return match unread_advice(cause) {
-            Some(advice) => eprintln!(rt; "{name}: {advice}"),
+            Some(advice) => print_of_file(rt, name, advice),
             None => print_cause(rt, name, cause),
         };
     }
     match record_of(fault) {
         Some(record) => eprintln!(rt; "{name}: record {record}: {}", registry_advice(fault)),
-        None => eprintln!(rt; "{name}: {}", registry_advice(fault)),
+        None => print_of_file(rt, name, registry_advice(fault)),
     }
 }
 
@@ -184,8 +184,16 @@ fn print_registry<R: Eprint>(
 fn print_cause<R: Eprint>(rt: &R, name: &str, cause: Option<ErrorKind>) -> io::Result<()> {
     match cause {
         Some(kind) => eprintln!(rt; "{name}: {kind}"),
-        None => eprintln!(rt; "{name}: reading failed: try again with a copy of the file"),
+        None => print_of_file(
+            rt,
+            name,
+            "reading failed: try again with a copy of the file",
+        ),
     }
+}
+
+fn print_of_file<R: Eprint>(rt: &R, name: &str, sentence: &str) -> io::Result<()> {
+    eprintln!(rt; "{name}: {sentence}")
 }
 
 /// Says why a port could not be used.
@@ -202,11 +210,17 @@ fn print_port<R: Eprint>(rt: &R, port: u16, cause: Option<ErrorKind>) -> io::Res
             )
         }
         Some(ErrorKind::PermissionDenied) => {
-            eprintln!(rt; "port {port}: permission denied: choose a port above 1023")
+            print_of_port(rt, port, "permission denied: choose a port above 1023")
         }
         Some(kind) => eprintln!(rt; "port {port}: {kind}"),
-        None => eprintln!(rt;
-            "port {port}: no connection could be accepted: start the service again"
+        None => print_of_port(
+            rt,
+            port,
+            "no connection could be accepted: start the service again",
         ),
     }
+}
+
+fn print_of_port<R: Eprint>(rt: &R, port: u16, sentence: &str) -> io::Result<()> {
+    eprintln!(rt; "port {port}: {sentence}")
 }

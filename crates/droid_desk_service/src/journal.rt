@@ -23,7 +23,7 @@ const CACHED: usize = 256;
 
 /// The first lines of a journal: what it is, and the limits of the service that wrote it.
 const FIRST_LINES: &str = "\
-droid_desk journal 2
+droid_desk journal 3
 64 profiles, 100000 nodes, 64 unfinished files
 ";
 

@@ -64,23 +64,30 @@ impl JournalFault {
         }
     }
 
-    /// Prints the line with the fault's name to standard error. The header counts as record 0.
+    /// Prints the line with the fault's name to standard error.
     pub(crate) fn print<R: Eprint>(&self, rt: &R) -> io::Result<()> {
+        match self.record() {
+            Some(at) => eprintln!(rt; "fault: Journal at {at}"),
+            None => eprintln!(rt; "fault: {}", self.name()),
+        }
+    }
+
+    /// Returns the number of the record at fault, if there is one. The header counts as record 0.
+    fn record(&self) -> Option<u64> {
         match self {
-            JournalFault::InUse => eprintln!(rt; "fault: Journal in use"),
-            JournalFault::NotAFile => eprintln!(rt; "fault: Journal"),
-            JournalFault::Unopened(_) => eprintln!(rt; "fault: Journal"),
-            JournalFault::Closed(Fault::Header) => eprintln!(rt; "fault: Journal at 0"),
-            JournalFault::Closed(Fault::Record(at)) => eprintln!(rt; "fault: Journal at {at}"),
-            JournalFault::Closed(Fault::Damage(records)) => {
-                let at = records.saturating_add(1);
-                eprintln!(rt; "fault: Journal at {at}")
-            }
-            JournalFault::Closed(Fault::Memory) => eprintln!(rt; "fault: Memory"),
-            JournalFault::Closed(Fault::Read) => eprintln!(rt; "fault: Journal"),
-            JournalFault::Closed(Fault::Write) => eprintln!(rt; "fault: Journal"),
-            JournalFault::NotSmaller(_) => eprintln!(rt; "fault: Journal"),
-            JournalFault::NotExchanged => eprintln!(rt; "fault: Journal"),
+            JournalFault::Closed(Fault::Header) => Some(0),
+            JournalFault::Closed(Fault::Record(at)) => Some(*at),
+            JournalFault::Closed(Fault::Damage(records)) => Some(records.saturating_add(1)),
+            _ => None,
+        }
+    }
+
+    /// Names the fault, if no record is at fault.
+    fn name(&self) -> &'static str {
+        match self {
+            JournalFault::InUse => "Journal in use",
+            JournalFault::Closed(Fault::Memory) => "Memory",
+            _ => "Journal",
         }
     }
 

@@ -8,6 +8,8 @@ mod lists;
 #[cfg(test)]
 mod memory;
 #[cfg(test)]
+mod page;
+#[cfg(test)]
 mod pairs;
 #[cfg(test)]
 mod plain;

@@ -14,7 +14,7 @@ use std::alloc::{AllocError, Global};
 
 /// A watcher that prints nothing.
 #[derive(Drop)]
-struct Silent;
+pub(crate) struct Silent;
 
 impl Watcher for Silent {
     fn skipped(&mut self, _path: &[u8], _why: Skipped) {}
@@ -40,7 +40,7 @@ struct Run {
 }
 
 /// How files are searched for formats. The list says which hash they get.
-const OPTIONS: Options = Options {
+pub(crate) const OPTIONS: Options = Options {
     scan_limit: 64,
     match_all: false,
     hash: HashKind::Nothing,

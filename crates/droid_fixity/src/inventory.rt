@@ -12,7 +12,7 @@ use std::cmp::Ordering;
 use std::marker::Model;
 
 /// Items in the order of the bytes of their paths, no path twice. In contracts it is the list of its items.
-#[derive(Debug, Drop)]
+#[derive(Drop)]
 pub struct Inventory {
     items: Vec<Item>,
 }

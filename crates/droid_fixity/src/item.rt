@@ -6,7 +6,7 @@ ghost use Rattle.droid_fixity.specs.Items as items;
 use droid_frame::{Blob, HashValue, NodeKind};
 
 /// A folder or a file, as a list has it or as it was found.
-#[derive(Debug, Drop)]
+#[derive(Drop)]
 pub struct Item {
     /// The bytes of the path: `/` and the names, `/` between them.
     pub path: Blob,
@@ -21,7 +21,7 @@ pub struct Item {
 }
 
 /// What differs between two items of one path.
-#[derive(Clone, Copy, Debug, PartialEq, Eq)]
+#[derive(Clone, Copy, PartialEq, Eq)]
 pub struct Changes {
     /// One is a folder and the other a file.
     pub kind: bool,

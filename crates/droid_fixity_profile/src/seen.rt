@@ -13,7 +13,7 @@ use droid_fixity_lists::read_profile;
 use std::alloc::Global;
 
 /// The items of a profile's CSV beside those that were found.
-#[derive(Debug, Drop)]
+#[derive(Drop)]
 pub struct Seen {
     /// All differences, in the order of their paths. They name items by their places in `listed` and `found`.
     pub differences: Vec<Difference>,

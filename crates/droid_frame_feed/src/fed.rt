@@ -3,7 +3,7 @@
 use droid_frame::Frame;
 
 /// What a reader took from the front of a piece.
-#[derive(Debug, Drop)]
+#[derive(Drop)]
 pub struct Fed {
     /// The frame that is whole now. `None`: the whole piece was taken, and more bytes are needed.
     pub frame: Option<Frame>,

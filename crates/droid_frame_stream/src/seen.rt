@@ -6,7 +6,7 @@ ghost use Rattle.droid_frame_stream.specs.Seen.{AddsError, IsSound, after_failur
 use std::io::{Error, ErrorKind};
 
 /// Whether a stream has failed: it returned an error other than an interruption, or took no byte of a write.
-#[derive(Clone, Copy, Debug, PartialEq, Eq)]
+#[derive(Clone, Copy, PartialEq, Eq)]
 pub enum Condition {
     /// It hasn't failed.
     Sound,
@@ -17,7 +17,7 @@ pub enum Condition {
 }
 
 /// What a stream did so far.
-#[derive(Clone, Copy, Debug, PartialEq, Eq)]
+#[derive(Clone, Copy, PartialEq, Eq)]
 pub struct Seen {
     /// The number of reads or writes that were interrupted before it failed.
     pub interruptions: u64,

@@ -17,3 +17,5 @@ mod replies;
 mod reply_bodies;
 #[cfg(test)]
 mod requests;
+#[cfg(test)]
+mod shown;

@@ -29,8 +29,10 @@ fn frame_of(alloc: Global, kind: u8, body: &[u8]) -> Result<Frame, AllocError> {
 fn request(alloc: Global) -> Result<Request, Fail> {
     match request_of(alloc, frame_of(alloc, 8, &EXPORT)?) {
         Ok(request) => Ok(request),
-        Err(BodyFault::Memory) => Ok(request_of(alloc, frame_of(alloc, 8, &EXPORT)?)?),
-        Err(fault) => Err(Fail::from(fault)),
+        Err(BodyFault::Memory) => request_of(alloc, frame_of(alloc, 8, &EXPORT)?).or_else(|_| Err(
+            Fail::from("no request"),
+        )),
+        Err(BodyFault::Malformed) => Err(Fail::from("malformed")),
     }
 }
 
@@ -56,8 +58,10 @@ fn each_growth_of_a_request(rt: HostRuntime) -> Result<(), Fail> {
 fn reply(alloc: Global) -> Result<Reply, Fail> {
     match reply_of(alloc, frame_of(alloc, 132, &FINISHED)?) {
         Ok(reply) => Ok(reply),
-        Err(BodyFault::Memory) => Ok(reply_of(alloc, frame_of(alloc, 132, &FINISHED)?)?),
-        Err(fault) => Err(Fail::from(fault)),
+        Err(BodyFault::Memory) => reply_of(alloc, frame_of(alloc, 132, &FINISHED)?).or_else(|_| Err(
+            Fail::from("no reply"),
+        )),
+        Err(BodyFault::Malformed) => Err(Fail::from("malformed")),
     }
 }
 

@@ -1,6 +1,6 @@
 //! Requests, from bytes to values and back, and malformed requests.
 
-use crate::faults::is_shown;
+use crate::shown::is_shown_as;
 use droid_frame::{
     Blob, BodyFault, Frame, HashKind, NUMBER_LIMIT, Request, mark, request_frame, request_of,
 };
@@ -137,7 +137,7 @@ fn is_read_and_written(
         return Ok(false);
     }
     let written = request_frame(alloc, version, 7, 1, &request)?;
-    Ok(is_of_client_7(&written, version, kind, body) && is_shown(alloc, &request, shown)?)
+    Ok(is_of_client_7(&written, version, kind, body) && is_shown_as(alloc, &request, shown)?)
 }
 
 fn is_of_client_7(frame: &Frame, version: u8, kind: u8, body: &[u8]) -> bool {
@@ -310,7 +310,7 @@ fn each_hash(rt: &impl Abort, rows: &[(HashKind, [bool; 4])]) {
             request.fits(2),
             request.fits(3),
         ];
-        assert!(rt; fits == *wanted, "{hash:?}");
+        assert!(rt; fits == *wanted, "{wanted:?}");
     }
 }
 

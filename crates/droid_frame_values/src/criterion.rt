@@ -8,7 +8,7 @@ use crate::texts::Texts;
 use std::alloc::{AllocError, Global};
 
 /// One condition of a filter on the records of an export.
-#[derive(Debug, Drop)]
+#[derive(Drop)]
 pub enum Criterion {
     /// The record was identified by this method.
     MethodIs(Method),

@@ -6,7 +6,7 @@ use crate::criteria::Criteria;
 use std::alloc::{AllocError, Global};
 
 /// Selects records of an export. A filter without criteria selects every record, whatever `all` is.
-#[derive(Debug, Drop)]
+#[derive(Drop)]
 pub struct Filter {
     /// If true, a record must meet every criterion; if false, at least one.
     pub all: bool,

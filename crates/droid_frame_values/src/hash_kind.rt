@@ -4,7 +4,7 @@ ghost use Rattle.std.specs.Prelude.{◌≡◌};
 ghost use Rattle.droid_frame_values.specs.Hashes.{hash_kind_number};
 
 /// The kind of hash that a profile computes for each finished file.
-#[derive(Clone, Copy, Debug, PartialEq, Eq)]
+#[derive(Clone, Copy, PartialEq, Eq)]
 pub enum HashKind {
     /// No hash.
     Nothing,

@@ -9,7 +9,7 @@ use crate::hash_kind::HashKind;
 use crate::text::Text;
 
 /// One request.
-#[derive(Debug, Drop)]
+#[derive(Drop)]
 pub enum Request {
     /// Create a profile.
     CreateProfile {

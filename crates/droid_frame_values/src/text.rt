@@ -7,9 +7,16 @@ use std::alloc::{AllocError, Global};
 use std::marker::Model;
 
 /// Owned UTF-8 text, such as the name of a file. In contracts it is the list of its bytes.
-#[derive(Debug, Drop)]
+#[derive(Debug)]
 pub struct Text {
     text: String,
+}
+
+// Written by hand, so that the crates above do not prove again how each part is dropped.
+impl Drop for Text {
+    fn drop(self) {
+        let Text { text: _text } = self;
+    }
 }
 
 impl Model for Text {

@@ -9,7 +9,7 @@ use md5::{Digest as Md5Digest, Md5};
 use sha2::{Digest as Sha2Digest, Sha256};
 
 /// The hash, so far, of bytes that come in parts.
-#[derive(Debug, Drop)]
+#[derive(Drop)]
 pub enum RunningHash {
     /// No hash.
     Nothing,

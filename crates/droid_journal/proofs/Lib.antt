@@ -3,3 +3,4 @@ pub mod Handing
 pub mod Going
 pub mod Openings
 pub mod Lawful
+pub mod Marks

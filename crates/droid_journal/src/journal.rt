@@ -10,14 +10,14 @@ ghost use Rattle.droid_journal.specs.Machines.{Answers, extended};
 ghost use Rattle.droid_journal.specs.Opening.{IsReady};
 ghost use Rattle.droid_journal.specs.Standing.{IsSettled, Stands, WroteOne};
 ghost use Rattle.droid_journal_chain.specs.Fronts.{IsFront};
-ghost use Rattle.droid_journal_chain.specs.Records.{Fits, Record, made, next_check, record_bytes};
+ghost use Rattle.droid_journal_chain.specs.Records.{Fits, Record, checksum, made, next_check, record_bytes};
 
 use crate::fault::Fault;
 use crate::frames::{is_carried, reply_bytes, request_bytes};
 use crate::log_file::LogFile;
 use crate::machine::Machine;
 use crate::opening::Opened;
-use droid_frame::{Frame, Refusal, Reply};
+use droid_frame::{Frame, Refusal, Reply, mark};
 use droid_journal_chain::record;
 use std::alloc::{AllocError, Global};
 
@@ -68,19 +68,21 @@ impl<F: LogFile + Drop, M: Machine + Drop> Journal<F, M> {
         }
     }
 
-    /// Spells the record of a request, and computes its check value.
+    /// Spells the record of a request of which this is the checksum, and computes its check value.
     fn spelled(
         &self,
         version: u8,
         client: u32,
         number: u64,
         request: &[u8],
+        sum: &[u8; 16],
         reply: &Reply,
     ) -> Result<(Vec<u8>, [u8; 16]), AllocError>
         requires version { IsVersion version }
         requires spelling { HasReplySpelling version reply.now }
         requires header { 18 ≤ length request.now }
         requires size { length request.now ≤ 4194386 }
+        requires sum { sum.now ≡ checksum request.now }
         ensures bytes { IfOk result (λ x. x.0.items ≡ record_bytes self.now.start self.now.check (made (not self.now.unsynced) request.now (reply_frame version client number reply.now))) }
         ensures fits { IfOk result (λ x. Fits (made (not self.now.unsynced) request.now (reply_frame version client number reply.now))) }
         ensures check { IfOk result (λ x. x.1 ≡ next_check self.now.start self.now.check (made (not self.now.unsynced) request.now (reply_frame version client number reply.now))) }
@@ -93,24 +95,27 @@ impl<F: LogFile + Drop, M: Machine + Drop> Journal<F, M> {
             &self.check,
             !self.unsynced,
             request,
+            sum,
             &reply,
         )?;
         Ok((bytes, check))
     }
 
-    /// Appends the record of a request to the file.
+    /// Appends the record of a request, of which this is the checksum, to the file.
     fn note(
         &mut self,
         version: u8,
         client: u32,
         number: u64,
         request: &[u8],
+        sum: &[u8; 16],
         reply: &Reply,
     ) -> Result<(), Fault>
         requires version { IsVersion version }
         requires spelling { HasReplySpelling version reply.now }
         requires header { 18 ≤ length request.now }
         requires size { length request.now ≤ 4194386 }
+        requires sum { sum.now ≡ checksum request.now }
         ensures appended { (s : List ℕ) → F.has self.old.file s
             → OnOk result (F.has self.new.file (s ++ record_bytes self.old.start self.old.check (made (not self.old.unsynced) request.now (reply_frame version client number reply.now)))) }
         ensures part { (s : List ℕ) → F.has self.old.file s → OnErr result ((part : List ℕ) × F.has self.new.file (s ++ part)
@@ -124,7 +129,7 @@ impl<F: LogFile + Drop, M: Machine + Drop> Journal<F, M> {
         ensures fault { self.new.fault ≡ self.old.fault }
         ensures writing { IfErr result IsOfWriting }
     {
-        let (bytes, check) = self.spelled(version, client, number, request, reply)?;
+        let (bytes, check) = self.spelled(version, client, number, request, sum, reply)?;
         self.unsynced = true;
         match self.file.append(&bytes) {
             Ok(()) => {}
@@ -153,11 +158,12 @@ impl<F: LogFile + Drop, M: Machine + Drop> Journal<F, M> {
             return Ok(Reply::Refused(Refusal::Memory));
         };
         let (version, client, number) = (frame.version, frame.client, frame.number);
-        let handled = self.machine.handle(frame);
+        let mark = mark(frame.kind, frame.body.as_slice());
+        let handled = self.machine.handle(frame, mark);
         if !handled.accepted {
             return Ok(handled.reply);
         }
-        match self.note(version, client, number, &request, &handled.reply) {
+        match self.note(version, client, number, &request, &mark, &handled.reply) {
             Ok(()) => Ok(handled.reply),
             Err(fault) => Err(fault),
         }

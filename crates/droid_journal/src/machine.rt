@@ -1,6 +1,7 @@
 //! A machine whose state follows from the requests that it accepted.
 
-ghost use Rattle.std.specs.Prelude.{List, Bool};
+ghost use Rattle.std.specs.Prelude.{◌≡◌, List, Bool};
+ghost use Rattle.droid_frame.specs.Frames.{mark_of};
 ghost use Rattle.droid_frame.specs.Replies.{HasReplySpelling};
 ghost use Rattle.droid_frame.specs.Streams.{IsReadable};
 ghost use Rattle.droid_frame.specs.types.frame.Frame.{Frame};
@@ -30,9 +31,10 @@ pub trait Machine {
     /// After these accepted requests this one may get this reply, and is accepted or not.
     ghost gives: { Setting → List Record → Frame → Reply → Bool → Type 0 };
 
-    /// Handles one request.
-    fn handle(&mut self, frame: Frame) -> Handled
+    /// Handles one request, of which this is the mark.
+    fn handle(&mut self, frame: Frame, mark: [u8; 16]) -> Handled
         requires readable { IsReadable frame }
+        requires mark { mark ≡ mark_of frame.kind frame.body }
         ensures gives { (setting : Setting) (records : List Record) → stands setting self.old records → gives setting records frame result.reply result.accepted }
         ensures stands { (setting : Setting) (records : List Record) (first : Bool) → stands setting self.old records
             → stands setting self.new (extended records first frame result.reply result.accepted) }

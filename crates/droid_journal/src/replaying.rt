@@ -6,7 +6,7 @@ ghost use Rattle.droid_frame.specs.types.reply.Reply.TheVariants.{Refused};
 ghost use Rattle.droid_journal.specs.Faults.{IsOfReading};
 ghost use Rattle.droid_journal.specs.Replaying.{Fails, GaveOne, Refutes, Replays};
 ghost use Rattle.droid_journal_chain.specs.Chains.{BeginsNoRecord, BeginsWith};
-ghost use Rattle.droid_journal_chain.specs.Records.{Record, made};
+ghost use Rattle.droid_journal_chain.specs.Records.{Record, checksum, made};
 
 use crate::fault::Fault;
 use crate::frames::{frame_of, is_same, reply_bytes};
@@ -33,14 +33,17 @@ fn is_out_of_memory(reply: &Reply) -> bool
     matches!(reply, Reply::Refused(Refusal::Memory))
 }
 
-/// Hands a machine the request of a record, and sees that it is accepted with the reply of the record.
+/// Hands a machine the request of a record, of which this is the checksum, and sees that it is accepted with the reply of
+/// the record.
 fn replay_one<M: Machine + Drop>(
     alloc: Global,
     machine: &mut M,
     request: &[u8],
+    sum: [u8; 16],
     reply: &[u8],
     number: u64,
 ) -> Result<(), Fault>
+    requires { sum ≡ checksum request.now }
     ensures stands { (setting : M.Setting) (before : List Record) (first : Bool) → M.stands setting machine.old before
         → OnOk result (M.stands setting machine.new (before ++ made first request.now reply.now ∷ [])) }
     ensures gave { (setting : M.Setting) (before : List Record) (first : Bool) → M.stands setting machine.old before
@@ -57,7 +60,7 @@ fn replay_one<M: Machine + Drop>(
         Err(_) => return Err(Fault::Memory),
     };
     let (version, client, its) = (frame.version, frame.client, frame.number);
-    let handled = machine.handle(frame);
+    let handled = machine.handle(frame, sum);
     if is_out_of_memory(&handled.reply) {
         return Err(Fault::Memory);
     }
@@ -74,6 +77,7 @@ fn replay_one<M: Machine + Drop>(
 /// Reads the record at the front of bytes.
 fn next_of<'a>(start: &[u8], check: [u8; 16], bytes: &'a [u8]) -> Option<Found<'a>>
     ensures found { IfSome result (λ x. BeginsWith start.now check bytes.now (made x.first x.request.now x.reply.now) x.check x.rest.now) }
+    ensures sum { IfSome result (λ x. x.sum ≡ checksum x.request.now) }
     ensures none { IfNone result (BeginsNoRecord start.now check bytes.now) }
 {
     record_of(start, &check, bytes)
@@ -99,7 +103,14 @@ pub(crate) fn replay<M: Machine + Drop>(
     let mut records = records;
     while let Some(found) = next_of(start, check, rest) {
         records += 1;
-        match replay_one(alloc, machine, found.request, found.reply, records) {
+        match replay_one(
+            alloc,
+            machine,
+            found.request,
+            found.sum,
+            found.reply,
+            records,
+        ) {
             Ok(()) => {}
             Err(fault) => return Err(fault),
         }

@@ -36,6 +36,13 @@ unfoldable pub check_at : List ℕ → List ℕ → Option (List ℕ)
 check_at wanted bytes =
     if nat_lt (length bytes) 16 then None else if bytes_eq (take 16 bytes) wanted then Some (drop 16 bytes) else None
 
+-- the request of the record at the front, whatever check value stands behind it
+abbrev pub request_in : List ℕ → Option (List ℕ)
+request_in bytes = do
+  first ← first_at bytes
+  request ← string_at first.1
+  Some request.0
+
 -- the record, the check value behind it, and the bytes behind that
 unfoldable pub record_at : List ℕ → List ℕ → List ℕ → Option (Record × List ℕ × List ℕ)
 record_at start check bytes = do

@@ -1,8 +1,8 @@
 -- Records of a journal: an accepted request and its reply as frames, and a check value that chains the record to the one
 -- before it (this project's own).
-use Rattle.std.specs.Prelude.{ℕ, ◌+◌, ◌*◌, ◌≤◌, nat_lt, if◌then◌else◌, Bool, List, [], ◌∷◌, ◌++◌, length, take, drop, slice_index}
-use Rattle.std.specs.Int.{w32, div_ceil, to_be_bytes}
-use Rattle.std.specs.List.{AllByRecursion, flat_map}
+use Rattle.std.specs.Prelude.{ℕ, ◌+◌, ◌≤◌, if◌then◌else◌, Bool, List, ◌∷◌, ◌++◌, length, take, drop, slice_index}
+use Rattle.std.specs.Int.{w32, to_be_bytes}
+use Rattle.std.specs.List.{AllByRecursion}
 use Rattle.md5.specs.Md5.{md5}
 
 -- an accepted request and its reply, as frames; `first`: all records before it were on the disk when it was written
@@ -35,22 +35,10 @@ body it = first_byte it.first ∷ (string it.request ++ string it.reply)
 
 -- ---- the checksum of a request
 
--- one of the eight parts of a text, by its place from 0 on: each has an eighth of the bytes, rounded up, and the last the rest
-abbrev pub part : List ℕ → ℕ → List ℕ
-part text place = take (div_ceil (length text) 8) (drop (place * div_ceil (length text) 8) text)
-
--- the MD5s (RFC 1321) of the eight parts, one behind the other
-abbrev pub sums_of_parts : List ℕ → List ℕ
-sums_of_parts text = flat_map (λ place. md5 (part text place)) (0 ∷ 1 ∷ 2 ∷ 3 ∷ 4 ∷ 5 ∷ 6 ∷ 7 ∷ [])
-
--- what goes into a checksum for a body: the body, or from 1,024 bytes on the MD5s of its parts, which can be computed side by
--- side
-unfoldable pub summed : List ℕ → List ℕ
-summed body = if nat_lt (length body) 1024 then body else sums_of_parts body
-
--- the checksum of a request's frame: the MD5 of its kind and of what goes in for its body, behind a header of 18 bytes
+-- The checksum of a request's frame: the MD5 (RFC 1321) of its kind and its body, behind a header of 18 bytes. It is the
+-- mark by which a service knows the request again.
 abbrev pub checksum : List ℕ → List ℕ
-checksum request = md5 (slice_index request 1 ∷ summed (drop 18 request))
+checksum request = md5 (slice_index request 1 ∷ drop 18 request)
 
 -- ---- check values
 

@@ -3,9 +3,8 @@
 ghost use Rattle.std.specs.Prelude.{◌≡◌, ◌≤◌, ◌++◌, ◌↔◌, IsTrue, length, take};
 ghost use Rattle.md5.specs.Md5.{md5};
 ghost use Rattle.droid_journal_chain.specs.Chains.{first_check};
-ghost use Rattle.droid_journal_chain.specs.Records.{digest, first_byte, made, next_check, sealed};
+ghost use Rattle.droid_journal_chain.specs.Records.{checksum, digest, first_byte, made, next_check, sealed};
 
-use crate::checksums::checksum_of;
 use md5::{Digest, Md5};
 
 /// How many bytes the header of a request's frame has.
@@ -26,17 +25,24 @@ pub fn start_of(header: &[u8]) -> [u8; 16]
 /// Computes the MD5 of a record behind one with the check value `check`. The body of the request goes in by its
 /// checksum alone.
 #[tactic(auto, unfolding(crate::specs::Records::digest))]
-fn digest_of(start: &[u8], check: &[u8], first: bool, request: &[u8], reply: &[u8]) -> [u8; 16]
-    requires { 18 ≤ length request.now }
+fn digest_of(
+    start: &[u8],
+    check: &[u8],
+    first: bool,
+    request: &[u8],
+    sum: &[u8; 16],
+    reply: &[u8],
+) -> [u8; 16]
+    requires header { 18 ≤ length request.now }
+    requires sum { sum.now ≡ checksum request.now }
     ensures { result ≡ digest start.now check.now (made first request.now reply.now) }
 {
-    let sum = checksum_of(request);
     let mut hasher = Md5::new();
     hasher.update(start);
     hasher.update(check);
     hasher.update(&[u8::from(first)]);
     hasher.update(&request[..HEADER]);
-    hasher.update(&sum);
+    hasher.update(sum);
     hasher.update(reply);
     hasher.finalize()
 }
@@ -60,19 +66,21 @@ fn with_seal(digest: &[u8; 16], seal: &[u8; 16]) -> [u8; 16]
     check
 }
 
-/// Computes the check value of a record behind one with the check value `check`.
+/// Computes the check value of a record behind one with the check value `check`, by the checksum of its request.
 #[tactic(auto, unfolding(crate::specs::Records::next_check))]
 pub(crate) fn check_of(
     start: &[u8],
     check: &[u8],
     first: bool,
     request: &[u8],
+    sum: &[u8; 16],
     reply: &[u8],
 ) -> [u8; 16]
-    requires { 18 ≤ length request.now }
+    requires header { 18 ≤ length request.now }
+    requires sum { sum.now ≡ checksum request.now }
     ensures { result ≡ next_check start.now check.now (made first request.now reply.now) }
 {
-    let digest = digest_of(start, check, first, request, reply);
+    let digest = digest_of(start, check, first, request, sum, reply);
     let seal = seal_of(start, &digest[..SEALED]);
     with_seal(&digest, &seal)
 }

@@ -12,6 +12,7 @@ mod reading;
 mod writing;
 
 pub use checks::start_of;
+pub use checksums::checksum_of;
 pub use damage::has_later;
-pub use reading::{Found, record_of};
+pub use reading::{Found, record_by, record_of, request_of};
 pub use writing::record;

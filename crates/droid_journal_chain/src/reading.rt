@@ -1,11 +1,12 @@
 //! Reading a record from the front of bytes.
 
-ghost use Rattle.std.specs.Prelude.{IfNone, IfSome};
+ghost use Rattle.std.specs.Prelude.{◌≡◌, ◌≤◌, ℕ, List, Some, IfNone, IfSome, length};
 ghost use Rattle.droid_journal_chain.specs.Chains.{BeginsNoRecord, BeginsWith};
-ghost use Rattle.droid_journal_chain.specs.Reading.{Gives, check_at, first_at, number_at, record_at, string_at};
-ghost use Rattle.droid_journal_chain.specs.Records.{made};
+ghost use Rattle.droid_journal_chain.specs.Reading.{Gives, check_at, first_at, number_at, record_at, request_in, string_at};
+ghost use Rattle.droid_journal_chain.specs.Records.{checksum, made};
 
 use crate::checks::check_of;
+use crate::checksums::checksum_of;
 use crate::writing::fits;
 
 /// How many bytes a check value has.
@@ -18,6 +19,8 @@ pub struct Found<'a> {
     pub first: bool,
     /// The request's frame.
     pub request: &'a [u8],
+    /// The checksum of the request.
+    pub sum: [u8; 16],
     /// The reply's frame.
     pub reply: &'a [u8],
     /// Its check value.
@@ -32,13 +35,37 @@ pub fn record_of<'a>(start: &[u8], check: &[u8], bytes: &'a [u8]) -> Option<Foun
     ensures found { IfSome result (λ x. BeginsWith start.now check.now bytes.now (made x.first x.request.now x.reply.now) x.check x.rest.now) }
     ensures none { IfNone result (BeginsNoRecord start.now check.now bytes.now) }
     ensures read { Gives (λ x. (made x.first x.request.now x.reply.now, x.check, x.rest.now)) result (record_at start.now check.now bytes.now) }
+    ensures sum { IfSome result (λ x. x.sum ≡ checksum x.request.now) }
 {
-    read_record(start, check, bytes)
+    record_by(start, check, bytes, None)
+}
+
+/// The same, by the checksum of the record's request, if that was computed before.
+pub fn record_by<'a>(
+    start: &[u8],
+    check: &[u8],
+    bytes: &'a [u8],
+    sum: Option<[u8; 16]>,
+) -> Option<Found<'a>>
+    requires sum { IfSome sum (λ it. (request : List ℕ) → request_in bytes.now ≡ Some request → 18 ≤ length request → it ≡ checksum request) }
+    ensures found { IfSome result (λ x. BeginsWith start.now check.now bytes.now (made x.first x.request.now x.reply.now) x.check x.rest.now) }
+    ensures none { IfNone result (BeginsNoRecord start.now check.now bytes.now) }
+    ensures read { Gives (λ x. (made x.first x.request.now x.reply.now, x.check, x.rest.now)) result (record_at start.now check.now bytes.now) }
+    ensures sum { IfSome result (λ x. x.sum ≡ checksum x.request.now) }
+{
+    read_record(start, check, bytes, sum)
 }
 
 #[tactic(auto, unfolding(crate::specs::Reading::record_at))]
-fn read_record<'a>(start: &[u8], check: &[u8], bytes: &'a [u8]) -> Option<Found<'a>>
-    ensures { Gives (λ x. (made x.first x.request.now x.reply.now, x.check, x.rest.now)) result (record_at start.now check.now bytes.now) }
+fn read_record<'a>(
+    start: &[u8],
+    check: &[u8],
+    bytes: &'a [u8],
+    sum: Option<[u8; 16]>,
+) -> Option<Found<'a>>
+    requires { IfSome sum (λ it. (request : List ℕ) → request_in bytes.now ≡ Some request → 18 ≤ length request → it ≡ checksum request) }
+    ensures read { Gives (λ x. (made x.first x.request.now x.reply.now, x.check, x.rest.now)) result (record_at start.now check.now bytes.now) }
+    ensures sum { IfSome result (λ x. x.sum ≡ checksum x.request.now) }
 {
     let (first, behind) = first_of(bytes)?;
     let (request, behind) = string_of(behind)?;
@@ -46,15 +73,29 @@ fn read_record<'a>(start: &[u8], check: &[u8], bytes: &'a [u8]) -> Option<Found<
     if !fits(request, reply) {
         return None;
     }
-    let next = check_of(start, check, first, request, reply);
+    let sum = match sum {
+        Some(sum) => sum,
+        None => checksum_of(request),
+    };
+    let next = check_of(start, check, first, request, &sum, reply);
     let rest = behind_check(&next, behind)?;
     Some(Found {
         first,
         request,
+        sum,
         reply,
         check: next,
         rest,
     })
+}
+
+/// Returns the request of the record at the front, whatever check value stands behind it.
+pub fn request_of(bytes: &[u8]) -> Option<&[u8]>
+    ensures { Gives (λ x. x.now) result (request_in bytes.now) }
+{
+    let (_, behind) = first_of(bytes)?;
+    let (request, _) = string_of(behind)?;
+    Some(request)
 }
 
 fn first_of(bytes: &[u8]) -> Option<(bool, &[u8])>

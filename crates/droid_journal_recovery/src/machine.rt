@@ -24,9 +24,17 @@ use std::num::NonZeroUsize;
 
 /// The machine that reads a journal that was made small. It takes each record of it with the record's reply, and refuses
 /// whatever is no record of it.
-#[derive(Drop)]
 pub struct RecoveringMachine {
     holdings: Holdings,
+}
+
+// Written by hand, so that the crates above do not prove again how each part is dropped.
+impl Drop for RecoveringMachine {
+    fn drop(self) {
+        let RecoveringMachine {
+            holdings: _holdings,
+        } = self;
+    }
 }
 
 impl RecoveringMachine {
@@ -78,8 +86,8 @@ impl Machine for RecoveringMachine {
 
     ghost gives = { standing.GivesReply };
 
-    fn handle(&mut self, frame: Frame) -> Handled {
-        let reply = take(&mut self.holdings, frame);
+    fn handle(&mut self, frame: Frame, mark: [u8; 16]) -> Handled {
+        let reply = take(&mut self.holdings, frame, mark);
         let accepted = accepts(&reply);
         Handled { reply, accepted }
     }

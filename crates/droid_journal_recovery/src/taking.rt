@@ -3,32 +3,35 @@
 ghost use Rattle.std.specs.Prelude.{◌≡◌, ◌≢◌, ℕ, true};
 ghost use Rattle.droid_core_revival.specs.core.MemoryFaults.{is_out_of_memory};
 ghost use Rattle.droid_core_revival.specs.core.Verdicts.{is_refused};
+ghost use Rattle.droid_core_revival.specs.frame.Frames.{mark_of};
 ghost use Rattle.droid_core_revival.specs.frame.Replies.{HasReplySpelling};
 ghost use Rattle.droid_core_revival.specs.frame.Streams.{IsReadable};
 ghost use Rattle.droid_journal_recovery.specs.Taking.{Takes};
 
 use crate::reading::{BareFinish, BarePiece, read_finish, read_piece};
 use droid_core_revival::{
-    BodyFault, Frame, Holdings, RecoveryFault, Refusal, Reply, Stamp, mark, recover_command,
+    BodyFault, Frame, Holdings, RecoveryFault, Refusal, Reply, Stamp, recover_command,
     recover_finish, recover_piece, request_of,
 };
 use droid_journal_bare::{BARE_FINISH, BARE_PIECE};
 
-/// Handles the frame of a record. What is none of a record is refused.
-pub(crate) fn take(holdings: &mut Holdings, frame: Frame) -> Reply
+/// Handles the frame of a record, of which this is the mark. What is none of a record is refused.
+pub(crate) fn take(holdings: &mut Holdings, frame: Frame, mark: [u8; 16]) -> Reply
     requires readable { IsReadable frame }
+    requires mark { mark ≡ mark_of frame.kind frame.body }
     ensures { Takes frame holdings.old holdings.new result }
 {
     match frame.kind {
         BARE_PIECE => take_piece(holdings, &frame),
         BARE_FINISH => take_finish(holdings, &frame),
-        _ => take_whole(holdings, frame),
+        _ => take_whole(holdings, frame, mark),
     }
 }
 
 /// Handles the frame of a request that needs no bytes of a bare file.
-fn take_whole(holdings: &mut Holdings, frame: Frame) -> Reply
+fn take_whole(holdings: &mut Holdings, frame: Frame, mark: [u8; 16]) -> Reply
     requires readable { IsReadable frame }
+    requires mark { mark ≡ mark_of frame.kind frame.body }
     requires no_piece { frame.kind ≢ 68 }
     requires no_finish { frame.kind ≢ 69 }
     ensures { Takes frame holdings.old holdings.new result }
@@ -37,7 +40,7 @@ fn take_whole(holdings: &mut Holdings, frame: Frame) -> Reply
         client: frame.client,
         number: frame.number,
         version: frame.version,
-        mark: mark(frame.kind, frame.body.as_slice()),
+        mark,
     };
     match request_of(holdings.alloc, frame) {
         Ok(request) => recover_command(holdings, stamp, request),

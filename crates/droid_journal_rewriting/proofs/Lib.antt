@@ -1,7 +1,7 @@
 pub mod SameNumbers
 pub mod Going
 pub mod Passing
-pub mod Waiting
+pub mod SideBySide
 pub mod Wholes
 pub mod Ending
 pub mod Shortening

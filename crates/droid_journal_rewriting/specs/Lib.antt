@@ -7,7 +7,7 @@ pub mod Noting
 pub mod Skimming
 pub mod Faults
 pub mod Taking
-pub mod Waiting
+pub mod Sums
 pub mod Aims
 pub mod Writing
 pub mod Weighing

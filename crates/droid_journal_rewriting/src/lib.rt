@@ -6,7 +6,6 @@
 //! crash at any moment leaves one or the other. [`is_mostly_ended`] says whether that is worth it.
 #![tactic(auto)]
 
-mod batch;
 mod compaction;
 mod ended_files;
 mod exchange;
@@ -14,12 +13,12 @@ mod fault;
 mod fields;
 mod folder;
 pub mod laws;
-mod marks;
 mod new_file;
 mod numbers;
 mod rewriter;
 mod size;
 mod skim;
+mod sums;
 mod taker;
 mod walk;
 mod weight;

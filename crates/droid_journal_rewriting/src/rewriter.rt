@@ -2,18 +2,17 @@
 
 ghost use Rattle.std.specs.Prelude.{◌≡◌, ◌+◌, ◌≤◌, ◌++◌, ℕ, [], List, IfErr, IfOk, IfSome, MatchOption, OnOk, length, true};
 ghost use Rattle.droid_journal_bare.specs.BareFrames.{bare_piece_bytes};
-ghost use Rattle.droid_journal_chain.specs.Records.{Fits, made, next_check, record_bytes};
+ghost use Rattle.droid_journal_chain.specs.Records.{Fits, checksum, made, next_check, record_bytes};
 ghost use Rattle.droid_journal_rewriting.specs.Numbers.{has_number};
 ghost use Rattle.droid_journal_rewriting.specs.Shortening.{smaller_request};
-ghost use Rattle.droid_journal_rewriting.specs.Waiting.{mark_in};
 
 use crate::fault::RewriteFault;
 use crate::fields::{FINISH, PIECE, file_of, is_about, stamp_of};
 use crate::numbers::Numbers;
 use crate::taker::Taker;
 use droid_journal::LogFile;
-use droid_journal_bare::{bare_finish, bare_piece, bare_piece_by};
-use droid_journal_chain::record;
+use droid_journal_bare::{bare_finish, bare_piece_by};
+use droid_journal_chain::{checksum_of, record};
 use std::alloc::{AllocError, Global};
 
 /// How many bytes are collected before they are written.
@@ -39,34 +38,16 @@ pub(crate) struct Rewriter<N: LogFile> {
     pub(crate) bytes: u64,
 }
 
-/// Makes the bare request of a piece, by its mark if that was computed before.
-fn bare_piece_of(
-    alloc: Global,
-    request: &[u8],
-    mark: Option<[u8; 16]>,
-    reply: &[u8],
-) -> Result<Vec<u8>, AllocError>
-    requires header { 18 ≤ length request.now }
-    requires mark { IfSome mark (λ it. it ≡ mark_in request.now) }
-    requires size { length request.now + length reply.now ≤ 8388608 }
-    ensures { IfOk result (λ bytes. bytes.items ≡ bare_piece_bytes request.now reply.now) }
-{
-    match mark {
-        Some(mark) => bare_piece_by(alloc, request, mark, reply),
-        None => bare_piece(alloc, request, reply),
-    }
-}
-
 /// Returns the bare request in the place of one that only an unfinished file needs, and `None` if the request stays.
 fn bare_of(
     alloc: Global,
     ended: &Numbers,
     request: &[u8],
-    mark: Option<[u8; 16]>,
+    sum: [u8; 16],
     reply: &[u8],
 ) -> Result<Option<Vec<u8>>, AllocError>
     requires header { 18 ≤ length request.now }
-    requires mark { IfSome mark (λ it. it ≡ mark_in request.now) }
+    requires sum { sum ≡ checksum request.now }
     ensures bare { IfOk result (λ bare. MatchOption bare (smaller_request (has_number ended.now) request.now reply.now ≡ request.now)
         (λ bytes. bytes.items ≡ smaller_request (has_number ended.now) request.now reply.now)) }
     ensures least { IfOk result (λ bare. IfSome bare (λ bytes. 18 ≤ length bytes.items)) }
@@ -77,7 +58,7 @@ fn bare_of(
         if !ended.has(its) {
             return Ok(None);
         }
-        let bare = bare_piece_of(alloc, request, mark, reply)?;
+        let bare = bare_piece_by(alloc, request, sum, reply)?;
         return Ok(Some(bare));
     }
     if !is_about(FINISH, request, reply) {
@@ -99,20 +80,23 @@ fn spell(
     out: &mut Vec<u8>,
     seals: ([u8; 16], [u8; 16]),
     request: &[u8],
-    mark: Option<[u8; 16]>,
+    sum: [u8; 16],
     reply: &[u8],
 ) -> Result<[u8; 16], AllocError>
     requires header { 18 ≤ length request.now }
-    requires mark { IfSome mark (λ it. it ≡ mark_in request.now) }
+    requires sum { sum ≡ checksum request.now }
     requires size { length request.now + length reply.now + 25 ≤ 8388608 }
     ensures bytes { OnOk result (out.new.items ≡ out.old.items ++ record_bytes seals.0 seals.1 (made true (smaller_request (has_number ended.now) request.now reply.now) reply.now)) }
     ensures check { IfOk result (λ next. next ≡ next_check seals.0 seals.1 (made true (smaller_request (has_number ended.now) request.now reply.now) reply.now)) }
     ensures fits { OnOk result (Fits (made true (smaller_request (has_number ended.now) request.now reply.now) reply.now)) }
 {
     let (start, check) = seals;
-    match bare_of(alloc, ended, request, mark, reply)? {
-        Some(bare) => record(out, &start, &check, true, &bare, reply),
-        None => record(out, &start, &check, true, request, reply),
+    match bare_of(alloc, ended, request, sum, reply)? {
+        Some(bare) => {
+            let its = checksum_of(&bare);
+            record(out, &start, &check, true, &bare, &its, reply)
+        }
+        None => record(out, &start, &check, true, request, &sum, reply),
     }
 }
 
@@ -146,20 +130,7 @@ impl<N: LogFile> Taker for Rewriter<N> {
 
     ghost took = { λ aim rewriter its. IsWriting N.has aim rewriter its };
 
-    fn wants_mark(&self, request: &[u8], reply: &[u8]) -> bool {
-        if !is_about(PIECE, request, reply) {
-            return false;
-        }
-        let file = file_of(request);
-        self.ended.has(file)
-    }
-
-    fn take(
-        &mut self,
-        request: &[u8],
-        mark: Option<[u8; 16]>,
-        reply: &[u8],
-    ) -> Result<(), RewriteFault> {
+    fn take(&mut self, request: &[u8], sum: [u8; 16], reply: &[u8]) -> Result<(), RewriteFault> {
         let stamp = stamp_of(request);
         if self.stamps.has(stamp) {
             return Ok(());
@@ -179,7 +150,7 @@ impl<N: LogFile> Taker for Rewriter<N> {
             &mut self.out,
             (start, check),
             request,
-            mark,
+            sum,
             reply,
         ) {
             Ok(next) => self.check = next,

@@ -1,8 +1,7 @@
 //! What takes the records of a file, one after another.
 
-ghost use Rattle.std.specs.Prelude.{◌≡◌, ◌+◌, ◌≤◌, ◌++◌, ◌∷◌, [], Bool, List, length, IfErr, IfSome, OnOk};
-ghost use Rattle.droid_journal_chain.specs.Records.{Record, made};
-ghost use Rattle.droid_journal_rewriting.specs.Waiting.{mark_in};
+ghost use Rattle.std.specs.Prelude.{◌≡◌, ◌+◌, ◌≤◌, ◌++◌, ◌∷◌, [], Bool, List, length, IfErr, OnOk};
+ghost use Rattle.droid_journal_chain.specs.Records.{Record, checksum, made};
 
 use crate::fault::RewriteFault;
 
@@ -16,19 +15,11 @@ pub(crate) trait Taker {
     /// It took these records, in order.
     ghost took: { Setting → Self → List Record → Type 0 };
 
-    /// Returns whether the mark of a request should be computed before it is taken. No result depends on the answer.
-    fn wants_mark(&self, request: &[u8], reply: &[u8]) -> bool;
-
-    /// Takes the next record. The mark of its request is given if it was computed.
-    fn take(
-        &mut self,
-        request: &[u8],
-        mark: Option<[u8; 16]>,
-        reply: &[u8],
-    ) -> Result<(), RewriteFault>
+    /// Takes the next record, whose request has this checksum.
+    fn take(&mut self, request: &[u8], sum: [u8; 16], reply: &[u8]) -> Result<(), RewriteFault>
         requires header { 18 ≤ length request.now }
         requires size { length request.now + length reply.now + 25 ≤ 8388608 }
-        requires mark { IfSome mark (λ it. it ≡ mark_in request.now) }
+        requires sum { sum ≡ checksum request.now }
         ensures took { (setting : Setting) (before : List Record) (first : Bool) → took setting self.old before → OnOk result (took setting self.new (before ++ made first request.now reply.now ∷ [])) }
         ensures fault { IfErr result IsOfTaking };
 }

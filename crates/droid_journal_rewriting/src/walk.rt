@@ -2,16 +2,16 @@
 
 ghost use Rattle.std.specs.Prelude.{◌≡◌, ◌*◌, ◌+◌, ◌<◌, ◌≤◌, ◌^◌, ℕ, List, [], IfErr, IfNone, IfOk, IfSome, drop, length};
 ghost use Rattle.droid_journal_chain.specs.Chains.{BeginsNoRecord, BeginsWith};
-ghost use Rattle.droid_journal_chain.specs.Records.{Record, made};
+ghost use Rattle.droid_journal_chain.specs.Records.{Record, checksum, made};
 ghost use Rattle.droid_journal_rewriting.specs.Faults.{IsOfReading, IsOfTaking};
+ghost use Rattle.droid_journal_rewriting.specs.Sums.{AreSumsIn};
 ghost use Rattle.droid_journal_rewriting.specs.Taking.{Passes, StandIn, StandThere, Takes};
 
-use crate::batch::{Lanes, take_later, take_waiting};
 use crate::fault::RewriteFault;
+use crate::sums::Sums;
 use crate::taker::Taker;
 use droid_journal::LogFile;
-use droid_journal_chain::{Found, record_of};
-use std::alloc::Global;
+use droid_journal_chain::{Found, record_by};
 
 /// How many bytes of a file are read at once.
 pub(crate) const WINDOW: usize = 16_777_216;
@@ -38,26 +38,30 @@ pub(crate) struct Taken {
     pub(crate) records: u64,
 }
 
-/// Reads the record at the front of bytes.
-fn next_of<'a>(start: &[u8], check: [u8; 16], bytes: &'a [u8]) -> Option<Found<'a>>
+/// Reads the record at the front of bytes. Computes the checksums of eight requests if that of this one is not known.
+fn next_of<'a>(start: &[u8], check: [u8; 16], bytes: &'a [u8], sums: &mut Sums) -> Option<Found<'a>>
+    requires { AreSumsIn bytes.now sums.old }
+    ensures sums { AreSumsIn bytes.now sums.new }
     ensures found { IfSome result (λ x. BeginsWith start.now check bytes.now (made x.first x.request.now x.reply.now) x.check x.rest.now) }
+    ensures sum { IfSome result (λ x. x.sum ≡ checksum x.request.now) }
     ensures none { IfNone result (BeginsNoRecord start.now check bytes.now) }
 {
-    record_of(start, &check, bytes)
+    if sums.at(bytes).is_none() {
+        *sums = Sums::of(bytes);
+    }
+    let sum = sums.at(bytes);
+    record_by(start, &check, bytes, sum)
 }
 
-/// Takes each record at the front of bytes, behind `records` records of which the last has this check value. None waits before
-/// or after it.
-fn take_records<'a, T: Taker>(
+/// Takes each record at the front of bytes, behind `records` records of which the last has this check value.
+fn take_records<T: Taker>(
     taker: &mut T,
-    waiting: &mut Vec<Found<'a>>,
     start: &[u8],
     check: [u8; 16],
     records: u64,
-    bytes: &'a [u8],
+    bytes: &[u8],
 ) -> Result<Taken, RewriteFault>
     requires count { records + length bytes.now < 2 ^ 64 }
-    requires none { waiting.old.items ≡ [] }
     ensures takes { IfOk result (λ x. Takes T.took start.now check bytes.now records taker.old x.used x.check x.records taker.new) }
     ensures bound { IfOk result (λ x. x.used ≤ length bytes.now) }
     ensures fault { IfErr result IsOfTaking }
@@ -65,19 +69,15 @@ fn take_records<'a, T: Taker>(
     let mut rest = bytes;
     let mut check = check;
     let mut records = records;
-    let mut lanes = Lanes::idle();
-    while let Some(found) = next_of(start, check, rest) {
+    let mut sums = Sums::of(bytes);
+    while let Some(found) = next_of(start, check, rest, &mut sums) {
         records += 1;
-        match take_later(taker, waiting, lanes, found) {
-            Ok(now) => lanes = now,
+        match taker.take(found.request, found.sum, found.reply) {
+            Ok(()) => {}
             Err(fault) => return Err(fault),
         }
         check = found.check;
         rest = found.rest;
-    }
-    match take_waiting(taker, waiting, lanes) {
-        Ok(()) => {}
-        Err(fault) => return Err(fault),
     }
     Ok(Taken {
         used: bytes.len() - rest.len(),
@@ -88,7 +88,6 @@ fn take_records<'a, T: Taker>(
 
 /// Takes the records from a place on that are whole in what is read at once.
 fn take_some<F: LogFile, T: Taker>(
-    alloc: Global,
     file: &F,
     taker: &mut T,
     start: &[u8],
@@ -107,15 +106,7 @@ fn take_some<F: LogFile, T: Taker>(
     let Ok(count) = file.read_at(from.at, buffer) else {
         return Err(RewriteFault::Read);
     };
-    let mut waiting = Vec::new(alloc);
-    let part = match take_records(
-        taker,
-        &mut waiting,
-        start,
-        from.check,
-        from.records,
-        &buffer[..count],
-    ) {
+    let part = match take_records(taker, start, from.check, from.records, &buffer[..count]) {
         Ok(part) => part,
         Err(fault) => return Err(fault),
     };
@@ -132,7 +123,6 @@ fn take_some<F: LogFile, T: Taker>(
 
 /// Takes all records from a place on.
 pub(crate) fn take_all<F: LogFile, T: Taker>(
-    alloc: Global,
     file: &F,
     taker: &mut T,
     start: &[u8],
@@ -149,7 +139,7 @@ pub(crate) fn take_all<F: LogFile, T: Taker>(
 {
     let mut place = from;
     for _ in 0..u64::MAX {
-        let next = match take_some(alloc, file, taker, start, place, buffer) {
+        let next = match take_some(file, taker, start, place, buffer) {
             Ok(next) => next,
             Err(fault) => return Err(fault),
         };

@@ -50,16 +50,7 @@ impl Taker for Weight {
 
     ghost took = { λ files weight its. AreWeighed files weight.files weight.bytes its };
 
-    fn wants_mark(&self, _request: &[u8], _reply: &[u8]) -> bool {
-        false
-    }
-
-    fn take(
-        &mut self,
-        request: &[u8],
-        _mark: Option<[u8; 16]>,
-        reply: &[u8],
-    ) -> Result<(), RewriteFault> {
+    fn take(&mut self, request: &[u8], _sum: [u8; 16], reply: &[u8]) -> Result<(), RewriteFault> {
         let weight = weight_of(&self.files, request, reply);
         match self.bytes.checked_add(weight) {
             Some(bytes) => self.bytes = bytes,

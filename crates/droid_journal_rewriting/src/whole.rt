@@ -87,7 +87,7 @@ pub(crate) fn take_whole<F: LogFile, T: Taker>(
         check: start,
         records: 0,
     };
-    let to = match take_all(alloc, file, taker, &start, from, buffer) {
+    let to = match take_all(file, taker, &start, from, buffer) {
         Ok(to) => to,
         Err(fault) => return Err(fault),
     };

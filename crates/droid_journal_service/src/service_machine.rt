@@ -47,10 +47,10 @@ impl Machine for ServiceMachine {
 
     ghost gives = { λ start. GivesReply start.setting start.base };
 
-    fn handle(&mut self, frame: Frame) -> Handled {
+    fn handle(&mut self, frame: Frame, mark: [u8; 16]) -> Handled {
         let known = self.knows(frame.client, frame.number);
         let commands = frame.kind < QUERIES;
-        let reply = self.service.handle(frame);
+        let reply = self.service.handle_marked(frame, mark);
         let accepted = belongs(commands, known, &reply);
         Handled { reply, accepted }
     }

@@ -55,9 +55,9 @@ impl Machine for SmallReader {
 
     ghost gives = { GivesReply };
 
-    fn handle(&mut self, frame: Frame) -> Handled {
+    fn handle(&mut self, frame: Frame, mark: [u8; 16]) -> Handled {
         let bare = is_bare(frame.kind);
-        let handled = self.machine.handle(frame);
+        let handled = self.machine.handle(frame, mark);
         self.is_small = has_bare(self.is_small, bare, handled.accepted);
         handled
     }

@@ -14,7 +14,7 @@ impl Machine for Accepting {
 
     ghost gives = { λ setting records frame reply accepted. ⊥ };
 
-    fn handle(&mut self, frame: Frame) -> Handled {
+    fn handle(&mut self, frame: Frame, _mark: [u8; 16]) -> Handled {
         let reply = if frame.kind % 64 == 4 {
             Reply::Taken { held: 1 }
         } else {

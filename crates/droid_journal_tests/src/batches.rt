@@ -1,5 +1,5 @@
-//! Making a journal smaller that has as many pieces as marks are computed side by side, or fewer, or more. What it must give is
-//! a journal that is written by itself, with the mark of each piece computed alone.
+//! Making a journal smaller that has as many pieces as checksums are computed side by side, or fewer, or more. What it must give
+//! is a journal that is written by itself, with the checksum of each request computed alone.
 
 use crate::accepting::Accepting;
 use crate::memory_log::MemoryLog;
@@ -96,7 +96,7 @@ fn pieces_of_many_sizes(rt: HostRuntime) -> Result<(), Fail> {
     Ok(())
 }
 
-// More records wait than there is room for, and none of them wants a mark.
+// No piece becomes bare.
 #[test]
 fn pieces_of_a_file_that_goes_on(rt: HostRuntime) -> Result<(), Fail> {
     let alloc = rt.alloc();

@@ -24,7 +24,7 @@ impl Machine for Counter {
 
     ghost gives = { λ setting records frame reply accepted. ⊥ };
 
-    fn handle(&mut self, frame: Frame) -> Handled {
+    fn handle(&mut self, frame: Frame, _mark: [u8; 16]) -> Handled {
         if frame.kind != 6 || self.more == 0 {
             return Handled {
                 reply: Reply::Refused(Refusal::Malformed),

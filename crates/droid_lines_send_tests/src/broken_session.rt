@@ -85,12 +85,12 @@ fn wanted(which: Which, count: usize, stop: Stop) -> Wanted {
 fn ends(rt: &impl Abort, alloc: Global, streams: Streams<'_>, wanted: Wanted) -> Result<(), Fail> {
     let (ended, requests, printed) = wanted;
     let outcome = sent(alloc, streams);
-    assert!(rt; outcome.ended == ended, "{wanted:?}: {:?}", outcome.ended);
+    assert!(rt; outcome.ended == ended, "{requests} {printed}");
     let frames = joined(alloc, &[CREATE, FOLDER])?;
     let front = &frames.as_slice()[..requests.min(frames.len())];
-    assert!(rt; outcome.frames.taken() == front, "{wanted:?}");
+    assert!(rt; outcome.frames.taken() == front, "{requests} {printed}");
     let front = &PRINTED[..printed.min(PRINTED.len())];
-    assert!(rt; outcome.text.taken() == front, "{wanted:?}");
+    assert!(rt; outcome.text.taken() == front, "{requests} {printed}");
     Ok(())
 }
 

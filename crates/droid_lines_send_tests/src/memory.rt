@@ -115,11 +115,7 @@ fn each_growth_of_a_sending(rt: HostRuntime) -> Result<(), Fail> {
         );
         outcome = sent(alloc, replies.as_slice(), &mut frames, &mut text);
     }
-    assert!(rt;
-        outcome.ended == Ok(Tally { lines: 4, bad: 1 }),
-        "{:?}",
-        outcome.ended
-    );
+    assert!(rt; outcome.ended == Ok(Tally { lines: 4, bad: 1 }));
     assert!(rt; are_joined(outcome.frames(&frames), &REQUESTS));
     assert!(rt; are_joined(outcome.text(&text), &PRINTED));
     Ok(())

@@ -3,7 +3,7 @@
 use droid_frame::HashKind;
 
 /// How a tree is profiled.
-#[derive(Clone, Copy, Debug)]
+#[derive(Clone, Copy)]
 pub struct Options {
     /// How many bytes at each end of a file are scanned: 1 to 65,536.
     pub scan_limit: u32,

@@ -12,6 +12,8 @@ mod memory_tree;
 #[cfg(test)]
 mod noting_watcher;
 #[cfg(test)]
+mod page;
+#[cfg(test)]
 mod profiles;
 #[cfg(test)]
 mod skipped_entries;

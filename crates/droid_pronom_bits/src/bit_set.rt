@@ -15,7 +15,7 @@ use std::marker::Model;
 ///
 /// Its memory and the time of each call grow with the highest place that it has had. Contracts see its words, and
 /// `IsPlace` says which places these words hold.
-#[derive(Debug, Drop)]
+#[derive(Drop)]
 pub struct BitSet {
     words: Vec<u64>,
 }

@@ -3,7 +3,7 @@
 use droid_frame::Text;
 
 /// A format, with the texts of its record in the registry file.
-#[derive(Debug, Drop)]
+#[derive(Drop)]
 pub struct Format {
     /// PRONOM's persistent unique identifier, such as `fmt/95`: 1 to 32 ASCII letters, digits, `/` and `-`.
     pub puid: Text,

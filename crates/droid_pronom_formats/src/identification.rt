@@ -3,7 +3,7 @@
 use droid_frame::{Method, Texts};
 
 /// The formats of a file, and how they were found.
-#[derive(Debug, Drop)]
+#[derive(Drop)]
 pub struct Found {
     /// How they were found.
     pub method: Method,

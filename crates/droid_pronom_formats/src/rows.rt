@@ -11,14 +11,14 @@ use std::alloc::{AllocError, Global};
 use std::marker::Model;
 
 /// An extension that a format lists, in lower case.
-#[derive(Debug, Drop)]
+#[derive(Drop)]
 pub struct ListedExtension {
     pub place: u32,
     pub extension: Text,
 }
 
 /// The format at `place` has priority over the one at `over`.
-#[derive(Clone, Copy, Debug)]
+#[derive(Clone, Copy)]
 pub struct Priority {
     pub place: u32,
     pub over: u32,

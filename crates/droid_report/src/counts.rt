@@ -14,7 +14,6 @@ use std::alloc::{AllocError, Global};
 use std::collections::BTreeMap;
 
 /// The counts of a profile's rows. They grow row by row, and take no memory for each but that of the files' hashes.
-#[derive(Drop)]
 pub struct Counts {
     /// The totals.
     pub totals: Totals,
@@ -26,6 +25,19 @@ pub struct Counts {
     pub contents: Groups,
     /// Lists of files.
     pub lists: Lists,
+}
+
+// Written by hand, so that no place that drops one drops each part.
+impl Drop for Counts {
+    fn drop(self) {
+        let Counts {
+            totals: _totals,
+            classes: _classes,
+            formats: _formats,
+            contents: _contents,
+            lists: _lists,
+        } = self;
+    }
 }
 
 impl Counts {

@@ -5,3 +5,5 @@
 mod faults;
 #[cfg(test)]
 mod files;
+#[cfg(test)]
+mod signature_page;

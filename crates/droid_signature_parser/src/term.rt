@@ -1,7 +1,7 @@
 //! The terms of a text.
 
 /// One item of a text.
-#[derive(Debug, Drop)]
+#[derive(Drop)]
 pub enum TextItem {
     /// `61`: that byte.
     Byte(u8),
@@ -22,7 +22,7 @@ pub enum TextItem {
 }
 
 /// One item, or one of several lists of items.
-#[derive(Debug, Drop)]
+#[derive(Drop)]
 pub enum TextTerm {
     One(TextItem),
     /// `(61|6263|[30:39])`.

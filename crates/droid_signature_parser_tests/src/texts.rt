@@ -1,6 +1,9 @@
 //! Texts of sequences and fragments.
 
-use droid_signature_parser::{TextFault, read_text};
+ghost use Rattle.std.specs.Prelude.{None};
+
+use droid_signature_parser::{TextFault, TextItem, TextTerm, read_text};
+use std::fmt::{self, Display, Formatter, Write};
 use std::test::Fail;
 
 /// Texts, and the terms that they spell.
@@ -56,11 +59,82 @@ const BAD: &[&str] = &[
     "61 62",
 ];
 
+/// Prints terms with the names of their parts.
+#[derive(Clone, Copy)]
+struct Terms<'a>(&'a [TextTerm]);
+
+impl Display for Terms<'_> {
+    ghost output = { λ terms. None };
+
+    fn fmt<W: Write>(&self, f: &mut Formatter<W>) -> fmt::Result {
+        f.write_str("[")?;
+        let mut others = false;
+        for term in self.0 {
+            if others {
+                f.write_str(", ")?;
+            }
+            others = true;
+            show_term(f, term)?;
+        }
+        f.write_str("]")
+    }
+}
+
+fn show_term<W: Write>(f: &mut Formatter<W>, term: &TextTerm) -> fmt::Result {
+    match term {
+        TextTerm::One(item) => {
+            f.write_str("One(")?;
+            show_item(f, item)?;
+        }
+        TextTerm::OneOf(lists) => {
+            f.write_str("OneOf([")?;
+            let mut others = false;
+            for items in lists.as_slice() {
+                if others {
+                    f.write_str(", ")?;
+                }
+                others = true;
+                show_items(f, items.as_slice())?;
+            }
+            f.write_str("]")?;
+        }
+    }
+    f.write_str(")")
+}
+
+fn show_items<W: Write>(f: &mut Formatter<W>, items: &[TextItem]) -> fmt::Result {
+    f.write_str("[")?;
+    let mut others = false;
+    for item in items {
+        if others {
+            f.write_str(", ")?;
+        }
+        others = true;
+        show_item(f, item)?;
+    }
+    f.write_str("]")
+}
+
+fn show_item<W: Write>(f: &mut Formatter<W>, item: &TextItem) -> fmt::Result {
+    match item {
+        TextItem::Byte(byte) => write!(f, "Byte({byte})"),
+        TextItem::AnyByte => f.write_str("AnyByte"),
+        TextItem::Gap { least, most } => write!(f, "Gap {{ least: {least}, most: {most:?} }}"),
+        TextItem::Range { low, high } => write!(f, "Range {{ low: {low}, high: {high} }}"),
+        TextItem::Except(byte) => write!(f, "Except({byte})"),
+        TextItem::Outside { low, high } => write!(f, "Outside {{ low: {low}, high: {high} }}"),
+        TextItem::Between { low, high } => {
+            write!(f, "Between {{ low: {low:?}, high: {high:?} }}")
+        }
+        TextItem::Quoted(bytes) => write!(f, "Quoted({bytes:?})"),
+    }
+}
+
 #[test]
 fn each_text_spells_its_terms(rt: HostRuntime) -> Result<(), Fail> {
     for (text, wanted) in TERMS {
         let terms = read_text(rt.alloc(), text)?;
-        let shown = format!(in rt.alloc(); "{terms:?}")?;
+        let shown = format!(in rt.alloc(); "{}", Terms(terms.as_slice()))?;
         assert_eq!(rt; shown.as_str(), *wanted);
     }
     Ok(())

@@ -18,10 +18,19 @@ use std::alloc::Global;
 const MOST_WAYS: usize = 64;
 
 /// Offsets, and the patterns any of which has to hit there.
-#[derive(Drop)]
 pub struct Choices {
     pub offsets: Offsets,
     pub texts: PatternTexts,
+}
+
+// Written by hand, so that the crates above do not prove again how each part is dropped.
+impl Drop for Choices {
+    fn drop(self) {
+        let Choices {
+            offsets: _offsets,
+            texts: _texts,
+        } = self;
+    }
 }
 
 /// Returns what a signature becomes: for each byte sequence the choices that stand for it, or why a registry cannot hold it.

@@ -8,22 +8,31 @@ use droid_frame::Text;
 use std::marker::Model;
 
 /// What carries a name that the reader does not know.
-#[derive(Clone, Copy, Debug, PartialEq, Eq)]
+#[derive(Clone, Copy, PartialEq, Eq)]
 pub enum UnknownPart {
     Element,
     Attribute,
 }
 
 /// The name of elements or attributes that the reader does not know, and how many there are.
-#[derive(Drop)]
 pub struct UnknownName {
     pub part: UnknownPart,
     pub name: Text,
     pub count: u64,
 }
 
+// Written by hand, so that the crates above do not prove again how each part is dropped.
+impl Drop for UnknownName {
+    fn drop(self) {
+        let UnknownName {
+            part: _part,
+            name: _name,
+            count: _count,
+        } = self;
+    }
+}
+
 /// A signature file, with its signatures and formats in the file's order.
-#[derive(Drop)]
 pub struct SignatureFile {
     version: Text,
     created: Text,
@@ -31,6 +40,20 @@ pub struct SignatureFile {
     formats: Vec<FileFormat>,
     unknown: Vec<UnknownName>,
     unlisted: u64,
+}
+
+// Written by hand, so that the crates above do not prove again how each part is dropped.
+impl Drop for SignatureFile {
+    fn drop(self) {
+        let SignatureFile {
+            version: _version,
+            created: _created,
+            signatures: _signatures,
+            formats: _formats,
+            unknown: _unknown,
+            unlisted: _unlisted,
+        } = self;
+    }
 }
 
 impl Model for SignatureFile {

@@ -7,7 +7,6 @@ use droid_frame::Text;
 use std::marker::Model;
 
 /// The attributes of the element `FileFormat`. A name, version or media type that is missing is empty.
-#[derive(Drop)]
 pub struct FormatAttributes {
     pub id: u32,
     pub puid: Option<Text>,
@@ -16,13 +15,37 @@ pub struct FormatAttributes {
     pub mime: Text,
 }
 
+// Written by hand, so that the crates above do not prove again how each part is dropped.
+impl Drop for FormatAttributes {
+    fn drop(self) {
+        let FormatAttributes {
+            id: _id,
+            puid: _puid,
+            name: _name,
+            version: _version,
+            mime: _mime,
+        } = self;
+    }
+}
+
 /// The element `FileFormat`, with its signatures, extensions and priorities in the file's order.
-#[derive(Drop)]
 pub struct FileFormat {
     attributes: FormatAttributes,
     signatures: Vec<u32>,
     extensions: Vec<Text>,
     priorities: Vec<u32>,
+}
+
+// Written by hand, so that the crates above do not prove again how each part is dropped.
+impl Drop for FileFormat {
+    fn drop(self) {
+        let FileFormat {
+            attributes: _attributes,
+            signatures: _signatures,
+            extensions: _extensions,
+            priorities: _priorities,
+        } = self;
+    }
 }
 
 impl Model for FileFormat {

@@ -6,7 +6,7 @@ use crate::subsequence::SubSequence;
 use std::marker::Model;
 
 /// From where the offsets of a byte sequence count.
-#[derive(Clone, Copy, Debug, PartialEq, Eq)]
+#[derive(Clone, Copy, PartialEq, Eq)]
 pub enum Reference {
     /// `BOFoffset`: the beginning of the file.
     Beginning,
@@ -17,10 +17,19 @@ pub enum Reference {
 }
 
 /// The element `ByteSequence`, with its subsequences in the file's order.
-#[derive(Drop)]
 pub struct SequenceRecord {
     reference: Reference,
     parts: Vec<SubSequence>,
+}
+
+// Written by hand, so that the crates above do not prove again how each part is dropped.
+impl Drop for SequenceRecord {
+    fn drop(self) {
+        let SequenceRecord {
+            reference: _reference,
+            parts: _parts,
+        } = self;
+    }
 }
 
 impl Model for SequenceRecord {

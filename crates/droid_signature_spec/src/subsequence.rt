@@ -6,7 +6,7 @@ use droid_frame::Text;
 use std::marker::Model;
 
 /// Two offsets in bytes, as the attributes give them. An attribute that is missing is `None`.
-#[derive(Clone, Copy, Debug, PartialEq, Eq)]
+#[derive(Clone, Copy, PartialEq, Eq)]
 pub struct OffsetRange {
     /// `SubSeqMinOffset` or `MinOffset`.
     pub min: Option<u32>,
@@ -15,7 +15,6 @@ pub struct OffsetRange {
 }
 
 /// A fragment: bytes that lie on one side of a subsequence's `Sequence`.
-#[derive(Drop)]
 pub struct Fragment {
     /// `Position`: 1 lies beside the `Sequence`, 2 beside 1, and so on.
     pub position: u32,
@@ -25,14 +24,37 @@ pub struct Fragment {
     pub text: Text,
 }
 
+// Written by hand, so that the crates above do not prove again how each part is dropped.
+impl Drop for Fragment {
+    fn drop(self) {
+        let Fragment {
+            position: _position,
+            offsets: _offsets,
+            text: _text,
+        } = self;
+    }
+}
+
 /// A subsequence: its `Sequence`, and the fragments on both sides in the file's order.
-#[derive(Drop)]
 pub struct SubSequence {
     position: u32,
     offsets: OffsetRange,
     text: Text,
     left: Vec<Fragment>,
     right: Vec<Fragment>,
+}
+
+// Written by hand, so that the crates above do not prove again how each part is dropped.
+impl Drop for SubSequence {
+    fn drop(self) {
+        let SubSequence {
+            position: _position,
+            offsets: _offsets,
+            text: _text,
+            left: _left,
+            right: _right,
+        } = self;
+    }
 }
 
 impl Model for SubSequence {

@@ -6,7 +6,7 @@ ghost use Rattle.droid_store.specs.Encoded.{state_number};
 use droid_frame::{Blob, HashKind, Record};
 
 /// The reply to an accepted command. The store keeps it for as long as it lives, under client and number.
-#[derive(Debug, Drop)]
+#[derive(Drop)]
 pub struct Entry {
     /// The client that sent the command.
     pub client: u32,
@@ -23,7 +23,7 @@ pub struct Entry {
 }
 
 /// A profile: its options and how many nodes it has accepted.
-#[derive(Clone, Copy, Debug, PartialEq, Eq)]
+#[derive(Clone, Copy, PartialEq, Eq)]
 pub struct ProfileRow {
     /// How many bytes at the beginning and at the end of a file are searched.
     pub scan_limit: u32,
@@ -60,7 +60,7 @@ impl NodeState {
 }
 
 /// A folder or a file that was not abandoned.
-#[derive(Debug, Drop)]
+#[derive(Drop)]
 pub struct NodeRow {
     /// Its state.
     pub state: NodeState,
@@ -71,7 +71,7 @@ pub struct NodeRow {
 }
 
 /// How many rows the store has.
-#[derive(Clone, Copy, Debug, PartialEq, Eq)]
+#[derive(Clone, Copy, PartialEq, Eq)]
 pub struct Counts {
     /// The number of profiles.
     pub profiles: u64,

@@ -10,7 +10,7 @@ use sqlite_value::row::Row;
 use sqlite_value::value::ValueRef;
 
 /// A test that the first rows of an ordered list pass, and all rows after them fail.
-#[derive(Clone, Copy, Debug)]
+#[derive(Clone, Copy)]
 pub enum Probe<'a> {
     /// The row is below this key. Only as many columns count as the key has.
     BelowKey(Order, &'a Row),

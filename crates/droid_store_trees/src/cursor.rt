@@ -3,7 +3,7 @@
 use sqlite_trees::store::Direction;
 
 /// A cursor. Forward, it still has the entries from `at` on to read, and backward those before `at`.
-#[derive(Clone, Copy, Debug)]
+#[derive(Clone, Copy)]
 pub(crate) struct Cursor {
     pub tree: usize,
     pub at: usize,

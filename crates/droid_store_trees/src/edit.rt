@@ -4,7 +4,7 @@ use sqlite_value::keys::Order;
 use sqlite_value::row::Row;
 
 /// A write: puts or deletes a row of a table, or inserts or removes an entry of an index.
-#[derive(Clone, Copy, Debug)]
+#[derive(Clone, Copy)]
 pub(crate) enum Edit<'a> {
     Put(&'a Row),
     Delete(i64),

@@ -3,7 +3,7 @@
 use droid_frame::Blob;
 
 /// The type of an entry.
-#[derive(Clone, Copy, Debug, PartialEq, Eq)]
+#[derive(Clone, Copy, PartialEq, Eq)]
 pub enum EntryKind {
     /// A folder.
     Folder,

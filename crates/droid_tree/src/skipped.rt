@@ -10,7 +10,7 @@ use crate::fault::{TreeFault, WalkFault};
 use droid_frame::Refusal;
 
 /// Why something of a tree is not in its profile, or not as it is now.
-#[derive(Clone, Copy, Debug, PartialEq, Eq)]
+#[derive(Clone, Copy, PartialEq, Eq)]
 pub enum Skipped {
     /// It is a symbolic link.
     Link,

@@ -13,7 +13,7 @@ use std::alloc::Global;
 use std::collections::VecDeque;
 
 /// How much there is in a tree, not counting its top.
-#[derive(Clone, Copy, Debug)]
+#[derive(Clone, Copy)]
 pub struct Counted {
     /// How many folders.
     pub folders: u64,

@@ -7,7 +7,7 @@ use droid_tree::{EntryKind, TreeFault};
 use std::alloc::{AllocError, Global};
 
 /// What a file system says of a path.
-#[derive(Clone, Copy, Debug, PartialEq, Eq)]
+#[derive(Clone, Copy, PartialEq, Eq)]
 pub struct FileMetadata {
     /// The type of the entry.
     pub kind: EntryKind,

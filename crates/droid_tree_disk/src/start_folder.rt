@@ -23,12 +23,21 @@ pub(crate) enum Stand {
 }
 
 /// The folder in which the process was started.
-#[derive(Drop)]
 pub(crate) struct StartFolder {
     /// The path of the open folder below `/proc`.
     through: Text,
     /// Keeps the folder open.
     _file: File,
+}
+
+// Written by hand, so that the crates above do not prove again how each part is dropped.
+impl Drop for StartFolder {
+    fn drop(self) {
+        let StartFolder {
+            through: _through,
+            _file: _file,
+        } = self;
+    }
 }
 
 impl StartFolder {

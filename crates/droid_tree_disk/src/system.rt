@@ -21,7 +21,6 @@ use std::os::unix::fs::MetadataExt;
 
 /// The file system of this machine. The folder that was listed last stays open, and what lies in it is reached through
 /// it where the machine has `/proc`. While its entries are looked at, it is the process's working folder.
-#[derive(Drop)]
 pub struct System<'a, R> {
     runtime: &'a R,
     listed: Option<OpenFolder>,
@@ -32,12 +31,35 @@ pub struct System<'a, R> {
     stand: Stand,
 }
 
+// Written by hand, so that the crates above do not prove again how each part is dropped.
+impl<R> Drop for System<'_, R> {
+    fn drop(self) {
+        let System {
+            runtime: _runtime,
+            listed: _listed,
+            process: _process,
+            start: _start,
+            stand: _stand,
+        } = self;
+    }
+}
+
 /// An open file of this machine.
-#[derive(Drop)]
 pub struct Opened {
     file: File,
     path: Text,
     metadata: FileMetadata,
+}
+
+// Written by hand, so that the crates above do not prove again how each part is dropped.
+impl Drop for Opened {
+    fn drop(self) {
+        let Opened {
+            file: _file,
+            path: _path,
+            metadata: _metadata,
+        } = self;
+    }
 }
 
 impl<'a, R: Files<File = File>> System<'a, R> {

@@ -11,7 +11,7 @@ use std::os::unix::fs::MetadataExt;
 const NAMES: u32 = 1_000;
 
 /// Which file it is: its device, and its number on that device.
-#[derive(Clone, Copy, Debug, PartialEq, Eq)]
+#[derive(Clone, Copy, PartialEq, Eq)]
 pub struct FileId {
     /// The device.
     pub device: u64,

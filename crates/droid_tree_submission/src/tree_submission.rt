@@ -13,7 +13,7 @@ use droid_tree::{TURNS, Tree, Watcher, only_the_top};
 use droid_tree_upload::{Client, Destination, SubmissionFault, Upload, create_profile};
 
 /// How a tree is submitted.
-#[derive(Clone, Copy, Debug)]
+#[derive(Clone, Copy)]
 pub struct Options {
     /// How many bytes at each end of a file the service scans: 1 to 65,536.
     pub scan_limit: u32,

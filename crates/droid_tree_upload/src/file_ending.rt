@@ -72,11 +72,14 @@ pub(crate) fn leave_changed<T: Tree, C: Client, W: Watcher>(
     ensures left { IfOk result (λ uploaded. Leaves profile number path.now (Does T.observes C.calls W.hears) uploaded upload.old upload.new) }
     ensures ended { IfErr result (λ fault. EndsAfter (Does T.observes C.calls W.hears) IsAfterCall (AreChanged profile number path.now) fault upload.old upload.new) }
 {
-    let request = Request::Abandon {
-        profile,
-        file: number,
-    };
-    let reply = ask(upload, 0, &request)?;
+    let reply = ask(
+        upload,
+        0,
+        &Request::Abandon {
+            profile,
+            file: number,
+        },
+    )?;
     see_left(reply)?;
     report_skipped(upload, path, Skipped::Refused(Refusal::NumberReused));
     Ok(Uploaded::Skipped)

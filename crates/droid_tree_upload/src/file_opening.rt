@@ -139,11 +139,14 @@ fn see_node<T: Tree, C: Client, W: Watcher>(
     ensures ended { IfErr result (λ fault. AfterAdd (Does T.observes C.calls W.hears) into entry.now attempt number
         (EndsEarly (Does T.observes C.calls W.hears) (AreOpening into path.now entry.now attempt) fault) upload.old upload.new) }
 {
-    let request = Request::Finish {
-        profile: into.profile,
-        file: number,
-    };
-    let reply = ask(upload, 0, &request)?;
+    let reply = ask(
+        upload,
+        0,
+        &Request::Finish {
+            profile: into.profile,
+            file: number,
+        },
+    )?;
     match state_of(&reply)? {
         NodeState::Finished => {
             let uploaded = report_end(upload, path, hash_of_held(into.hash, entry.len), &reply);

@@ -17,7 +17,7 @@ pub struct Upload<T, C, W> {
 }
 
 /// The folder of a profile that gets a file, and how the file is sent.
-#[derive(Clone, Copy, Debug)]
+#[derive(Clone, Copy)]
 pub struct Destination {
     /// The number of the profile.
     pub profile: u32,
@@ -30,7 +30,7 @@ pub struct Destination {
 }
 
 /// What came of a file.
-#[derive(Clone, Copy, Debug, PartialEq, Eq)]
+#[derive(Clone, Copy, PartialEq, Eq)]
 pub enum Uploaded {
     /// It is in the profile. This is the hash of its bytes as they were read, or `Nothing` if they were not read now.
     Taken(HashValue),

@@ -65,12 +65,15 @@ pub fn create_profile<T: Tree, C: Client, W: Watcher>(
         (Called (Answered 0 (requests.CreateProfile scan_limit match_all hash) (replies.Made profile))) upload.new) }
     ensures ended { IfErr result (λ fault. EndsAsking (Does T.observes C.calls W.hears) 0 (requests.CreateProfile scan_limit match_all hash) fault upload.old upload.new) }
 {
-    let request = Request::CreateProfile {
-        scan_limit,
-        match_all,
-        hash,
-    };
-    let reply = ask(upload, 0, &request)?;
+    let reply = ask(
+        upload,
+        0,
+        &Request::CreateProfile {
+            scan_limit,
+            match_all,
+            hash,
+        },
+    )?;
     let profile = profile_of(reply)?;
     Ok(profile)
 }

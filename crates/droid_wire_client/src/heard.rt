@@ -1,7 +1,7 @@
 //! The outcome of a reply that arrived.
 
 /// What the client did with a reply that arrived.
-#[derive(Clone, Copy, Debug, PartialEq, Eq)]
+#[derive(Clone, Copy, PartialEq, Eq)]
 pub enum Heard {
     /// The reply answers a pending request, and the client keeps it.
     Answered,

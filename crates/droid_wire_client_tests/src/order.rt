@@ -49,10 +49,7 @@ fn answers_out_of_order(rt: HostRuntime) -> Result<(), Fail> {
     for step in 0..COUNT {
         let number = answered_at(step);
         let heard = client.on_reply(progress(rt.alloc(), number)?).ok();
-        assert!(rt;
-            heard == Some(Heard::Answered),
-            "number {number}: {heard:?}"
-        );
+        assert!(rt; heard == Some(Heard::Answered), "number {number}");
         assert!(rt;
             client.pending() as u64 == COUNT - step - 1,
             "number {number}"

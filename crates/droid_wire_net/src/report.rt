@@ -9,7 +9,7 @@ use droid_wire_turns::Departure;
 pub(crate) const MINUTE: u64 = 60_000;
 
 /// What is printed on standard error about connections.
-#[derive(Clone, Copy, Debug, PartialEq, Eq)]
+#[derive(Clone, Copy, PartialEq, Eq)]
 pub enum Verbosity {
     /// Nothing.
     Quiet,

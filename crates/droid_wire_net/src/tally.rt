@@ -4,7 +4,7 @@ ghost use Rattle.std.specs.Prelude.{◌≡◌};
 ghost use Rattle.droid_wire_net.specs.Tallies.{counted};
 
 /// What happened on all connections so far. No number goes beyond 2^64 - 1.
-#[derive(Clone, Copy, Debug, PartialEq, Eq)]
+#[derive(Clone, Copy, PartialEq, Eq)]
 pub struct Tally {
     /// How many connections were accepted.
     pub opened: u64,

@@ -12,7 +12,7 @@ use thiserror::Error;
 pub struct WaitFault;
 
 /// What a read of a connection gave.
-#[derive(Clone, Copy, Debug, PartialEq, Eq)]
+#[derive(Clone, Copy, PartialEq, Eq)]
 pub enum Came {
     /// Bytes, at the front of the buffer.
     Bytes(usize),
@@ -25,7 +25,7 @@ pub enum Came {
 }
 
 /// What a write to a connection gave.
-#[derive(Clone, Copy, Debug, PartialEq, Eq)]
+#[derive(Clone, Copy, PartialEq, Eq)]
 pub enum Took {
     /// It took so many of the first bytes.
     Bytes(usize),

@@ -1,7 +1,7 @@
 //! How many connections are served, and how long each may be idle.
 
 /// How many connections are served, and how long each may be idle.
-#[derive(Clone, Copy, Debug)]
+#[derive(Clone, Copy)]
 pub struct Rules {
     /// The most connections that are open at once.
     pub seats: usize,

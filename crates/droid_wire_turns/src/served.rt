@@ -1,7 +1,7 @@
 //! How serving many connections ended.
 
 /// How serving many connections ended. Each connection has left.
-#[derive(Clone, Copy, Debug, PartialEq, Eq)]
+#[derive(Clone, Copy, PartialEq, Eq)]
 pub enum Served {
     /// All connections that were wanted came.
     All,

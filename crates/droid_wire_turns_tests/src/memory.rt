@@ -46,7 +46,7 @@ fn each_growth_of_turns(rt: HostRuntime) -> Result<(), Fail> {
                 return Ok(());
             }
         }
-        assert!(rt; is_short_of_memory(served, &hall), "{served:?}");
+        assert!(rt; is_short_of_memory(served, &hall));
     }
     panic!(rt; "memory was refused twice");
 }

@@ -7,14 +7,11 @@ from typing import NamedTuple
 
 from lib.frames import HEADER
 
-LINES = b"droid_desk journal 2\n64 profiles, 100000 nodes, 64 unfinished files\n"
+LINES = b"droid_desk journal 3\n64 profiles, 100000 nodes, 64 unfinished files\n"
 RANDOM = 16
 CHECK = 16
 SEALED = 12
 LONGEST = 8 << 20
-# a body of at least so many bytes goes into a check value by the MD5s of so many parts
-LONG = 1024
-PARTS = 8
 
 
 def md5(data):
@@ -42,11 +39,8 @@ def sealed(start, front):
 
 
 def checksum(request):
-    body = request[HEADER.size :]
-    if len(body) >= LONG:
-        size = (len(body) + PARTS - 1) // PARTS
-        body = b"".join(md5(body[place * size : (place + 1) * size]) for place in range(PARTS))
-    return md5(request[1:2] + body)
+    """That of its kind and its body."""
+    return md5(request[1:2] + request[HEADER.size :])
 
 
 def next_check(start, check, record):

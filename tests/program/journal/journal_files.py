@@ -111,10 +111,10 @@ class Starts(InJournal):
 
 
 class LongBodies(InJournal):
-    """A body of 1,024 bytes or more goes into the check value by the MD5s of its eight parts."""
+    """A body goes into the check value whole, however long it is."""
 
-    # the sizes of bodies: the last short one, and long ones whose last part has as many bytes as the others, and fewer
-    SIZES = (1_023, 1_024, 1_025, 1_031, 1_032, 65_548)
+    # the sizes of bodies: around the blocks of MD5, which takes the kind in front of them, and far from them
+    SIZES = (54, 55, 56, 62, 63, 64, 118, 119, 126, 127, 1_024, 65_548)
 
     def setUp(self):
         super().setUp()
@@ -132,8 +132,8 @@ class LongBodies(InJournal):
         self.assertEqual((found.end, found.damaged), (len(self.whole), False))
         self.assertEqual(run_journal(self.path, self.asked[-1]), (0, by_model(self.asked)[-len(found.records[-1].reply) :], b""))
 
-    def test_a_changed_byte_of_each_part(self):
-        """The record is the last one, so that a start takes it for one that was cut off."""
+    def test_a_changed_byte(self):
+        """One at both ends of each eighth. The record is the last one, so that a start takes it for one that was cut off."""
         kept = read(self.whole[:-1]).end
         body = self.whole.index(self.asked[-1], kept) + HEADER.size
         part = -(-self.SIZES[-1] // 8)
@@ -161,7 +161,7 @@ class Refused(InJournal):
         self.assertEqual(contents(self.path), before)
 
     def test_no_journal(self):
-        for data in (b"x", b"droid_desk journal 1\n", sample_bytes(), bytes(100), header_text(sample_bytes())[:-1] + b"x"):
+        for data in (b"x", b"droid_desk journal 2\n64 profiles, 100000 nodes, 64 unfinished files\n" + bytes(32), sample_bytes(), bytes(100), header_text(sample_bytes())[:-1] + b"x"):
             store(self.path, data)
             self.refuses(3, "Journal at 0", OTHER_HEADER)
 

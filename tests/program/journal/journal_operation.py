@@ -229,14 +229,15 @@ class Registries(InJournal):
                     self.assertEqual(without_notes(said.encode("ascii")), printed("Journal at 0", OTHER_HEADER, self.path))
                 self.assertEqual(contents(self.path), before)
 
-    def test_a_journal_of_a_later_version(self):
+    def test_a_journal_of_another_version(self):
         data = bytearray(contents_after(self, create(1)))
-        self.assertEqual(data[:20], b"droid_desk journal 2")
-        data[19:20] = b"3"
-        store(self.path, bytes(data))
-        for found in (run_journal(self.path, create(1)), compact(self.path)):
-            self.ends(found, 3, "Journal at 0", OTHER_HEADER)
-        self.assertEqual(contents(self.path), bytes(data))
+        self.assertEqual(data[:20], b"droid_desk journal 3")
+        for version in (b"2", b"4"):
+            data[19:20] = version
+            store(self.path, bytes(data))
+            for found in (run_journal(self.path, create(1)), compact(self.path)):
+                self.ends(found, 3, "Journal at 0", OTHER_HEADER)
+            self.assertEqual(contents(self.path), bytes(data))
 
 
 def contents_after(test, *asked):

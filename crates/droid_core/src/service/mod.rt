@@ -9,6 +9,8 @@ ghost use Rattle.droid_core.specs.Running.{Runs};
 ghost use Rattle.droid_core.specs.Standing.{Stand, StandsFor, limits_of, registry_of};
 ghost use Rattle.droid_core_requests.specs.KeptTexts.{is_followed};
 ghost use Rattle.droid_core_requests.specs.Standing.{limits_given};
+ghost use Rattle.droid_frame.specs.Fields.{IsBytes};
+ghost use Rattle.droid_frame.specs.Frames.{mark_of};
 ghost use Rattle.droid_frame.specs.Replies.{HasReplySpelling};
 ghost use Rattle.droid_frame.specs.Versions.{is_version};
 ghost use Rattle.droid_frame.specs.types.filter.Filter.{Filter};
@@ -135,11 +137,33 @@ impl Service {
             → command frame ≡ Some (requests.Export profile from max filter) → kept history frame.client frame.number ≡ None
             → IsTrue (is_followed from max result) → KeepsText profile filter self.new }
     {
+        let mark = mark(frame.kind, frame.body.as_slice());
+        self.handle_marked(frame, mark)
+    }
+
+    /// The same as [`Service::handle`], for who has computed the mark of the request before.
+    pub fn handle_marked(&mut self, frame: Frame, mark: [u8; 16]) -> Reply
+        requires mark { mark ≡ mark_of frame.kind frame.body }
+        requires bytes { IsBytes frame.body }
+        ensures handles { (setting : Setting) (history : History) → StandsFor setting self.old history →
+            Handles setting history frame result (StandsFor setting self.new) }
+        ensures no_store { (setting : Setting) (history : History) → StandsFor setting self.old history → result ≢ Refused refusals.Store }
+        ensures spelled { HasReplySpelling frame.version result }
+        ensures other_version { is_version frame.version ≡ false → result ≡ Refused refusals.Malformed }
+        ensures limits { limits_of self.new ≡ limits_of self.old }
+        ensures registry { registry_of self.new ≡ registry_of self.old }
+        ensures cache { cache_size_of self.new ≡ cache_size_of self.old }
+
+        // The part that follows needs no new export: the text is kept if this part leaves something of it unread.
+        ensures text { (setting : Setting) (history : History) (profile from max : ℕ) (filter : Filter) → StandsFor setting self.old history
+            → command frame ≡ Some (requests.Export profile from max filter) → kept history frame.client frame.number ≡ None
+            → IsTrue (is_followed from max result) → KeepsText profile filter self.new }
+    {
         let stamp = Stamp {
             client: frame.client,
             number: frame.number,
             version: frame.version,
-            mark: mark(frame.kind, frame.body.as_slice()),
+            mark,
         };
         match request_of(self.holdings.alloc, frame) {
             Ok(request) => answer(self, stamp, request),

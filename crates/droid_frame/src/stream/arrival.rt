@@ -3,7 +3,7 @@
 use droid_frame_bodies::Frame;
 
 /// The result of reading a stream at the beginning of a frame.
-#[derive(Debug, Drop)]
+#[derive(Drop)]
 pub enum Arrival {
     /// The next frame.
     Frame(Frame),

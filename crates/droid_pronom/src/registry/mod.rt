@@ -33,7 +33,6 @@ pub(crate) const FORMATS_LIMIT: usize = 4_096;
 /// A registry: formats with their extensions, priorities and signatures.
 ///
 /// docs/REGISTRY.md describes its file.
-#[derive(Drop)]
 pub struct Registry {
     formats: Vec<Format>,
     // The place of each format by its PUID.
@@ -43,6 +42,20 @@ pub struct Registry {
     extensions: Vec<ListedExtension>,
     priorities: Vec<Priority>,
     signatures: Vec<Signature>,
+}
+
+// Written by hand, so that the crates above do not prove again how each part is dropped.
+impl Drop for Registry {
+    fn drop(self) {
+        let Registry {
+            formats: _formats,
+            places: _places,
+            signed: _signed,
+            extensions: _extensions,
+            priorities: _priorities,
+            signatures: _signatures,
+        } = self;
+    }
 }
 
 impl Model for Registry {

@@ -10,7 +10,7 @@ use droid_pronom_pattern::{Pattern, PatternFault};
 use std::alloc::Global;
 
 /// The six texts of a record, in order.
-#[derive(Clone, Copy, Debug)]
+#[derive(Clone, Copy)]
 pub(crate) struct RowText<'a> {
     pub kind: &'a str,
     pub puid: &'a str,

@@ -1,12 +1,15 @@
-use Rattle.std.proofs.Common.{rules, ◌≡◌, ◌∙◌, Bool, true, false, List, ℕ, [], ◌∷◌, ◌++◌, sym, ap₂, subst, inl, inr}
+use Rattle.std.proofs.Common.{rules, ◌≡◌, ◌∙◌, Bool, true, false, List, ℕ, [], ◌∷◌, ◌++◌, sym, ap, ap₂, subst, inl, inr}
 use Rattle.std.specs.Prelude.{IsTrue}
 use Rattle.droid_frame.specs.ReplyFrames.{reply_frame}
-use Rattle.droid_journal_chain.specs.Records.{Record, made}
+use Rattle.droid_journal_chain.specs.Records.{Record, checksum, made}
 use Rattle.droid_journal.specs.Machines.{extended, record_of}
+use Rattle.droid_journal.proofs.Marks.{sum_is}
 use Rattle.droid_journal.proofs.replaying.replay_one.Goals as goal
 
 pub handle-handled-requires : goal.handle-handled-requires
-handle-handled-requires g c = record { readable = (rw c.in-Ok-Some.field-0-is at c.in-Ok-Some.ensures.found).0 }
+handle-handled-requires g c =
+    let found = (rw c.in-Ok-Some.field-0-is at c.in-Ok-Some.ensures.found) in
+    record { readable = found.0; mark = c.requires ∙ ap checksum found.1 ∙ sum_is c.in-Ok-Some.frame }
 
 pub returns-in-Ok-None-clause-number : goal.returns-in-Ok-None-clause-number
 returns-in-Ok-None-clause-number g c = λ other told. cc

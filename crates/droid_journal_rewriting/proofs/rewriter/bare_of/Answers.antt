@@ -8,7 +8,7 @@ returns-then-is_about-clause-most c =
     let told : c.is_about.result ≡ true = search rules in
     let request = c.args.request.now in
     let reply = c.args.reply.now in
-    omega (arith, ap length c.in_ok-bare.ensures, bare_piece_long request reply c.requires.header, length-drop 18 reply, c.is_about.ensures.reply told)
+    omega (arith, ap length c.in_ok-bare.ensures.bytes, bare_piece_long request reply c.requires.header, length-drop 18 reply, c.is_about.ensures.reply told)
 
 pub returns-clause-most : goal.returns-clause-most
 returns-clause-most c =

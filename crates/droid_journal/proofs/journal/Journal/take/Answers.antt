@@ -1,5 +1,5 @@
-use Rattle.std.proofs.Common.{rules, ◌≡◌, ◌∙◌, Bool, true, false, not, List, ℕ, [], ◌∷◌, ◌++◌, refl, sym, subst, inl, inr, arith}
-use Rattle.droid_frame.specs.Frames.{frame_bytes}
+use Rattle.std.proofs.Common.{rules, ◌≡◌, ◌∙◌, Bool, true, false, not, List, ℕ, [], ◌∷◌, ◌++◌, refl, sym, ap, subst, inl, inr, arith}
+use Rattle.droid_frame.specs.Frames.{frame_bytes, mark_of}
 use Rattle.droid_frame.specs.ReplyFrames.{reply_frame}
 use Rattle.droid_journal_chain.specs.Chains.{journal_bytes}
 use Rattle.droid_journal_chain.specs.Fronts.{IsFront}
@@ -32,6 +32,7 @@ handle-handled-requires g c =
         };
         version_is = c.is_carried.ensures.version told;
       };
+      mark = c.mark-mark.ensures ∙ ap (mark_of c.args.frame.kind) c.as_slice.ensures.value;
     }
 
 pub returns-then-not-handled-clause-taken : goal.returns-then-not-handled-clause-taken

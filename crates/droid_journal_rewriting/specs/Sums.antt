@@ -1,0 +1,33 @@
+-- For proofs: checksums of requests that were computed side by side.
+use Rattle.std.specs.Prelude.{◌≡◌, ◌<◌, ◌≤◌, ℕ, List, [], ◌++◌, ◌-◌, Option, Some, None, drop, length, slice_index, slice_index_or, take}
+use Rattle.droid_journal_chain.specs.Reading.{request_in}
+use Rattle.droid_journal_chain.specs.Records.{checksum}
+use Rattle.droid_journal_rewriting.specs.declared.sums.Sums.{Sums}
+
+-- the second list is an end of the first
+abbrev pub IsEndOf : List ℕ → List ℕ → Type 0
+IsEndOf bytes rest = (front : List ℕ) × (bytes ≡ front ++ rest)
+
+-- this is the checksum of the request at the front, if one with a whole header is there
+abbrev pub IsSumOf : List ℕ → List ℕ → Type 0
+IsSumOf bytes sum = (request : List ℕ) → request_in bytes ≡ Some request → 18 ≤ length request → sum ≡ checksum request
+
+-- where as many bytes are left as a lane says, its digest is the checksum of the request there
+abbrev pub AreSumsIn : List ℕ → Sums → Type 0
+AreSumsIn bytes sums = (lane : ℕ) → lane < 8 → (rest : List ℕ) → IsEndOf bytes rest → length rest ≡ slice_index sums.left lane → IsSumOf rest (slice_index_or sums.digests lane [])
+
+-- the last bytes, so many of them
+abbrev pub last_in : List ℕ → ℕ → List ℕ
+last_in bytes count = drop (length bytes - count) bytes
+
+-- the request at the front, and no bytes if there is none
+abbrev pub request_or_none : Option (List ℕ) → List ℕ
+request_or_none (Some request) = request
+request_or_none None = []
+
+-- the byte of its kind, and its body
+abbrev pub kind_in : List ℕ → List ℕ
+kind_in bytes = take 1 (drop 1 (request_or_none (request_in bytes)))
+
+abbrev pub body_in : List ℕ → List ℕ
+body_in bytes = drop 18 (request_or_none (request_in bytes))

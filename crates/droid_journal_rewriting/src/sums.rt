@@ -1,0 +1,159 @@
+//! Checksums of the requests of eight records, computed side by side.
+
+ghost use Rattle.std.specs.Prelude.{◌≡◌, ◌<◌, ◌++◌, ℕ, [], IfSome, length, slice_index, slice_index_or};
+ghost use Rattle.droid_journal_rewriting.specs.Sums.{AreSumsIn, body_in, kind_in, last_in, request_or_none};
+ghost use Rattle.droid_journal_chain.specs.Reading.{request_in};
+ghost use Rattle.md5.specs.Md5.{md5};
+
+use droid_journal_chain::request_of;
+use droid_lanes::Md5Lanes;
+
+/// How many bytes the header of a request's frame has.
+const HEADER: usize = 18;
+
+/// How many bytes stand in front of a record's request.
+const FRONT: usize = 5;
+
+/// How many bytes stand in front of a record's reply.
+const LENGTH: usize = 4;
+
+/// How many bytes a check value has.
+const CHECK: usize = 16;
+
+/// The checksums of the requests of up to eight records, one behind the other.
+#[derive(Clone, Copy)]
+pub(crate) struct Sums {
+    /// How many bytes are left where each record begins.
+    pub(crate) left: [usize; 8],
+    /// The checksums.
+    pub(crate) digests: [[u8; 16]; 8],
+}
+
+/// Returns the request of the record at the front, and no bytes if there is none.
+fn request_at(bytes: &[u8]) -> &[u8]
+    ensures { result.now ≡ request_or_none (request_in bytes.now) }
+{
+    match request_of(bytes) {
+        Some(request) => request,
+        None => &[],
+    }
+}
+
+/// Returns the byte of its kind.
+fn kind_at(bytes: &[u8]) -> &[u8]
+    ensures { result.now ≡ kind_in bytes.now }
+{
+    let request = request_at(bytes);
+    if request.len() < 2 {
+        return &request[request.len()..];
+    }
+    &request[1..2]
+}
+
+/// Returns its body.
+fn body_at(bytes: &[u8]) -> &[u8]
+    ensures { result.now ≡ body_in bytes.now }
+{
+    let request = request_at(bytes);
+    if request.len() < HEADER {
+        return &request[request.len()..];
+    }
+    &request[HEADER..]
+}
+
+/// Reads the number in the first four bytes.
+fn length_in(bytes: &[u8]) -> usize {
+    if bytes.len() < LENGTH {
+        return 0;
+    }
+    u32::from_be_bytes([bytes[0], bytes[1], bytes[2], bytes[3]]) as usize
+}
+
+/// Returns the last bytes, so many of them.
+fn last_of(bytes: &[u8], count: usize) -> &[u8]
+    ensures { result.now ≡ last_in bytes.now count }
+{
+    &bytes[bytes.len().saturating_sub(count)..]
+}
+
+/// Tells how many bytes are left behind the record that begins where so many are left, as far as its lengths tell; none if
+/// there is no whole request. Nothing depends on it but time: a checksum is taken where as many bytes are left, and no other.
+fn left_behind(bytes: &[u8], left: usize) -> usize {
+    let rest = last_of(bytes, left);
+    let Some(request) = request_of(rest) else {
+        return 0;
+    };
+    let front = FRONT.saturating_add(request.len());
+    let reply = length_in(last_of(rest, rest.len().saturating_sub(front)));
+    let size = front
+        .saturating_add(LENGTH)
+        .saturating_add(reply)
+        .saturating_add(CHECK);
+    left.saturating_sub(size)
+}
+
+/// Tells how many bytes are left where each of the next eight records begins.
+fn places_of(bytes: &[u8]) -> [usize; 8] {
+    let first = bytes.len();
+    let second = left_behind(bytes, first);
+    let third = left_behind(bytes, second);
+    let fourth = left_behind(bytes, third);
+    let fifth = left_behind(bytes, fourth);
+    let sixth = left_behind(bytes, fifth);
+    let seventh = left_behind(bytes, sixth);
+    let eighth = left_behind(bytes, seventh);
+    [first, second, third, fourth, fifth, sixth, seventh, eighth]
+}
+
+/// Computes the checksums of the requests that begin where so many bytes are left.
+fn digests_of(bytes: &[u8], left: [usize; 8]) -> [[u8; 16]; 8]
+    ensures { (lane : ℕ) → lane < 8 → slice_index_or result lane [] ≡ md5 (kind_in (last_in bytes.now (slice_index left lane)) ++ body_in (last_in bytes.now (slice_index left lane))) }
+{
+    let mut lanes = Md5Lanes::new();
+    lanes.update([
+        kind_at(last_of(bytes, left[0])),
+        kind_at(last_of(bytes, left[1])),
+        kind_at(last_of(bytes, left[2])),
+        kind_at(last_of(bytes, left[3])),
+        kind_at(last_of(bytes, left[4])),
+        kind_at(last_of(bytes, left[5])),
+        kind_at(last_of(bytes, left[6])),
+        kind_at(last_of(bytes, left[7])),
+    ]);
+    lanes.update([
+        body_at(last_of(bytes, left[0])),
+        body_at(last_of(bytes, left[1])),
+        body_at(last_of(bytes, left[2])),
+        body_at(last_of(bytes, left[3])),
+        body_at(last_of(bytes, left[4])),
+        body_at(last_of(bytes, left[5])),
+        body_at(last_of(bytes, left[6])),
+        body_at(last_of(bytes, left[7])),
+    ]);
+    lanes.digests()
+}
+
+impl Sums {
+    /// Computes the checksums of the requests of the next eight records.
+    pub(crate) fn of(bytes: &[u8]) -> Sums
+        ensures { AreSumsIn bytes.now result }
+    {
+        let left = places_of(bytes);
+        Sums {
+            left,
+            digests: digests_of(bytes, left),
+        }
+    }
+
+    /// Returns the checksum of the request at the front, if it was computed.
+    pub(crate) fn at(&self, bytes: &[u8]) -> Option<[u8; 16]>
+        ensures { IfSome result (λ sum. (lane : ℕ) × (lane < 8) × (slice_index self.now.left lane ≡ length bytes.now) × (sum ≡ slice_index_or self.now.digests lane [])) }
+    {
+        for lane in 0..8 {
+            if self.left[lane] == bytes.len() {
+                return Some(self.digests[lane]);
+            }
+        }
+        None
+    }
+}
