@@ -39,7 +39,7 @@ pub(crate) struct Front {
 }
 
 /// Reads the number in the first four bytes.
-fn length_in(bytes: &[u8]) -> Option<u32>
+pub(crate) fn length_in(bytes: &[u8]) -> Option<u32>
     ensures { result ≡ (if nat_lt (length bytes.now) 4 then None else Some (from_be_bytes w32 (take 4 bytes.now))) }
 {
     if bytes.len() < 4 {

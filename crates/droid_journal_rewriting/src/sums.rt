@@ -1,10 +1,11 @@
-//! Checksums of the requests of eight records, computed side by side.
+//! Checksums of eight long requests, computed side by side.
 
 ghost use Rattle.std.specs.Prelude.{◌≡◌, ◌<◌, ◌++◌, ℕ, [], IfSome, length, slice_index, slice_index_or};
 ghost use Rattle.droid_journal_rewriting.specs.Sums.{AreSumsIn, body_in, kind_in, last_in, request_or_none};
 ghost use Rattle.droid_journal_chain.specs.Reading.{request_in};
 ghost use Rattle.md5.specs.Md5.{md5};
 
+use crate::skim::length_in;
 use droid_journal_chain::request_of;
 use droid_lanes::Md5Lanes;
 
@@ -20,7 +21,11 @@ const LENGTH: usize = 4;
 /// How many bytes a check value has.
 const CHECK: usize = 16;
 
-/// The checksums of the requests of up to eight records, one behind the other.
+/// How many bytes a request has at least whose checksum is computed with seven others. One lane beside seven that are idle takes
+/// longer than a checksum that is computed alone.
+const LONG: usize = 1_024;
+
+/// The checksums of the long requests of up to eight records.
 #[derive(Clone, Copy)]
 pub(crate) struct Sums {
     /// How many bytes are left where each record begins.
@@ -61,14 +66,6 @@ fn body_at(bytes: &[u8]) -> &[u8]
     &request[HEADER..]
 }
 
-/// Reads the number in the first four bytes.
-fn length_in(bytes: &[u8]) -> usize {
-    if bytes.len() < LENGTH {
-        return 0;
-    }
-    u32::from_be_bytes([bytes[0], bytes[1], bytes[2], bytes[3]]) as usize
-}
-
 /// Returns the last bytes, so many of them.
 fn last_of(bytes: &[u8], count: usize) -> &[u8]
     ensures { result.now ≡ last_in bytes.now count }
@@ -84,7 +81,10 @@ fn left_behind(bytes: &[u8], left: usize) -> usize {
         return 0;
     };
     let front = FRONT.saturating_add(request.len());
-    let reply = length_in(last_of(rest, rest.len().saturating_sub(front)));
+    let reply = match length_in(last_of(rest, rest.len().saturating_sub(front))) {
+        Some(reply) => reply as usize,
+        None => 0,
+    };
     let size = front
         .saturating_add(LENGTH)
         .saturating_add(reply)
@@ -92,16 +92,33 @@ fn left_behind(bytes: &[u8], left: usize) -> usize {
     left.saturating_sub(size)
 }
 
-/// Tells how many bytes are left where each of the next eight records begins.
+/// Tells whether a whole request is at the front that is long.
+pub(crate) fn is_long(bytes: &[u8]) -> bool {
+    request_at(bytes).len() >= LONG
+}
+
+/// Tells how many bytes are left where the next record with a long request begins, or 0 if there is none.
+fn next_long(bytes: &[u8], left: usize) -> usize {
+    let mut left = left;
+    for _ in 0..bytes.len() {
+        if left == 0 || is_long(last_of(bytes, left)) {
+            return left;
+        }
+        left = left_behind(bytes, left);
+    }
+    left
+}
+
+/// Tells how many bytes are left where each of the next eight records with a long request begins.
 fn places_of(bytes: &[u8]) -> [usize; 8] {
-    let first = bytes.len();
-    let second = left_behind(bytes, first);
-    let third = left_behind(bytes, second);
-    let fourth = left_behind(bytes, third);
-    let fifth = left_behind(bytes, fourth);
-    let sixth = left_behind(bytes, fifth);
-    let seventh = left_behind(bytes, sixth);
-    let eighth = left_behind(bytes, seventh);
+    let first = next_long(bytes, bytes.len());
+    let second = next_long(bytes, left_behind(bytes, first));
+    let third = next_long(bytes, left_behind(bytes, second));
+    let fourth = next_long(bytes, left_behind(bytes, third));
+    let fifth = next_long(bytes, left_behind(bytes, fourth));
+    let sixth = next_long(bytes, left_behind(bytes, fifth));
+    let seventh = next_long(bytes, left_behind(bytes, sixth));
+    let eighth = next_long(bytes, left_behind(bytes, seventh));
     [first, second, third, fourth, fifth, sixth, seventh, eighth]
 }
 
@@ -134,7 +151,7 @@ fn digests_of(bytes: &[u8], left: [usize; 8]) -> [[u8; 16]; 8]
 }
 
 impl Sums {
-    /// Computes the checksums of the requests of the next eight records.
+    /// Computes the checksums of the next eight long requests.
     pub(crate) fn of(bytes: &[u8]) -> Sums
         ensures { AreSumsIn bytes.now result }
     {

@@ -8,7 +8,7 @@ ghost use Rattle.droid_journal_rewriting.specs.Sums.{AreSumsIn};
 ghost use Rattle.droid_journal_rewriting.specs.Taking.{Passes, StandIn, StandThere, Takes};
 
 use crate::fault::RewriteFault;
-use crate::sums::Sums;
+use crate::sums::{Sums, is_long};
 use crate::taker::Taker;
 use droid_journal::LogFile;
 use droid_journal_chain::{Found, record_by};
@@ -38,7 +38,7 @@ pub(crate) struct Taken {
     pub(crate) records: u64,
 }
 
-/// Reads the record at the front of bytes. Computes the checksums of eight requests if that of this one is not known.
+/// Reads the record at the front of bytes. If its request is long and has no checksum, computes those of eight long ones.
 fn next_of<'a>(start: &[u8], check: [u8; 16], bytes: &'a [u8], sums: &mut Sums) -> Option<Found<'a>>
     requires { AreSumsIn bytes.now sums.old }
     ensures sums { AreSumsIn bytes.now sums.new }
@@ -46,7 +46,7 @@ fn next_of<'a>(start: &[u8], check: [u8; 16], bytes: &'a [u8], sums: &mut Sums) 
     ensures sum { IfSome result (λ x. x.sum ≡ checksum x.request.now) }
     ensures none { IfNone result (BeginsNoRecord start.now check bytes.now) }
 {
-    if sums.at(bytes).is_none() {
+    if is_long(bytes) && sums.at(bytes).is_none() {
         *sums = Sums::of(bytes);
     }
     let sum = sums.at(bytes);

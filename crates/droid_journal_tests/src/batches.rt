@@ -20,6 +20,12 @@ const SIZES: [usize; 18] = [
     0, 1, 37, 38, 2_000, 46, 47, 500, 3, 101, 102, 64, 63, 1_100, 5, 5, 119, 120,
 ];
 
+/// Long requests with short ones between them, none or several: fewer than eight, and then more.
+const MIXED: [usize; 30] = [
+    1_200, 3, 2_000, 1_024, 0, 5, 7, 1_500, 998, 997, 1_000, 1_001, 70, 3_000, 2, 4_000, 1, 1, 1,
+    1_100, 1_023, 6, 1_024, 1_025, 9, 5_000, 8, 8, 1_300, 4,
+];
+
 /// More than what is read at once.
 const LARGE: [usize; 9] = [
     3_000_000, 2_500_001, 4_100_000, 10, 3_999_999, 1_000_000, 2_000_000, 4_000_000, 3,
@@ -93,6 +99,16 @@ fn pieces_of_many_sizes(rt: HostRuntime) -> Result<(), Fail> {
     for count in 0..19usize {
         assert!(rt; is_as_written(alloc, &SIZES[..count], true)?);
     }
+    Ok(())
+}
+
+#[test]
+fn long_pieces_with_short_ones_between(rt: HostRuntime) -> Result<(), Fail> {
+    let alloc = rt.alloc();
+    for count in 0..31usize {
+        assert!(rt; is_as_written(alloc, &MIXED[..count], true)?);
+    }
+    assert!(rt; is_as_written(alloc, &MIXED, false)?);
     Ok(())
 }
 

@@ -50,8 +50,9 @@ class Progress(InFolder):
         # one line is written again and again, at most ten times a second, no wider than the terminal, and removed at
         # the end
         name = "建築図面 " * 15 + "plan.bin"
-        self.file(b"/" + name.encode(), b"x" * (12 << 20))
-        self.file(b"/z.bin", b"x" * (12 << 20))
+        self.file(b"/" + name.encode(), b"x" * (23 << 20))
+        # both are read side by side, and a line names the one that was read last: behind this one's end, the other
+        self.file(b"/z.bin", b"x" * (1 << 20))
         written, seconds = self.on_terminal(env=slow(8))
         shown = re.findall(re.escape(BEGIN) + b"(.*?)" + re.escape(END), written, re.DOTALL)
         self.assertTrue(5 <= len(shown) <= 10 * seconds + 1, (len(shown), seconds))
