@@ -11,9 +11,9 @@ ghost use Rattle.std.specs.Borrow.{sem};
 
 use crate::fault::{Incomplete, PutFault};
 use crate::front::Front;
+use crate::needless_pieces::Spent;
 use crate::places::{AHEAD, arrive, empty_places};
-use crate::sealed::Sealed;
-use crate::spent::Spent;
+use crate::seal::Sealed;
 use crate::windows::Windows;
 use droid_frame::{Blob, HashKind, HashValue};
 use std::alloc::{AllocError, Global};

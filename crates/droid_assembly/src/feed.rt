@@ -6,8 +6,8 @@ ghost use Rattle.droid_assembly.specs.Fronts.{IsFront, FrontKnows};
 ghost use Rattle.droid_assembly.specs.Hashing.{running_kind};
 
 use crate::front::Front;
-use crate::joined::Joined;
 use crate::several::Several;
+use crate::small_pieces::Joined;
 
 /// Joins small pieces, and passes their bytes to the front in one call, which is cheaper than a call for each. This is
 /// a function of its own so that large pieces don't pay for clearing the buffer.

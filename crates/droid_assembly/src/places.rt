@@ -11,9 +11,9 @@ ghost use Rattle.droid_assembly.specs.Kept.{IsAlong, ArePlaced, pieces_from};
 
 use crate::feed::{show_each, show_joined};
 use crate::front::Front;
-use crate::joined::JOINED_LIMIT;
+use crate::needless_pieces::Spent;
 use crate::several::Several;
-use crate::spent::Spent;
+use crate::small_pieces::JOINED_LIMIT;
 use droid_frame::Blob;
 use std::alloc::{AllocError, Global};
 

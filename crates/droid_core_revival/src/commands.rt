@@ -14,8 +14,8 @@ ghost use Rattle.droid_core.specs.frame.Replies.{HasReplySpelling};
 ghost use Rattle.droid_core.specs.frame.Versions.{IsVersion};
 ghost use Rattle.droid_core.specs.store.Rows.{reply_for};
 
-use crate::fault::RecoveryFault;
-use crate::look_ups::kept_row;
+use crate::reply_conditions::kept_row;
+use crate::revival_fault::RecoveryFault;
 use droid_core::{
     Filter, Holdings, Refusal, Reply, Request, Stamp, abandon, add_file, add_folder, answer_again,
     create_profile, finish, reply_from, take_piece,

@@ -15,8 +15,8 @@ ghost use Rattle.droid_core.specs.store.Changes.{IsOfKind, IsOpen, IsWord, with_
 ghost use Rattle.droid_core.specs.store.Rows.{reply_for};
 ghost use Rattle.droid_core.specs.store.Sizes.{FitsARow, entry_size};
 
-use crate::fault::RecoveryFault;
-use crate::look_ups::{are_words, is_of_kind, is_open, see_new};
+use crate::reply_conditions::{are_words, is_of_kind, is_open, see_new};
+use crate::revival_fault::RecoveryFault;
 use droid_core::{Entry, HashValue, Holdings, Reply, Stamp, Store, Texts, entry_of};
 
 /// Finishes a bare file: what was found is taken from the reply.

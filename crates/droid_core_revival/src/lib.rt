@@ -7,22 +7,22 @@
 //! ([`laws::recovered_holdings_stand`]), and [`service_of`] makes the service. The crate re-exports the service's crates.
 #![tactic(auto)]
 
+mod bare_pieces;
 mod commands;
-mod fault;
 mod finishes;
 pub mod laws;
-mod look_ups;
-mod pieces;
+mod reply_conditions;
+mod revival_fault;
 mod service;
 mod words;
 
+pub use bare_pieces::recover_piece;
 pub use commands::recover_command;
 pub use droid_core::{
     Blob, BodyFault, Frame, Holdings, Limits, Refusal, Registry, Reply, Service, Stamp, Store,
     StoreFault, UnfinishedFiles, mark, reply_of, request_of,
 };
-pub use fault::RecoveryFault;
 pub use finishes::recover_finish;
-pub use pieces::recover_piece;
+pub use revival_fault::RecoveryFault;
 pub use service::service_of;
 pub use words::see_words;

@@ -14,10 +14,10 @@ use Rattle.clap.specs.declared.parser.matches.SubCommand.{SubCommand}
 use Rattle.droid_desk_arguments.specs.Asking.{IsAsked, IsAskedBy, IsConversion, IsCount, IsMany, IsOneByOne, IsProfile, IsReport, IsSubmit, IsVerify, ReadsMany, has_no_checksums, names_two, reads_nothing}
 use Rattle.droid_desk_arguments.specs.declared.arguments.Asked.{Asked}
 use Rattle.droid_desk_arguments.specs.declared.arguments.Asked.TheVariants.{Profile, Submit, Verify, Report, Registry, Script, Run, Serve, ServeMany, Send, Compact}
-use Rattle.droid_desk_arguments.specs.declared.conversion.RegistryOptions.{RegistryOptions}
-use Rattle.droid_desk_arguments.specs.declared.many.ManyOptions.{ManyOptions}
+use Rattle.droid_desk_arguments.specs.declared.registry_options.RegistryOptions.{RegistryOptions}
+use Rattle.droid_desk_arguments.specs.declared.connection_options.ManyOptions.{ManyOptions}
 use Rattle.droid_desk_arguments.specs.declared.profile.ProfileOptions.{ProfileOptions}
-use Rattle.droid_desk_arguments.specs.declared.report.ReportOptions.{ReportOptions}
+use Rattle.droid_desk_arguments.specs.declared.report_options.ReportOptions.{ReportOptions}
 use Rattle.droid_desk_arguments.specs.declared.submit.SubmitOptions.{SubmitOptions}
 use Rattle.droid_desk_arguments.specs.declared.verify.VerifyOptions.{VerifyOptions}
 use Rattle.droid_desk_options.proofs.Options.{same_flag}

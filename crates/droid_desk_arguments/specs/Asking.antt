@@ -6,12 +6,12 @@ use Rattle.clap.specs.declared.error.kind.ErrorKind.TheVariants as parsing
 use Rattle.droid_desk_arguments.specs.Commands.{program}
 use Rattle.droid_desk_arguments.specs.declared.arguments.Asked.{Asked}
 use Rattle.droid_desk_arguments.specs.declared.arguments.Asked.TheVariants.{Profile, Submit, Verify, Report, Registry, Script, Run, Serve, ServeMany, Send, Compact}
-use Rattle.droid_desk_arguments.specs.declared.conversion.RegistryOptions.{RegistryOptions}
-use Rattle.droid_desk_arguments.specs.declared.many.ManyOptions.{ManyOptions}
+use Rattle.droid_desk_arguments.specs.declared.registry_options.RegistryOptions.{RegistryOptions}
+use Rattle.droid_desk_arguments.specs.declared.connection_options.ManyOptions.{ManyOptions}
 use Rattle.droid_desk_arguments.specs.declared.profile.ProfileOptions.{ProfileOptions}
 use Rattle.droid_desk_arguments.specs.declared.no_command.NoCommand.{NoCommand}
 use Rattle.droid_desk_arguments.specs.declared.no_command.NoCommand.TheVariants.{Memory}
-use Rattle.droid_desk_arguments.specs.declared.report.ReportOptions.{ReportOptions}
+use Rattle.droid_desk_arguments.specs.declared.report_options.ReportOptions.{ReportOptions}
 use Rattle.droid_desk_arguments.specs.declared.submit.Destination.{Destination}
 use Rattle.droid_desk_arguments.specs.declared.submit.SubmitOptions.{SubmitOptions}
 use Rattle.droid_desk_arguments.specs.declared.verify.VerifyOptions.{VerifyOptions}

@@ -7,13 +7,15 @@ ghost use Rattle.droid_desk_arguments.specs.Commands.{program, run_command, scri
 ghost use Rattle.droid_desk_options.specs.Made.{Makes};
 ghost use Rattle.droid_desk_options.specs.Values.{Reads};
 
-use crate::compaction::{COMPACT, compact, compact_asked};
-use crate::conversion::{RegistryOptions, conversion, registry_asked};
+use crate::compact_options::{COMPACT, compact, compact_asked};
+use crate::connection_options::{
+    AT_ONCE, FOREVER, IDLE, ManyOptions, VERBOSE, is_one_by_one, many_options,
+};
 use crate::help::{ABOUT, EVERYDAY_HELP, HELP, REGISTRY_HELP, SCRIPT_ABOUT, SCRIPT_HELP};
-use crate::many::{AT_ONCE, FOREVER, IDLE, ManyOptions, VERBOSE, is_one_by_one, many_options};
 use crate::no_command::{NoCommand, unused_words};
 use crate::profile::{HASH, PROFILE, ProfileOptions, profile, profile_asked};
-use crate::report::{REPORT, ReportOptions, report, report_asked};
+use crate::registry_options::{RegistryOptions, conversion, registry_asked};
+use crate::report_options::{REPORT, ReportOptions, report, report_asked};
 use crate::stream_help::{
     AT_ONCE_HELP, CLIENT_HELP, CONNECTIONS_HELP, FIRST_HELP, FOREVER_HELP, IDLE_HELP, JOURNAL_HELP,
     RUN_ABOUT, RUN_HELP, SEND_ABOUT, SEND_HELP, SEND_PORT_HELP, SERVE_ABOUT, SERVE_HELP,

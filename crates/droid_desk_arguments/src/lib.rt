@@ -2,17 +2,17 @@
 #![tactic(auto)]
 
 mod arguments;
-mod compaction;
+mod compact_options;
 mod compaction_help;
-mod conversion;
+mod connection_options;
 mod conversion_help;
 mod help;
-mod many;
 mod no_command;
 mod profile;
 mod profile_help;
-mod report;
+mod registry_options;
 mod report_help;
+mod report_options;
 mod stream_help;
 mod submit;
 mod submit_help;
@@ -20,11 +20,11 @@ mod verify;
 mod verify_help;
 
 pub use arguments::{Asked, what_is_asked};
-pub use conversion::RegistryOptions;
+pub use connection_options::ManyOptions;
 pub use droid_desk_options::RegistrySource;
-pub use many::ManyOptions;
 pub use no_command::{NoCommand, unread_words};
 pub use profile::ProfileOptions;
-pub use report::ReportOptions;
+pub use registry_options::RegistryOptions;
+pub use report_options::ReportOptions;
 pub use submit::{Destination, SubmitOptions};
 pub use verify::VerifyOptions;

@@ -12,7 +12,7 @@ use crate::profile_help::{
     FOLDER_HELP, HASH_HELP, LEFT_OUT_HELP, MANIFEST_HELP, MATCH_ALL_HELP, OUTPUT_HELP,
     OWN_REGISTRY_HELP, PAGE_HELP, PROFILE_ABOUT, PROFILE_HELP, QUIET_HELP,
 };
-use crate::report::REPORT;
+use crate::report_options::REPORT;
 use clap::{ArgMatches, Command};
 use droid_desk_options::{
     Builder, FOLDER, HashKind, LIMIT, REGISTRY, flag, flag_of, folder, hash_of, limit, named,

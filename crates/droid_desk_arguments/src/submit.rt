@@ -10,7 +10,7 @@ ghost use Rattle.droid_desk_options.specs.Values.{Reads};
 use crate::arguments::Asked;
 use crate::profile::{DEFAULT_LIMIT, HASH, MATCH_ALL, QUIET, SKIPPED};
 use crate::profile_help::{HASH_HELP, MATCH_ALL_HELP, QUIET_HELP};
-use crate::report::REPORT;
+use crate::report_options::REPORT;
 use crate::submit_help::{
     EXPORT_HELP, NAME_HELP, PIECE_SIZE_HELP, SKIPPED_HELP, SUBMIT_ABOUT, SUBMIT_CLIENT_HELP,
     SUBMIT_FOLDER_HELP, SUBMIT_HELP, SUBMIT_PAGE_HELP, SUBMIT_PORT_HELP, TIMEOUT_HELP, WAIT_HELP,

@@ -15,7 +15,7 @@ use Rattle.droid_fixity_forms.specs.Listings.{IsInventory}
 use Rattle.droid_fixity_profile.specs.Comparisons.{Sees}
 use Rattle.droid_fixity_profile.specs.Exports.{Lists, item_of_record}
 use Rattle.droid_fixity_profile.specs.Exports as exports
-use Rattle.droid_fixity_profile.specs.declared.seen.Seen.{Seen}
+use Rattle.droid_fixity_profile.specs.declared.profile_check.Seen.{Seen}
 use Rattle.droid_frame.specs.types.filter.Filter.{Filter}
 use Rattle.droid_frame.specs.types.hash_kind.HashKind.{HashKind}
 use Rattle.droid_frame.specs.types.record.Record.{Record}
@@ -24,7 +24,7 @@ use Rattle.droid_desk_comparison.specs.CheckedTrees.{items_of, readable_in}
 use Rattle.droid_fixity_forms.specs.ListForms.{form_of, is_profile, manifest_form}
 use Rattle.droid_fixity_forms.specs.Listings.{Says, of_profile}
 use Rattle.droid_fixity_forms.specs.declared.list_form.ListForm.TheVariants.{Profile, Checksum}
-use Rattle.droid_fixity_forms.specs.declared.listed.UnreadList.{UnreadList}
+use Rattle.droid_fixity_forms.specs.declared.list_content.UnreadList.{UnreadList}
 use Rattle.droid_desk_comparison.specs.declared.tree_check.Checked.{Checked}
 use Rattle.droid_desk_comparison.proofs.ReadableItems.{all_read}
 

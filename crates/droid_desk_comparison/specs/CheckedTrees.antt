@@ -11,8 +11,8 @@ use Rattle.droid_frame.specs.types.record.Record.{Record}
 use Rattle.droid_desk_profile.specs.Registry.{Contents}
 use Rattle.droid_tree.specs.Heard.{Heard}
 use Rattle.droid_tree.specs.Observation.{Observation}
-use Rattle.droid_tree.specs.declared.skipped.Skipped.{Skipped}
-use Rattle.droid_tree.specs.declared.skipped.Skipped.TheVariants as reasons
+use Rattle.droid_tree.specs.declared.skip_reason.Skipped.{Skipped}
+use Rattle.droid_tree.specs.declared.skip_reason.Skipped.TheVariants as reasons
 use Rattle.droid_desk_profile.specs.profiler_types.profiler.Profiler.{Profiler}
 use Rattle.droid_desk_profile.specs.EarlyEnds.{EndsEarly}
 use Rattle.droid_desk_profile.specs.ProfileRecords.{records_of}

@@ -10,7 +10,7 @@ ghost use Rattle.droid_fixity_forms.specs.ListForms.{form_of};
 ghost use Rattle.droid_fixity_forms.specs.Listings.{ListSays};
 ghost use Rattle.droid_desk_comparison.specs.declared.finding.Finding.{Finding};
 ghost use Rattle.droid_fixity_forms.specs.declared.list_form.ListForm.TheVariants.{Profile};
-ghost use Rattle.droid_fixity_forms.specs.declared.listed.Listed.{Listed};
+ghost use Rattle.droid_fixity_forms.specs.declared.list_content.Listed.{Listed};
 ghost use Rattle.droid_desk_comparison.specs.declared.tree_check.Checked.{Checked};
 ghost use Rattle.droid_desk_profile.specs.Filters.{meets};
 ghost use Rattle.droid_desk_profile.specs.Rows.{fields};

@@ -6,7 +6,7 @@ use Rattle.droid_fixity.specs.declared.difference.Difference.{Difference}
 use Rattle.droid_fixity.specs.declared.difference.Difference.TheVariants.{Changed, Missing, New, Moved, Touched}
 use Rattle.droid_fixity.specs.declared.item.Changes.{Changes}
 use Rattle.droid_fixity.specs.declared.item.Item.{Item}
-use Rattle.droid_fixity_profile.specs.declared.seen.Seen.{Seen}
+use Rattle.droid_fixity_profile.specs.declared.profile_check.Seen.{Seen}
 use Rattle.droid_desk_report.specs.SkippedPaths.{is_explained}
 use Rattle.droid_desk_folders.specs.declared.difference_line.DifferenceLine.{DifferenceLine}
 use Rattle.droid_desk_report.specs.outputs_types.skipped_entry.SkippedEntry.{SkippedEntry}

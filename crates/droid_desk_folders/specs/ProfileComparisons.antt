@@ -4,7 +4,7 @@ use Rattle.csv.specs.Reading.{AreRecords, default_config, strip_bom}
 use Rattle.csv.specs.declared.parser.State.TheVariants as st
 use Rattle.droid_fixity_lists.specs.Profiles.{profile_of}
 use Rattle.droid_fixity_profile.specs.Comparisons.{Sees}
-use Rattle.droid_fixity_profile.specs.declared.seen.Seen.{Seen}
+use Rattle.droid_fixity_profile.specs.declared.profile_check.Seen.{Seen}
 use Rattle.droid_tree_connection.specs.Events.{Event, Fact, facts_after}
 use Rattle.droid_tree_connection.specs.Stages.{StandsOn}
 use Rattle.droid_tree_connection.specs.declared.in_flight.InFlight.{InFlight}

@@ -4,7 +4,7 @@ use Rattle.std.specs.List.{flat_map}
 use Rattle.droid_desk_progress.specs.Paths.{cause_text}
 use Rattle.droid_export.specs.Csv.{line}
 use Rattle.droid_tree.specs.Heard.{Heard, Left}
-use Rattle.droid_tree.specs.declared.skipped.Skipped.{Skipped}
+use Rattle.droid_tree.specs.declared.skip_reason.Skipped.{Skipped}
 use Rattle.droid_desk_outputs.specs.declared.skipped_entry.SkippedEntry.{SkippedEntry}
 
 -- the skipped entry that a watcher learned of, if it did

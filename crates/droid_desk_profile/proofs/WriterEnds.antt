@@ -1,7 +1,7 @@
 -- A writer that takes a line, or stops.
 use Rattle.std.proofs.Common.{ℕ, Option, Result, Ok, Err, arith}
 use Rattle.std.specs.Prelude.{OnErr, OnOk}
-use Rattle.droid_frame.specs.stream_types.seen.Seen.{Seen}
+use Rattle.droid_frame.specs.stream_types.stream_record.Seen.{Seen}
 use Rattle.droid_frame.specs.Writes.{WritesOn}
 use Rattle.droid_profile_csv.specs.Writers.{LastsOn, Stops}
 

@@ -1,7 +1,7 @@
 -- The profile of a tree, with what was skipped (this project's own).
 use Rattle.std.specs.Prelude.{◌≡◌, ℕ, Bool, List, Option, Some, None, Result, Ok, Err}
 use Rattle.droid_frame.specs.Seen.{IsSound}
-use Rattle.droid_frame.specs.stream_types.seen.Seen.{Seen}
+use Rattle.droid_frame.specs.stream_types.stream_record.Seen.{Seen}
 use Rattle.droid_tree.specs.Heard.{Heard}
 use Rattle.droid_tree.specs.Observation.{Observation}
 use Rattle.droid_profile_csv.specs.profile_types.profiler.Profiler.{Profiler}

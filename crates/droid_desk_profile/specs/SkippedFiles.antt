@@ -7,7 +7,7 @@ use Rattle.std.specs.declared.alloc.Global.{Global}
 use Rattle.std.specs.declared.vec.Vec.{Vec}
 use Rattle.droid_frame.specs.Seen.{IsSound}
 use Rattle.droid_frame.specs.Writes.{StopsWithin}
-use Rattle.droid_frame.specs.stream_types.seen.Seen.{Seen}
+use Rattle.droid_frame.specs.stream_types.stream_record.Seen.{Seen}
 use Rattle.droid_tree.specs.Heard.{Heard, Left, Held, TookBytes, TookFolder, TookFile}
 use Rattle.droid_desk_report.specs.SkippedTexts.{entries_text, entry_text, skipped_in}
 use Rattle.droid_profile_csv.specs.Writers.{AppendsNotAll, AppendsSome, LastsOn, Stops}

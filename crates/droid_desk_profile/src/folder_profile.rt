@@ -2,8 +2,8 @@
 
 use crate::named_registry::{NamedRegistry, RegistryLine};
 use crate::other_files::OtherFiles;
-use crate::output_files::{OutputFiles, create_page, give_up};
 use crate::profile_ending::ProfileEnding;
+use crate::profile_outputs::{OutputFiles, create_page, give_up};
 use crate::profile_page::add_page;
 use crate::skipped_file::SkippedFile;
 use crate::skipped_writer::SkippedWriter;

@@ -3,13 +3,13 @@
 ghost use Rattle.std.specs.Prelude.{◌≡◌, ℕ, List, [], None, Some, true, Vec};
 ghost use Rattle.std.specs.List.{flat_map};
 ghost use Rattle.std.specs.declared.alloc.Global.{Global};
-ghost use Rattle.droid_frame.specs.stream_types.noted.Noted.{Noted};
+ghost use Rattle.droid_frame.specs.stream_types.recorded_stream.Noted.{Noted};
 ghost use Rattle.droid_tree.specs.Heard.{Heard};
 ghost use Rattle.droid_profile_csv.specs.declared.csv_recipient.CsvRecipient.{CsvRecipient};
 ghost use Rattle.droid_profile_csv.specs.profile_types.profiler.Profiler.{Profiler};
 ghost use Rattle.droid_profile_csv.specs.types.options.Options.{Options};
 ghost use Rattle.droid_desk_report.specs.Kept.{kept_contents};
-ghost use Rattle.droid_desk_report.specs.declared.keeping.Keeping.{Keeping};
+ghost use Rattle.droid_desk_report.specs.declared.kept_output.Keeping.{Keeping};
 ghost use Rattle.droid_desk_report.specs.SkippedTexts.{header, skipped_csv, skipped_in};
 ghost use Rattle.droid_desk_profile.specs.SkippedFiles.{GoesOn, HasText, lines_of};
 ghost use Rattle.droid_desk_profile.specs.ProfileEndings.{is_written};

@@ -3,7 +3,7 @@
 ghost use Rattle.std.specs.Prelude.{◌≡◌, option_map};
 ghost use Rattle.droid_desk_profile.specs.ProfileEndings.{csv_fault_text, ending_of, fault_text, is_written, lacking_memory, skipped_fault_text, status_of, with_page};
 
-use crate::output_files::OutputFile;
+use crate::profile_outputs::OutputFile;
 use crate::skipped_file::SkippedFault;
 use droid_desk_report::{PageFault, output_fault_name};
 use droid_profile_csv::CsvFault;

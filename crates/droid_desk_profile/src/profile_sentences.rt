@@ -1,7 +1,7 @@
 //! Sentences that say how a profile ended, and what to do.
 
-use crate::output_files::OutputFile;
 use crate::profile_ending::ProfileEnding;
+use crate::profile_outputs::OutputFile;
 use crate::skipped_file::SkippedFault;
 use droid_desk_arguments::ProfileOptions;
 use droid_desk_report::{NO_MEMORY, Shown, print_no_folder, print_no_output, print_no_page};

@@ -6,8 +6,8 @@ use Rattle.droid_frame.specs.types.method.Method.TheVariants.{Unidentified, Sign
 use Rattle.droid_frame.specs.types.reply.Reply.{Reply}
 use Rattle.droid_frame.specs.types.reply.Reply.TheVariants as replies
 use Rattle.droid_tree.specs.Heard.{Heard, Left, Held, TookBytes, TookFolder, TookFile}
-use Rattle.droid_tree.specs.declared.skipped.Skipped.{Skipped}
-use Rattle.droid_tree.specs.declared.skipped.Skipped.TheVariants as reasons
+use Rattle.droid_tree.specs.declared.skip_reason.Skipped.{Skipped}
+use Rattle.droid_tree.specs.declared.skip_reason.Skipped.TheVariants as reasons
 use Rattle.droid_desk_progress.specs.Units.{saturated}
 use Rattle.droid_desk_progress.specs.declared.estimate.Amount.{Amount}
 use Rattle.droid_desk_progress.specs.declared.counts.Counts.{Counts}

@@ -1,8 +1,8 @@
 -- What the command does outside of itself (this project's own).
 use Rattle.std.specs.Prelude.{ℕ, List}
-use Rattle.droid_desk_registry.specs.declared.places.Part.{Part}
-use Rattle.droid_desk_registry.specs.declared.places.Unput.{Unput}
-use Rattle.droid_desk_registry.specs.declared.places.Unread.{Unread}
+use Rattle.droid_desk_registry.specs.declared.registry_places.Part.{Part}
+use Rattle.droid_desk_registry.specs.declared.registry_places.Unput.{Unput}
+use Rattle.droid_desk_registry.specs.declared.registry_places.Unread.{Unread}
 
 pub data Act : Type 0 where
   -- the signature file has these bytes

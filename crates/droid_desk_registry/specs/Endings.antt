@@ -4,10 +4,10 @@ use Rattle.droid_signature.specs.file_types.fault.FileFault.{FileFault}
 use Rattle.droid_signature.specs.file_types.fault.FileFault.TheVariants as files
 use Rattle.droid_signature.specs.xml_types.problem.Problem.{Problem}
 use Rattle.droid_signature.specs.xml_types.problem.Problem.TheVariants as problems
-use Rattle.droid_desk_registry.specs.declared.places.Unput.{Unput}
-use Rattle.droid_desk_registry.specs.declared.places.Unput.TheVariants as unput
-use Rattle.droid_desk_registry.specs.declared.places.Unread.{Unread}
-use Rattle.droid_desk_registry.specs.declared.places.Unread.TheVariants as unread
+use Rattle.droid_desk_registry.specs.declared.registry_places.Unput.{Unput}
+use Rattle.droid_desk_registry.specs.declared.registry_places.Unput.TheVariants as unput
+use Rattle.droid_desk_registry.specs.declared.registry_places.Unread.{Unread}
+use Rattle.droid_desk_registry.specs.declared.registry_places.Unread.TheVariants as unread
 use Rattle.droid_desk_registry.specs.declared.registry_ending.RegistryEnding.{RegistryEnding}
 use Rattle.droid_desk_registry.specs.declared.registry_ending.RegistryEnding.TheVariants.{Whole, Partial, NoFile, NoSignatures, LongRegistry, NoMemory, NoRegistry, NoNote}
 

@@ -3,9 +3,9 @@ use Rattle.std.specs.Prelude.{◌≡◌, Bool, true, false, ℕ, List, string_by
 use Rattle.droid_desk_registry.specs.Acts.{Act, Got, GotNone, Put, PutNone, Told}
 use Rattle.droid_desk_registry.specs.Conversions.{IsConversionOf, IsEndingOf}
 use Rattle.droid_desk_registry.specs.declared.conversion.Conversion.{Conversion}
-use Rattle.droid_desk_registry.specs.declared.places.Part.TheVariants.{Registry, Note}
-use Rattle.droid_desk_registry.specs.declared.places.Unput.{Unput}
-use Rattle.droid_desk_registry.specs.declared.places.Unread.{Unread}
+use Rattle.droid_desk_registry.specs.declared.registry_places.Part.TheVariants.{Registry, Note}
+use Rattle.droid_desk_registry.specs.declared.registry_places.Unput.{Unput}
+use Rattle.droid_desk_registry.specs.declared.registry_places.Unread.{Unread}
 use Rattle.droid_desk_registry.specs.declared.registry_ending.RegistryEnding.{RegistryEnding}
 use Rattle.droid_desk_registry.specs.declared.registry_ending.RegistryEnding.TheVariants as endings
 

@@ -6,8 +6,8 @@ ghost use Rattle.droid_desk_registry.specs.Runs.{Runs, Writes, ending_of};
 
 use crate::conversion::{Conversion, conversion_of};
 use crate::machine::Machine;
-use crate::places::{Part, Places};
 use crate::registry_ending::RegistryEnding;
+use crate::registry_places::{Part, Places};
 use std::alloc::Global;
 use std::fs::{File, Files};
 

@@ -7,13 +7,13 @@ mod command;
 mod conversion;
 mod left_out_line;
 mod machine;
-mod places;
 mod reasons;
 mod registry_ending;
+mod registry_places;
 mod registry_report;
 mod registry_sentences;
 
 pub use command::{convert_file, registry_command};
 pub use conversion::{Conversion, conversion_of};
-pub use places::{Part, Places, Unput, Unread};
 pub use registry_ending::RegistryEnding;
+pub use registry_places::{Part, Places, Unput, Unread};

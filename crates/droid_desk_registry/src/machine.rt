@@ -3,7 +3,7 @@
 ghost use Rattle.std.specs.Prelude.{◌≤◌, length, IfOk};
 ghost use Rattle.droid_desk_registry.specs.Machines.{MayDo};
 
-use crate::places::{Part, Places, Unput, Unread};
+use crate::registry_places::{Part, Places, Unput, Unread};
 use droid_frame::{InputFault, Noted, WriteState, read_to_end, write_all};
 use droid_tree_disk::{Output, OutputFault};
 use std::alloc::Global;

@@ -3,7 +3,7 @@
 ghost use Rattle.std.specs.Prelude.{◌≡◌, option_map};
 ghost use Rattle.droid_desk_registry.specs.Endings.{file_fault_text, problem_text, unput_text, unread_text};
 
-use crate::places::{Unput, Unread};
+use crate::registry_places::{Unput, Unread};
 use droid_signature::{FileFault, Problem};
 
 /// How the command ends.

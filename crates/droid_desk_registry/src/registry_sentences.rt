@@ -1,7 +1,7 @@
 //! Sentences that say how the command ended, and what to do.
 
-use crate::places::{Unput, Unread};
 use crate::registry_ending::RegistryEnding;
+use crate::registry_places::{Unput, Unread};
 use droid_desk_progress::Shown;
 use droid_signature::{FileFault, Problem, Wrong};
 use std::io::{self, ErrorKind};

@@ -1,7 +1,7 @@
 -- A writer that may keep what it writes.
 use Rattle.std.specs.Prelude.{◌≡◌, ℕ, Bool, true, false, List, [], Option, Some, None, Vec, ⊤}
 use Rattle.std.specs.declared.alloc.Global.{Global}
-use Rattle.droid_desk_report.specs.declared.keeping.Keeping.{Keeping}
+use Rattle.droid_desk_report.specs.declared.kept_output.Keeping.{Keeping}
 
 -- nothing is kept yet
 abbrev pub IsBegun : Bool → Option (Vec ℕ Global) → Type 0

@@ -5,7 +5,7 @@
 mod about;
 mod csv_page;
 mod csv_report;
-mod keeping;
+mod kept_output;
 mod page_fault;
 mod page_writer;
 mod profile_report;
@@ -21,7 +21,7 @@ pub use droid_desk_outputs::{
     skipped_csv, walk_fault_name, write_record,
 };
 pub use droid_report::ProfileFault;
-pub use keeping::Keeping;
+pub use kept_output::Keeping;
 pub use page_fault::{PageFault, output_fault_name};
 pub use page_writer::write_page;
 pub use profile_report::report_profile;

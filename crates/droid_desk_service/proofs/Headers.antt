@@ -6,8 +6,8 @@ use Rattle.droid_wire.specs.with_journal.service.Standing.{IsLeft}
 use Rattle.droid_wire.specs.with_journal.service.Headers.{IsMemoryOrRead}
 use Rattle.droid_wire.specs.with_journal.service.chain.Chains.{chain_bytes, first_check}
 use Rattle.droid_wire.specs.with_journal.service.journal.Opening.{HasHeader}
-use Rattle.droid_wire.specs.with_journal.service.journal.declared.fault.Fault.{Fault}
-use Rattle.droid_wire.specs.with_journal.service.journal.declared.fault.Fault.TheVariants as faults
+use Rattle.droid_wire.specs.with_journal.service.journal.declared.journal_fault.Fault.{Fault}
+use Rattle.droid_wire.specs.with_journal.service.journal.declared.journal_fault.Fault.TheVariants as faults
 use Rattle.droid_wire.specs.Histories.{History}
 use Rattle.droid_wire.specs.Setting.{Setting}
 

@@ -3,15 +3,15 @@ use Rattle.std.proofs.Common.{◌≡◌, ℕ, List, Option, Some, None, refl, sy
 use Rattle.std.specs.declared.io.ErrorKind.{ErrorKind}
 use Rattle.droid_desk_service.specs.Fresh.{IsNotMadeOf}
 use Rattle.droid_desk_service.specs.JournalEndings.{IsAnsweringEnd, IsUnopened, JournalEndsAs, ServesSteps, journal_ending_of, left_ending_of, stream_journal_ending_of, unsettled_ending}
-use Rattle.droid_desk_service.specs.declared.ending.Ending.{Ending}
-use Rattle.droid_desk_service.specs.declared.ending.Ending.TheVariants.{Done, Registry, NoService, Script, Stream, Send, Socket, Journal, BadLine}
-use Rattle.droid_wire.specs.with_journal.service.journal.declared.fault.Fault.{Fault}
+use Rattle.droid_desk_service.specs.declared.exit.Ending.{Ending}
+use Rattle.droid_desk_service.specs.declared.exit.Ending.TheVariants.{Done, Registry, NoService, Script, Stream, Send, Socket, Journal, BadLine}
+use Rattle.droid_wire.specs.with_journal.service.journal.declared.journal_fault.Fault.{Fault}
 use Rattle.droid_wire.specs.declared.serve_fault.ServeFault.TheVariants as serve_faults
 use Rattle.droid_wire.specs.turn_types.departure.Departure.{Departure}
 use Rattle.droid_wire.specs.turn_types.departure.Departure.TheVariants as departures
 use Rattle.droid_wire.specs.turn_types.rules.Rules.{Rules}
-use Rattle.droid_wire.specs.turn_types.served.Served.{Served}
-use Rattle.droid_wire.specs.turn_types.served.Served.TheVariants as ways
+use Rattle.droid_wire.specs.turn_types.service_end.Served.{Served}
+use Rattle.droid_wire.specs.turn_types.service_end.Served.TheVariants as ways
 
 unsettled : (rules : Rules) (fault : Option Fault) → JournalEndsAs rules (journal_ending_of ways.Unsettled fault) None
 unsettled rules None = tt

@@ -1,11 +1,11 @@
 -- What the end of serving many connections says of the program's ending.
 use Rattle.std.proofs.Common.{◌≡◌, ◌≢◌, [], Option, Some, None, refl, subst, sym, ◌∙◌}
 use Rattle.std.specs.declared.io.ErrorKind.{ErrorKind}
-use Rattle.droid_desk_arguments.specs.declared.many.ManyOptions.{ManyOptions}
+use Rattle.droid_desk_arguments.specs.declared.connection_options.ManyOptions.{ManyOptions}
 use Rattle.droid_desk_service.specs.Fresh.{IsMade, IsNoService, IsUnmade}
 use Rattle.droid_desk_service.specs.Many.{EndsServing, ManyEndsAs, ServesFresh, many_ending_of, rules_named}
-use Rattle.droid_desk_service.specs.declared.ending.Ending.{Ending}
-use Rattle.droid_desk_service.specs.declared.ending.Ending.TheVariants.{Done, Registry, NoService, Script, Stream, Send, Socket, Journal, BadLine}
+use Rattle.droid_desk_service.specs.declared.exit.Ending.{Ending}
+use Rattle.droid_desk_service.specs.declared.exit.Ending.TheVariants.{Done, Registry, NoService, Script, Stream, Send, Socket, Journal, BadLine}
 use Rattle.droid_wire.specs.Events.{Event}
 use Rattle.droid_wire.specs.Histories.{History}
 use Rattle.droid_wire.specs.ManyConnections.{ServesMany, ServesSome}
@@ -14,8 +14,8 @@ use Rattle.droid_wire.specs.Standing.{limits_of, registry_of}
 use Rattle.droid_wire.specs.core_types.service.Service.{Service}
 use Rattle.droid_wire.specs.declared.serve_fault.ServeFault.TheVariants as serve_faults
 use Rattle.droid_wire.specs.turn_types.rules.Rules.{Rules}
-use Rattle.droid_wire.specs.turn_types.served.Served.{Served}
-use Rattle.droid_wire.specs.turn_types.served.Served.TheVariants as ways
+use Rattle.droid_wire.specs.turn_types.service_end.Served.{Served}
+use Rattle.droid_wire.specs.turn_types.service_end.Served.TheVariants as ways
 
 some_of : {C : Type 0} (does : C → Event → C → Type 0) (rules : Rules) (setting : Setting) (history : History) (connections later : C) (after : Service) (result : Served)
     → ServesMany does rules setting history connections later after result → ServesSome rules setting history after result

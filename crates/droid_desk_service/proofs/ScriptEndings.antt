@@ -4,8 +4,8 @@ use Rattle.std.specs.Prelude.{IsErrOf}
 use Rattle.std.specs.Io.KnownBytes.{Keeps}
 use Rattle.std.proofs.KnownBytes.{Keeps-refl}
 use Rattle.std.proofs.lemmas.Bool.{eqb-true, eqb-false}
-use Rattle.droid_desk_service.specs.declared.ending.Ending.{Ending}
-use Rattle.droid_desk_service.specs.declared.ending.Ending.TheVariants.{Done, Registry, NoService, Script, Stream, Send, Socket, Journal, BadLine}
+use Rattle.droid_desk_service.specs.declared.exit.Ending.{Ending}
+use Rattle.droid_desk_service.specs.declared.exit.Ending.TheVariants.{Done, Registry, NoService, Script, Stream, Send, Socket, Journal, BadLine}
 use Rattle.droid_lines_script.specs.declared.script_fault.ScriptFault.{ScriptFault}
 use Rattle.droid_lines_script.specs.declared.script_fault.ScriptFault.TheVariants.{TooLong, Read, Memory, Write}
 use Rattle.droid_lines.specs.Tallies.{Counts}
@@ -18,7 +18,7 @@ use Rattle.droid_lines.specs.Lines.{lines_of}
 use Rattle.droid_lines_script.specs.Scripts.{RunsAll, RunsFront, IsOfReading, IsOfHandling, IsTooLong, WritesAnswer, is_bad}
 use Rattle.droid_pronom.specs.declared.registry.fault.RegistryFault.{RegistryFault}
 use Rattle.droid_frame.specs.Seen.{IsSound, ReportsFault}
-use Rattle.droid_frame.specs.stream_types.seen.Seen.{Seen}
+use Rattle.droid_frame.specs.stream_types.stream_record.Seen.{Seen}
 use Rattle.droid_frame.specs.InTurn.{AtMost, ReportsFaultInTurn}
 use Rattle.droid_frame.proofs.InTurn.{over_none, reported_idle}
 use Rattle.droid_frame.proofs.Scopes.{counts_none, reported_none}

@@ -3,13 +3,13 @@ use Rattle.std.proofs.Common.{◌≡◌, ℕ, Bool, true, false, cond, eqb, List
 use Rattle.std.specs.Prelude.{IsErrOf}
 use Rattle.std.proofs.lemmas.Bool.{eqb-true, eqb-false}
 use Rattle.droid_wire.specs.Cores.{Core}
-use Rattle.droid_desk_service.specs.declared.ending.Ending.TheVariants.{Done, BadLine, Send}
+use Rattle.droid_desk_service.specs.declared.exit.Ending.TheVariants.{Done, BadLine, Send}
 use Rattle.droid_desk_service.specs.Sends.{SendEndsAs, sending_end_of}
 use Rattle.droid_lines_send.specs.declared.send_fault.SendFault.{SendFault}
 use Rattle.droid_lines.specs.declared.tally.Tally.{Tally}
 use Rattle.droid_frame.specs.Seen.{ReportsFault}
 use Rattle.droid_lines_send.specs.Sending.{SendsAll, SendsFront}
-use Rattle.droid_frame.specs.stream_types.seen.Seen.{Seen}
+use Rattle.droid_frame.specs.stream_types.stream_record.Seen.{Seen}
 
 done_or_bad : (b : Bool) (core after : Core) (tally : Tally) (script input left old_frames new_frames old_text new_text : Option (List ℕ)) → eqb tally.bad 0 ≡ b
     → SendsAll core script input left old_frames new_frames old_text new_text after tally

@@ -2,7 +2,7 @@
 use Rattle.std.proofs.Common.{◌≡◌, ℕ, cond, eqb, List, [], Option, Some, None, Result, Ok, Err, IfSome, ap, ◌∙◌}
 use Rattle.std.specs.Prelude.{IsErrOf, IsErrAnd}
 use Rattle.droid_wire.specs.core_types.service.Service.{Service}
-use Rattle.droid_desk_service.specs.declared.ending.Ending.TheVariants.{Stream}
+use Rattle.droid_desk_service.specs.declared.exit.Ending.TheVariants.{Stream}
 use Rattle.droid_desk_service.specs.Streams.{ConnectionGives, StreamEndsAs, stream_ending_of, stream_turns}
 use Rattle.droid_wire.specs.Histories.{History}
 use Rattle.droid_wire.specs.Setting.{Setting}
@@ -11,7 +11,7 @@ use Rattle.std.specs.Io.Buffered.{reader_buffer, reader_capacity, reader_inner, 
 use Rattle.std.specs.declared.io.buffered.BufReader.{BufReader}
 use Rattle.std.proofs.KnownBytes.{prepend_known-nil}
 use Rattle.droid_wire.specs.Serving.{Outcome}
-use Rattle.droid_wire.specs.declared.ended.Ended.{Ended}
+use Rattle.droid_wire.specs.declared.stream_end.Ended.{Ended}
 use Rattle.droid_wire.specs.declared.serve_fault.ServeFault.{ServeFault}
 use Rattle.droid_wire.specs.declared.serve_fault.ServeFault.TheVariants as faults
 

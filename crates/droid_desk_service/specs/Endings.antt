@@ -2,11 +2,11 @@
 use Rattle.std.specs.Prelude.{◌≡◌, ℕ, ◌<◌, ◌==◌, if◌then◌else◌, List, [], codes, Option, IfSome, Result, Ok, Err}
 use Rattle.std.specs.List.{count_by}
 use Rattle.std.specs.Io.KnownBytes.{Keeps}
-use Rattle.droid_desk_service.specs.declared.ending.Ending.{Ending}
+use Rattle.droid_desk_service.specs.declared.exit.Ending.{Ending}
 use Rattle.droid_desk_service.specs.declared.journal_fault.JournalFault.{JournalFault}
 use Rattle.droid_desk_service.specs.declared.journal_fault.JournalFault.TheVariants as journal_faults
-use Rattle.droid_wire.specs.with_journal.service.journal.declared.fault.Fault.TheVariants as faults
-use Rattle.droid_desk_service.specs.declared.ending.Ending.TheVariants.{Done, Registry, NoService, Script, Stream, Send, Socket, Journal, BadLine}
+use Rattle.droid_wire.specs.with_journal.service.journal.declared.journal_fault.Fault.TheVariants as faults
+use Rattle.droid_desk_service.specs.declared.exit.Ending.TheVariants.{Done, Registry, NoService, Script, Stream, Send, Socket, Journal, BadLine}
 use Rattle.droid_lines_script.specs.declared.script_fault.ScriptFault.{ScriptFault}
 use Rattle.droid_lines_script.specs.declared.script_fault.ScriptFault.TheVariants.{TooLong, Read, Memory, Write}
 use Rattle.droid_wire.specs.core_types.service.Service.{Service}

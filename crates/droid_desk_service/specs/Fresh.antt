@@ -3,8 +3,8 @@ use Rattle.std.specs.Prelude.{◌≡◌, ℕ, List, [], Option, IfSome, Ok}
 use Rattle.droid_wire.specs.Standing.{StandsFor, limits_of, registry_of}
 use Rattle.droid_wire.specs.core_types.service.Service.{Service}
 use Rattle.droid_desk_service.specs.Endings.{IsFaultOf, IsProgramSetting, program_limits}
-use Rattle.droid_desk_service.specs.declared.ending.Ending.{Ending}
-use Rattle.droid_desk_service.specs.declared.ending.Ending.TheVariants.{Done, Registry, NoService, Script, Stream, Send, Socket, Journal, BadLine}
+use Rattle.droid_desk_service.specs.declared.exit.Ending.{Ending}
+use Rattle.droid_desk_service.specs.declared.exit.Ending.TheVariants.{Done, Registry, NoService, Script, Stream, Send, Socket, Journal, BadLine}
 use Rattle.droid_wire.specs.Setting.{Setting}
 use Rattle.droid_pronom.specs.Registry.{Contents}
 use Rattle.droid_pronom.specs.RegistryFile.{File}

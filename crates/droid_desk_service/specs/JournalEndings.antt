@@ -1,18 +1,18 @@
 -- How a command whose service has a journal ends.
 use Rattle.std.specs.Prelude.{◌≡◌, ℕ, ◌*◌, List, [], Option, None, Some}
 use Rattle.std.specs.declared.io.ErrorKind.{ErrorKind}
-use Rattle.droid_desk_service.specs.declared.ending.Ending.{Ending}
-use Rattle.droid_desk_service.specs.declared.ending.Ending.TheVariants.{Done, Registry, NoService, Script, Stream, Send, Socket, Journal, BadLine}
+use Rattle.droid_desk_service.specs.declared.exit.Ending.{Ending}
+use Rattle.droid_desk_service.specs.declared.exit.Ending.TheVariants.{Done, Registry, NoService, Script, Stream, Send, Socket, Journal, BadLine}
 use Rattle.droid_desk_service.specs.declared.journal_fault.JournalFault.TheVariants.{Closed}
 use Rattle.droid_frame.specs.declared.stream.fault.FrameFault.TheVariants as frame_faults
-use Rattle.droid_frame.specs.stream_types.seen.Seen.{Seen}
+use Rattle.droid_frame.specs.stream_types.stream_record.Seen.{Seen}
 use Rattle.droid_wire.specs.with_journal.Serving.{AnswersJournal, ServesJournal}
 use Rattle.droid_wire.specs.with_journal.declared.journal_handler.JournalHandler.{JournalHandler}
 use Rattle.droid_wire.specs.with_journal.pipe_types.pipe.Pipe.{Pipe}
 use Rattle.droid_wire.specs.with_journal.service.Standing.{StandsForHistory}
 use Rattle.droid_wire.specs.with_journal.service.journal.Faults.{MayBeOfWriting}
-use Rattle.droid_wire.specs.with_journal.service.journal.declared.fault.Fault.{Fault}
-use Rattle.droid_wire.specs.with_journal.service.journal.declared.fault.Fault.TheVariants as faults
+use Rattle.droid_wire.specs.with_journal.service.journal.declared.journal_fault.Fault.{Fault}
+use Rattle.droid_wire.specs.with_journal.service.journal.declared.journal_fault.Fault.TheVariants as faults
 use Rattle.droid_wire.specs.with_journal.turns.Steps.{Step}
 use Rattle.droid_wire.specs.with_journal.turns.Turns.{ServesAll}
 use Rattle.droid_wire.specs.Events.{Event}
@@ -22,8 +22,8 @@ use Rattle.droid_wire.specs.declared.serve_fault.ServeFault.TheVariants as serve
 use Rattle.droid_wire.specs.turn_types.departure.Departure.{Departure}
 use Rattle.droid_wire.specs.turn_types.departure.Departure.TheVariants as departures
 use Rattle.droid_wire.specs.turn_types.rules.Rules.{Rules}
-use Rattle.droid_wire.specs.turn_types.served.Served.{Served}
-use Rattle.droid_wire.specs.turn_types.served.Served.TheVariants as ways
+use Rattle.droid_wire.specs.turn_types.service_end.Served.{Served}
+use Rattle.droid_wire.specs.turn_types.service_end.Served.TheVariants as ways
 
 -- connections one by one, so many of them, each for as long as it stays
 abbrev pub rules_one_by_one : ℕ → Rules

@@ -1,10 +1,10 @@
 -- How `serve` for many connections at once ends.
 use Rattle.std.specs.Prelude.{◌≡◌, ◌≢◌, ℕ, ◌*◌, [], Option, None, Some}
 use Rattle.std.specs.declared.io.ErrorKind.{ErrorKind}
-use Rattle.droid_desk_arguments.specs.declared.many.ManyOptions.{ManyOptions}
+use Rattle.droid_desk_arguments.specs.declared.connection_options.ManyOptions.{ManyOptions}
 use Rattle.droid_desk_service.specs.Endings.{IsProgramSetting, program_limits}
-use Rattle.droid_desk_service.specs.declared.ending.Ending.{Ending}
-use Rattle.droid_desk_service.specs.declared.ending.Ending.TheVariants.{Done, Registry, NoService, Script, Stream, Send, Socket, Journal, BadLine}
+use Rattle.droid_desk_service.specs.declared.exit.Ending.{Ending}
+use Rattle.droid_desk_service.specs.declared.exit.Ending.TheVariants.{Done, Registry, NoService, Script, Stream, Send, Socket, Journal, BadLine}
 use Rattle.droid_frame.specs.declared.stream.fault.FrameFault.TheVariants as frame_faults
 use Rattle.droid_pronom.specs.Registry.{Contents}
 use Rattle.droid_wire.specs.Events.{Event}
@@ -15,8 +15,8 @@ use Rattle.droid_wire.specs.Standing.{StandsFor, limits_of, registry_of}
 use Rattle.droid_wire.specs.core_types.service.Service.{Service}
 use Rattle.droid_wire.specs.declared.serve_fault.ServeFault.TheVariants as serve_faults
 use Rattle.droid_wire.specs.turn_types.rules.Rules.{Rules}
-use Rattle.droid_wire.specs.turn_types.served.Served.{Served}
-use Rattle.droid_wire.specs.turn_types.served.Served.TheVariants as ways
+use Rattle.droid_wire.specs.turn_types.service_end.Served.{Served}
+use Rattle.droid_wire.specs.turn_types.service_end.Served.TheVariants as ways
 
 -- the rules that the options name; the time is in milliseconds
 abbrev pub rules_named : ManyOptions → Rules

@@ -1,12 +1,12 @@
 -- How answering streams of frames ends.
 use Rattle.std.specs.Prelude.{◌≡◌, ℕ, ◌+◌, ◌<◌, List, Option, Result, Ok, Err}
 use Rattle.droid_wire.specs.core_types.service.Service.{Service}
-use Rattle.droid_desk_service.specs.declared.ending.Ending.{Ending}
-use Rattle.droid_desk_service.specs.declared.ending.Ending.TheVariants.{Done, Registry, NoService, Script, Stream, Send, Socket, Journal, BadLine}
+use Rattle.droid_desk_service.specs.declared.exit.Ending.{Ending}
+use Rattle.droid_desk_service.specs.declared.exit.Ending.TheVariants.{Done, Registry, NoService, Script, Stream, Send, Socket, Journal, BadLine}
 use Rattle.droid_wire.specs.Histories.{History}
 use Rattle.droid_wire.specs.Setting.{Setting}
 use Rattle.droid_wire.specs.Serving.{Outcome}
-use Rattle.droid_wire.specs.declared.ended.Ended.{Ended}
+use Rattle.droid_wire.specs.declared.stream_end.Ended.{Ended}
 use Rattle.droid_wire.specs.declared.serve_fault.ServeFault.{ServeFault}
 
 -- the most frames of a stream that are answered

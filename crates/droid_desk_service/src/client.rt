@@ -8,7 +8,7 @@ ghost use Rattle.droid_lines.specs.Lines.{lines_of};
 ghost use Rattle.droid_lines_send.specs.Along.{ReadsReply, WritesPrinted, WritesRequest};
 ghost use Rattle.droid_desk_service.specs.Sends.{SendEndsAs, sending_end_of};
 
-use crate::ending::{Ending, after_lines};
+use crate::exit::{Ending, after_lines};
 use droid_frame::{FrameFault, SteadyRead, SteadyWrite};
 use droid_lines::Tally;
 use droid_lines_send::{SendFault, send};

@@ -3,9 +3,9 @@
 ghost use Rattle.std.specs.Prelude.{◌<◌, ◌^◌};
 
 use crate::client::send_lines;
+use crate::command_end::Ended;
 use crate::connections::serve_connections;
-use crate::ended::Ended;
-use crate::ending::Ending;
+use crate::exit::Ending;
 use crate::port::Port;
 use crate::registry::{note_formats, open_registry, service_for};
 use crate::scripts::{script_by_registry, script_by_sample};

@@ -4,9 +4,9 @@ ghost use Rattle.std.specs.Prelude.{IfErr};
 ghost use Rattle.droid_desk_service.specs.JournalEndings.{IsCompactionEnd, IsUnopened};
 
 use crate::beside::open_beside;
+use crate::command_end::Ended;
 use crate::commands::note_sample;
-use crate::ended::Ended;
-use crate::ending::Ending;
+use crate::exit::Ending;
 use crate::journal_commands::{
     MachineJournal, file_at, journal_for, journal_in, journal_over, registry_and_service,
 };

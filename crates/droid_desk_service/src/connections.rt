@@ -7,7 +7,7 @@ ghost use Rattle.droid_wire.specs.Setting.{Setting};
 ghost use Rattle.droid_wire.specs.Serving.{GoesOnFrom};
 ghost use Rattle.droid_desk_service.specs.Streams.{CameTo};
 
-use crate::ending::Ending;
+use crate::exit::Ending;
 use droid_wire::Service;
 use std::alloc::Global;
 use std::io;

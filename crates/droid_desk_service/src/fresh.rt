@@ -4,7 +4,7 @@ ghost use Rattle.std.specs.Prelude.{◌≡◌, IfErr, IfOk, IsErrOf};
 ghost use Rattle.droid_frame.specs.Seen.{IsSound, ReportsFault};
 ghost use Rattle.droid_desk_service.specs.Fresh.{IsMadeOf, IsMadeWith, IsNoService, IsNotMadeOf};
 
-use crate::ending::Ending;
+use crate::exit::Ending;
 use droid_frame::SteadyRead;
 use droid_pronom::{Registry, RegistryFault};
 use droid_wire::{Limits, Service};

@@ -6,17 +6,17 @@
 mod advice;
 mod beside;
 mod client;
+mod command_end;
 mod commands;
 mod compaction;
 mod connections;
-mod ended;
-mod ending;
+mod exit;
 mod fresh;
 mod journal;
 mod journal_commands;
+mod journal_connections;
 mod journal_fault;
-mod journal_serving;
-mod many;
+mod many_connections;
 mod port;
 mod registry;
 mod sample;
@@ -24,12 +24,12 @@ mod scripts;
 mod smaller_journal;
 mod stream;
 
+pub use command_end::Ended;
 pub use commands::{run_command, script_command, send_command, serve_command};
 pub use compaction::compact_command;
-pub use ended::Ended;
-pub use ending::Ending;
+pub use exit::Ending;
 pub use journal_commands::{
     run_journal_command, serve_journal_command, serve_many_journal_command,
 };
-pub use many::serve_many_command;
+pub use many_connections::serve_many_command;
 pub use registry::{no_registry, note_formats, registry_bytes};

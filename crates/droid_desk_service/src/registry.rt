@@ -3,8 +3,8 @@
 ghost use Rattle.std.specs.Prelude.{◌≡◌, IfErr, IfOk};
 ghost use Rattle.droid_desk_service.specs.Fresh.{IsMade, IsUnmade};
 
-use crate::ended::Ended;
-use crate::ending::Ending;
+use crate::command_end::Ended;
+use crate::exit::Ending;
 use crate::fresh::service_with;
 use crate::sample::sample_registry;
 use droid_desk_arguments::RegistrySource;

@@ -10,7 +10,7 @@ ghost use Rattle.droid_frame.specs.InTurn.{AtMost, ReportsFaultInTurn};
 ghost use Rattle.droid_lines_script.specs.Scripts.{WritesAnswer};
 ghost use Rattle.droid_desk_service.specs.Endings.{ending_of, EndsAs, EndsOver};
 
-use crate::ending::{Ending, after_lines};
+use crate::exit::{Ending, after_lines};
 use crate::fresh::fresh_service;
 use crate::sample::sample_registry;
 use droid_frame::{SteadyRead, SteadyWrite};

@@ -10,7 +10,7 @@ ghost use Rattle.droid_wire.specs.Turns.{ReadsFrame, WritesReply};
 ghost use Rattle.droid_wire.specs.Serving.{GoesOnFrom};
 ghost use Rattle.droid_desk_service.specs.Streams.{ConnectionGives, StreamEndsAs, stream_ending_of};
 
-use crate::ending::Ending;
+use crate::exit::Ending;
 use droid_frame::{FrameFault, SteadyRead, SteadyWrite};
 use droid_wire::{Ended, ServeFault, Service, serve};
 use std::alloc::Global;

@@ -5,9 +5,9 @@ use Rattle.droid_desk_comparison.specs.ListForms.{names_files_alone}
 use Rattle.droid_desk_comparison.specs.Listings.{ListSays}
 use Rattle.droid_desk_comparison.specs.format_types.format_row.FormatRow.{FormatRow}
 use Rattle.droid_desk_comparison.specs.list_forms.list_form.ListForm.{ListForm}
-use Rattle.droid_desk_comparison.specs.list_forms.listed.Listed.{Listed}
-use Rattle.droid_desk_comparison.specs.list_forms.listed.UnreadList.{UnreadList}
-use Rattle.droid_desk_comparison.specs.list_forms.listed.UnreadList.TheVariants as unread
+use Rattle.droid_desk_comparison.specs.list_forms.list_content.Listed.{Listed}
+use Rattle.droid_desk_comparison.specs.list_forms.list_content.UnreadList.{UnreadList}
+use Rattle.droid_desk_comparison.specs.list_forms.list_content.UnreadList.TheVariants as unread
 use Rattle.droid_desk_verify.specs.Lists.{AreRows, GivesLists, ListsSay}
 use Rattle.droid_desk_verify.specs.VerifyEndings.{unlisted}
 use Rattle.droid_desk_verify.specs.declared.lists.Lists.{Lists}

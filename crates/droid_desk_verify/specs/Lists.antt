@@ -8,7 +8,7 @@ use Rattle.droid_desk_comparison.specs.Listings.{ListSays}
 use Rattle.droid_desk_comparison.specs.format_types.format_row.FormatRow.{FormatRow}
 use Rattle.droid_desk_comparison.specs.list_forms.list_form.ListForm.{ListForm}
 use Rattle.droid_desk_comparison.specs.list_forms.list_form.ListForm.TheVariants.{Profile, Checksum}
-use Rattle.droid_desk_comparison.specs.list_forms.listed.Listed.{Listed}
+use Rattle.droid_desk_comparison.specs.list_forms.list_content.Listed.{Listed}
 use Rattle.droid_desk_comparison.specs.manifest_types.form.ManifestForm.TheVariants as forms
 use Rattle.droid_desk_verify.specs.declared.lists.Lists.{Lists}
 use Rattle.droid_desk_verify.specs.declared.verify_ending.VerifyEnding.{VerifyEnding}

@@ -5,7 +5,7 @@ use Rattle.std.specs.Option.{is_some}
 use Rattle.std.specs.declared.alloc.Global.{Global}
 use Rattle.droid_frame.specs.Seen.{Counts}
 use Rattle.droid_frame.specs.Writes.{StopsWithin, WriterStops}
-use Rattle.droid_frame.specs.stream_types.seen.Seen.{Seen}
+use Rattle.droid_frame.specs.stream_types.stream_record.Seen.{Seen}
 use Rattle.droid_desk_comparison.specs.Findings.{AreFindings}
 use Rattle.droid_desk_comparison.specs.Formats.{changes_in}
 use Rattle.droid_desk_comparison.specs.ReportTexts.{report_text}

@@ -1,7 +1,7 @@
 -- How the comparison of a folder ends (this project's own).
 use Rattle.std.specs.Prelude.{ℕ, List, Option, Some, None, codes}
-use Rattle.droid_desk_comparison.specs.list_forms.listed.UnreadList.{UnreadList}
-use Rattle.droid_desk_comparison.specs.list_forms.listed.UnreadList.TheVariants as lists
+use Rattle.droid_desk_comparison.specs.list_forms.list_content.UnreadList.{UnreadList}
+use Rattle.droid_desk_comparison.specs.list_forms.list_content.UnreadList.TheVariants as lists
 use Rattle.droid_desk_comparison.specs.declared.tree_check.CheckFault.{CheckFault}
 use Rattle.droid_desk_comparison.specs.declared.tree_check.CheckFault.TheVariants as faults
 use Rattle.droid_desk_verify.specs.declared.verify_ending.VerifyEnding.{VerifyEnding}

@@ -7,7 +7,7 @@ mod outcome;
 mod verification;
 mod verify_ending;
 mod verify_sentences;
-mod walk_options;
+mod verify_walk;
 
 pub use droid_desk_comparison::{NamedRegistry, RegistryFault, profile_folder};
 pub use folder_check::verify_folder;

@@ -8,7 +8,7 @@ ghost use Rattle.droid_desk_verify.specs.Verifications.{Finishes, ListsTree, Rea
 use crate::lists::Lists;
 use crate::outcome::{outcome_of, write_outcome};
 use crate::verify_ending::VerifyEnding;
-use crate::walk_options::walk_options;
+use crate::verify_walk::walk_options;
 use droid_desk_arguments::VerifyOptions;
 use droid_desk_comparison::{
     Checked, FileFormats, FormatRow, ItemKeeper, NotedFiles, Options, Profiler, Recorder, Registry,

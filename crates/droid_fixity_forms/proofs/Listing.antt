@@ -12,8 +12,8 @@ use Rattle.droid_fixity_manifest.specs.declared.list_fault.ManifestFault.TheVari
 use Rattle.droid_fixity_forms.specs.Listings.{Comes, Says, hash_in, manifest_fault, of_manifest, of_profile, or_later, profile_fault}
 use Rattle.droid_fixity_forms.specs.declared.list_form.ListForm.{ListForm}
 use Rattle.droid_fixity_forms.specs.declared.list_form.ListForm.TheVariants.{Profile, Checksum}
-use Rattle.droid_fixity_forms.specs.declared.listed.UnreadList.{UnreadList}
-use Rattle.droid_fixity_forms.specs.declared.listed.UnreadList.TheVariants as faults
+use Rattle.droid_fixity_forms.specs.declared.list_content.UnreadList.{UnreadList}
+use Rattle.droid_fixity_forms.specs.declared.list_content.UnreadList.TheVariants as faults
 
 -- ---- items that were read
 

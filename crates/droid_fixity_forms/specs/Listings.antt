@@ -16,9 +16,9 @@ use Rattle.droid_fixity_manifest.specs.declared.list_fault.ManifestFault.TheVari
 use Rattle.droid_fixity_forms.specs.ListForms.{form_of}
 use Rattle.droid_fixity_forms.specs.declared.list_form.ListForm.{ListForm}
 use Rattle.droid_fixity_forms.specs.declared.list_form.ListForm.TheVariants.{Profile, Checksum}
-use Rattle.droid_fixity_forms.specs.declared.listed.Listed.{Listed}
-use Rattle.droid_fixity_forms.specs.declared.listed.UnreadList.{UnreadList}
-use Rattle.droid_fixity_forms.specs.declared.listed.UnreadList.TheVariants as faults
+use Rattle.droid_fixity_forms.specs.declared.list_content.Listed.{Listed}
+use Rattle.droid_fixity_forms.specs.declared.list_content.UnreadList.{UnreadList}
+use Rattle.droid_fixity_forms.specs.declared.list_content.UnreadList.TheVariants as faults
 
 -- these items, no path twice, in the order of their paths
 pub record IsInventory (items inventory : List Item) : Type 0 where

@@ -3,11 +3,11 @@
 //! folder names this crate alone.
 #![tactic(auto)]
 
+mod list_content;
 mod list_form;
-mod listed;
 
 pub use droid_fixity::{Changes, Difference, Inventory, Item, SamePath, compare};
 pub use droid_fixity_lists::ListFault;
 pub use droid_fixity_manifest::{ManifestFault, ManifestForm};
+pub use list_content::{Listed, UnreadList, read_list};
 pub use list_form::ListForm;
-pub use listed::{Listed, UnreadList, read_list};

@@ -16,8 +16,8 @@ use Rattle.droid_fixity_manifest.specs.declared.form.Escapes.{Escapes}
 use Rattle.droid_fixity_manifest.specs.declared.form.Escapes.TheVariants as escapes
 use Rattle.droid_fixity_manifest.specs.declared.form.ManifestForm.{ManifestForm}
 use Rattle.droid_fixity_manifest.specs.declared.form.ManifestForm.TheVariants.{Bag, Checksums}
-use Rattle.droid_fixity_manifest.specs.declared.meaning.Meaning.{Meaning}
-use Rattle.droid_fixity_manifest.specs.declared.meaning.Meaning.TheVariants as meanings
+use Rattle.droid_fixity_manifest.specs.declared.line_content.Meaning.{Meaning}
+use Rattle.droid_fixity_manifest.specs.declared.line_content.Meaning.TheVariants as meanings
 use Rattle.droid_fixity_manifest.proofs.Cuts.{IsCut, cut_parts, none_pass}
 use Rattle.droid_fixity_manifest.proofs.GrammarRead.{bag_entry_is, bag_parts_by}
 use Rattle.droid_fixity_manifest.proofs.Tests.{false_true}

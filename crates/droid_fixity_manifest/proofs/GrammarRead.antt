@@ -17,7 +17,7 @@ use Rattle.droid_fixity_manifest.specs.declared.form.Escapes.{Escapes}
 use Rattle.droid_fixity_manifest.specs.declared.form.Escapes.TheVariants as escapes
 use Rattle.droid_fixity_manifest.specs.declared.form.ManifestForm.{ManifestForm}
 use Rattle.droid_fixity_manifest.specs.declared.form.ManifestForm.TheVariants.{Bag, Checksums}
-use Rattle.droid_fixity_manifest.specs.declared.meaning.Meaning.TheVariants as meanings
+use Rattle.droid_fixity_manifest.specs.declared.line_content.Meaning.TheVariants as meanings
 use Rattle.droid_fixity_manifest.proofs.Cuts.{cut_found, none_pass}
 use Rattle.droid_fixity_manifest.proofs.EscapedPaths.{alone, dot_is_no_name, is_dotless, plain_dotless}
 use Rattle.droid_fixity_manifest.proofs.Tests.{false_true}

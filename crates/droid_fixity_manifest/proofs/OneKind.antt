@@ -11,8 +11,8 @@ use Rattle.droid_fixity_manifest.specs.Lists.{HaveOneKind, after, is_alike, item
 use Rattle.droid_fixity_manifest.specs.declared.form.ManifestForm.{ManifestForm}
 use Rattle.droid_fixity_manifest.specs.declared.list_fault.ManifestFault.{ManifestFault}
 use Rattle.droid_fixity_manifest.specs.declared.list_fault.ManifestFault.TheVariants as faults
-use Rattle.droid_fixity_manifest.specs.declared.meaning.Meaning.{Meaning}
-use Rattle.droid_fixity_manifest.specs.declared.meaning.Meaning.TheVariants as meanings
+use Rattle.droid_fixity_manifest.specs.declared.line_content.Meaning.{Meaning}
+use Rattle.droid_fixity_manifest.specs.declared.line_content.Meaning.TheVariants as meanings
 
 each_more : (first : Item) (items : List Item) (item : Item) → AllByRecursion (λ one. IsTrue (same_kind first.hash one.hash)) items → same_kind first.hash item.hash ≡ true
     → AllByRecursion (λ one. IsTrue (same_kind first.hash one.hash)) (items ++ item ∷ [])

@@ -14,8 +14,8 @@ use Rattle.droid_fixity_manifest.specs.ReadBack.{AreListed, IsDigest, IsListed, 
 use Rattle.droid_fixity_manifest.specs.Writing.{line, line_below, line_by, shown}
 use Rattle.droid_fixity_manifest.specs.declared.form.ManifestForm.TheVariants.{Checksums}
 use Rattle.droid_fixity_manifest.specs.declared.list_fault.ManifestFault.{ManifestFault}
-use Rattle.droid_fixity_manifest.specs.declared.meaning.Meaning.{Meaning}
-use Rattle.droid_fixity_manifest.specs.declared.meaning.Meaning.TheVariants as meanings
+use Rattle.droid_fixity_manifest.specs.declared.line_content.Meaning.{Meaning}
+use Rattle.droid_fixity_manifest.specs.declared.line_content.Meaning.TheVariants as meanings
 use Rattle.droid_fixity_manifest.proofs.ClearBytes.{first_line, is_clear, no_return}
 use Rattle.droid_fixity_manifest.proofs.Tests.{false_true}
 use Rattle.droid_fixity_manifest.proofs.WrittenLines.{AreDigits, IsBody, body_of, md5_digits_are, sha256_digits_are}

@@ -6,7 +6,7 @@ use Rattle.droid_fixity_manifest.specs.Lines.{meaning, without_return}
 use Rattle.droid_fixity_manifest.specs.Lists.{after, items_from, taken}
 use Rattle.droid_fixity_manifest.specs.declared.form.ManifestForm.{ManifestForm}
 use Rattle.droid_fixity_manifest.specs.declared.list_fault.ManifestFault.{ManifestFault}
-use Rattle.droid_fixity_manifest.specs.declared.meaning.Meaning.{Meaning}
+use Rattle.droid_fixity_manifest.specs.declared.line_content.Meaning.{Meaning}
 
 onward : (form : ManifestForm) (number : ℕ) (xs ys : List (List ℕ)) (first : Result (List Item) ManifestFault)
     → ((more : List Item) → items_from form (number + 1) more (xs ++ ys) ≡ after (items_from form (number + 1) more xs) (λ items. items_from form (number + 1 + length xs) items ys))

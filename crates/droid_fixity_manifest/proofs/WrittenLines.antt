@@ -19,7 +19,7 @@ use Rattle.droid_fixity_manifest.specs.declared.form.Escapes.{Escapes}
 use Rattle.droid_fixity_manifest.specs.declared.form.Escapes.TheVariants as escapes
 use Rattle.droid_fixity_manifest.specs.declared.form.ManifestForm.{ManifestForm}
 use Rattle.droid_fixity_manifest.specs.declared.form.ManifestForm.TheVariants.{Checksums}
-use Rattle.droid_fixity_manifest.specs.declared.meaning.Meaning.TheVariants as meanings
+use Rattle.droid_fixity_manifest.specs.declared.line_content.Meaning.TheVariants as meanings
 use Rattle.droid_fixity_manifest.proofs.ClearBytes.{digits_clear, is_clear, plain_clear}
 use Rattle.droid_fixity_manifest.proofs.Cuts.{cut_found, none_pass}
 use Rattle.droid_fixity_manifest.proofs.EscapedPaths.{escaped_clear, escaped_dotless, is_dotless, plain_dotless, unescaped_escaped}

@@ -11,8 +11,8 @@ use Rattle.droid_fixity_manifest.specs.declared.form.Escapes.{Escapes}
 use Rattle.droid_fixity_manifest.specs.declared.form.Escapes.TheVariants as escapes
 use Rattle.droid_fixity_manifest.specs.declared.form.ManifestForm.{ManifestForm}
 use Rattle.droid_fixity_manifest.specs.declared.form.ManifestForm.TheVariants.{Checksums, Bag}
-use Rattle.droid_fixity_manifest.specs.declared.meaning.Meaning.{Meaning}
-use Rattle.droid_fixity_manifest.specs.declared.meaning.Meaning.TheVariants as meanings
+use Rattle.droid_fixity_manifest.specs.declared.line_content.Meaning.{Meaning}
+use Rattle.droid_fixity_manifest.specs.declared.line_content.Meaning.TheVariants as meanings
 
 -- ---- the parts of a line
 

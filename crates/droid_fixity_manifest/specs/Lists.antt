@@ -11,8 +11,8 @@ use Rattle.droid_fixity_manifest.specs.Lines.{meaning, without_return}
 use Rattle.droid_fixity_manifest.specs.declared.form.ManifestForm.{ManifestForm}
 use Rattle.droid_fixity_manifest.specs.declared.list_fault.ManifestFault.{ManifestFault}
 use Rattle.droid_fixity_manifest.specs.declared.list_fault.ManifestFault.TheVariants as faults
-use Rattle.droid_fixity_manifest.specs.declared.meaning.Meaning.{Meaning}
-use Rattle.droid_fixity_manifest.specs.declared.meaning.Meaning.TheVariants as meanings
+use Rattle.droid_fixity_manifest.specs.declared.line_content.Meaning.{Meaning}
+use Rattle.droid_fixity_manifest.specs.declared.line_content.Meaning.TheVariants as meanings
 
 -- whether two hashes are of one kind
 abbrev pub same_kind : HashValue → HashValue → Bool

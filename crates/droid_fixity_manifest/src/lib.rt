@@ -5,12 +5,12 @@ mod checksum_line;
 mod digest;
 mod entry;
 mod form;
+mod line_content;
 mod list;
 mod list_fault;
 mod manifest_law;
-mod meaning;
 mod path;
-mod spelling;
+mod path_text;
 
 pub use checksum_line::add_line;
 pub use form::ManifestForm;

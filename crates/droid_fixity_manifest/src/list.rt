@@ -6,8 +6,8 @@ ghost use Rattle.droid_fixity_manifest.specs.Lists.{Gives, items_of};
 ghost use Rattle.droid_fixity_manifest.specs.Lists as lists;
 
 use crate::form::ManifestForm;
+use crate::line_content::{Meaning, meaning_of};
 use crate::list_fault::ManifestFault;
-use crate::meaning::{Meaning, meaning_of};
 use droid_fixity::Item;
 use droid_frame::HashValue;
 use std::alloc::{AllocError, Global};

@@ -9,7 +9,7 @@ ghost use Rattle.droid_fixity_manifest.specs.Lists.{HaveOneKind, items_of};
 ghost use Rattle.droid_fixity_manifest.specs.ReadBack.{AreListed, lines_of};
 ghost use Rattle.droid_fixity_manifest.specs.declared.form.ManifestForm.{ManifestForm};
 ghost use Rattle.droid_fixity_manifest.specs.declared.form.ManifestForm.TheVariants.{Checksums};
-ghost use Rattle.droid_fixity_manifest.specs.declared.meaning.Meaning.TheVariants.{File};
+ghost use Rattle.droid_fixity_manifest.specs.declared.line_content.Meaning.TheVariants.{File};
 
 /// States that the lines of files are read as exactly these files, in the same order.
 pub fn lines_are_read_back()

@@ -7,7 +7,7 @@ use Rattle.droid_fixity_lists.specs.declared.fault.ListFault.{ListFault}
 use Rattle.droid_fixity_lists.specs.declared.fault.ListFault.TheVariants as list
 use Rattle.droid_fixity_profile.specs.declared.see_fault.SeeFault.{SeeFault}
 use Rattle.droid_fixity_profile.specs.declared.see_fault.SeeFault.TheVariants as faults
-use Rattle.droid_fixity_profile.specs.declared.seen.Seen.{Seen}
+use Rattle.droid_fixity_profile.specs.declared.profile_check.Seen.{Seen}
 
 -- the fault that a fault of the list is
 abbrev pub fault_of : ListFault → SeeFault

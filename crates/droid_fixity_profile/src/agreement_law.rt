@@ -6,7 +6,7 @@ ghost use Rattle.droid_fixity.specs.declared.item.Item.{Item};
 ghost use Rattle.droid_fixity_lists.specs.declared.fault.ListFault.{ListFault};
 ghost use Rattle.droid_fixity_profile.specs.Agreement.{EachFoundIsListed, EachListedIsFound};
 ghost use Rattle.droid_fixity_profile.specs.Comparisons.{Sees};
-ghost use Rattle.droid_fixity_profile.specs.declared.seen.Seen.{Seen};
+ghost use Rattle.droid_fixity_profile.specs.declared.profile_check.Seen.{Seen};
 
 use droid_fixity::same_items_have_no_difference;
 

@@ -4,11 +4,11 @@
 mod agreement_law;
 mod export_law;
 mod node;
+mod profile_check;
 mod see_fault;
-mod seen;
 
 pub use agreement_law::{no_difference_is_agreement, the_items_of_the_list_agree};
 pub use export_law::export_lists_its_records;
 pub use node::item_of_node;
+pub use profile_check::{Seen, see_profile};
 pub use see_fault::SeeFault;
-pub use seen::{Seen, see_profile};

@@ -4,7 +4,7 @@ use Rattle.std.specs.Prelude.{IsErrAnd, IsErrOf}
 use Rattle.droid_frame.specs.declared.stream.arrival.Arrival.{Arrival}
 use Rattle.droid_frame.specs.declared.stream.fault.FrameFault.{FrameFault}
 use Rattle.droid_frame.specs.declared.stream.fault.FrameFault.TheVariants.{Truncated, BadVersion, TooLong, Memory, Read}
-use Rattle.droid_frame_stream.specs.declared.seen.Seen.{Seen}
+use Rattle.droid_frame_stream.specs.declared.stream_record.Seen.{Seen}
 use Rattle.droid_frame_stream.specs.Seen.{Counts, ReportsFault}
 use Rattle.droid_frame_stream.proofs.Scopes.{reported_fault, reported_none}
 use Rattle.droid_frame.specs.StreamReads.{FaultCounts, ReadsOn}

@@ -11,7 +11,7 @@ use Rattle.droid_frame_bodies.specs.Fields.{IsBytes, IsU32}
 use Rattle.droid_frame_bodies.specs.Frames.{frame_bytes}
 use Rattle.droid_frame_bodies.specs.Versions.{IsVersion, is_version}
 use Rattle.droid_frame.specs.Headers.{header_bytes}
-use Rattle.droid_frame_stream.specs.declared.seen.Seen.{Seen}
+use Rattle.droid_frame_stream.specs.declared.stream_record.Seen.{Seen}
 use Rattle.droid_frame_stream.specs.Reads.{ConsumesFewer}
 use Rattle.droid_frame_stream.specs.Seen.{Counts, GivesUp}
 use Rattle.droid_frame.specs.Streams.{IsReadable, BeginsNoFrame, header_size, version_in, length_in, why}

@@ -15,7 +15,7 @@ use Rattle.droid_frame_feed.specs.Feeding.{IsOfBytes}
 use Rattle.droid_frame_feed.specs.Headers.{IsHeader, header_bytes, judged, judged_at}
 use Rattle.droid_frame_feed.specs.Parts.{IsBetween, Lacks, came}
 use Rattle.droid_frame_feed.specs.declared.parts.Parts.{Parts}
-use Rattle.droid_frame_feed.specs.declared.header.Header.{Header}
+use Rattle.droid_frame_feed.specs.declared.feed_header.Header.{Header}
 use Rattle.droid_frame_feed.proofs.Fronts.{Judged, faulty_is, good_is, judged_is, other_version, too_long, why_cut, why_short}
 use Rattle.droid_frame_feed.proofs.Taking.{held_whole}
 

@@ -16,7 +16,7 @@ use Rattle.droid_frame.specs.types.frame.Frame.{Frame}
 use Rattle.droid_frame.proofs.BodyLimits.{limit_at_most, version_not}
 use Rattle.droid_frame_feed.specs.Feeding.{IsFaulty, MayGoOn}
 use Rattle.droid_frame_feed.specs.Headers.{IsHeader, header_bytes, judged, judged_at}
-use Rattle.droid_frame_feed.specs.declared.header.Header.{Header}
+use Rattle.droid_frame_feed.specs.declared.feed_header.Header.{Header}
 
 -- ---- what stands in the bytes
 

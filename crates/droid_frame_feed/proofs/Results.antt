@@ -10,7 +10,7 @@ use Rattle.droid_frame.specs.declared.stream.fault.FrameFault.TheVariants.{Trunc
 use Rattle.droid_frame.specs.types.frame.Frame.{Frame}
 use Rattle.droid_frame.proofs.StreamFrames.{why_nothing}
 use Rattle.droid_frame_feed.specs.Feeding.{Brings, Fails, Feeds, IsFaulty, Waits}
-use Rattle.droid_frame_feed.specs.declared.fed.Fed.{Fed}
+use Rattle.droid_frame_feed.specs.declared.feed_result.Fed.{Fed}
 use Rattle.droid_frame_feed.proofs.Fronts.{why_good}
 
 pub bound_of : (old piece new : List ℕ) (r : Result Fed FrameFault) → Feeds old piece new r → IfOk r (λ fed. fed.taken ≤ length piece)

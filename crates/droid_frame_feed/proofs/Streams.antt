@@ -10,7 +10,7 @@ use Rattle.droid_frame.specs.declared.stream.fault.FrameFault.{FrameFault}
 use Rattle.droid_frame.specs.declared.stream.fault.FrameFault.TheVariants.{Truncated, BadVersion, TooLong, Memory, Read}
 use Rattle.droid_frame.specs.types.frame.Frame.{Frame}
 use Rattle.droid_frame_feed.specs.Feeding.{Brings, Feeds, ReadsOn, Refuses, Waits}
-use Rattle.droid_frame_feed.specs.declared.fed.Fed.{Fed}
+use Rattle.droid_frame_feed.specs.declared.feed_result.Fed.{Fed}
 use Rattle.droid_frame_feed.proofs.Taking.{take_whole}
 
 readable_more : (frames : List Frame) (frame : Frame) → AllByRecursion IsReadable frames → IsReadable frame → AllByRecursion IsReadable (frames ++ frame ∷ [])

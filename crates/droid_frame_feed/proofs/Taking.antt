@@ -14,8 +14,8 @@ use Rattle.droid_frame_feed.specs.Feeding.{Brings, Fails, Feeds, IsFaulty, MayGo
 use Rattle.droid_frame_feed.specs.Headers.{IsHeader, header_bytes, judged, judged_at}
 use Rattle.droid_frame_feed.specs.Parts.{IsBetween, Lacks, came}
 use Rattle.droid_frame_feed.specs.declared.parts.Parts.{Parts}
-use Rattle.droid_frame_feed.specs.declared.fed.Fed.{Fed}
-use Rattle.droid_frame_feed.specs.declared.header.Header.{Header}
+use Rattle.droid_frame_feed.specs.declared.feed_result.Fed.{Fed}
+use Rattle.droid_frame_feed.specs.declared.feed_header.Header.{Header}
 use Rattle.droid_frame_feed.proofs.Fronts.{Judged, cut_goes_on, faulty_is, frame_bytes_are, good_is, judged_bytes, judged_is, names_some, other_version, readable_is, short_goes_on, too_long}
 
 -- ---- lists

@@ -7,7 +7,7 @@ use Rattle.droid_frame.specs.Streams.{BeginsNoFrame, Frames, IsReadable, why}
 use Rattle.droid_frame.specs.declared.stream.fault.FrameFault.{FrameFault}
 use Rattle.droid_frame.specs.declared.stream.fault.FrameFault.TheVariants.{Truncated, BadVersion, TooLong, Memory, Read}
 use Rattle.droid_frame.specs.types.frame.Frame.{Frame}
-use Rattle.droid_frame_feed.specs.declared.fed.Fed.{Fed}
+use Rattle.droid_frame_feed.specs.declared.feed_result.Fed.{Fed}
 
 -- the bytes have this fault, and whatever follows them, it stays
 pub record IsFaulty (bytes : List ℕ) (fault : FrameFault) : Type 0 where

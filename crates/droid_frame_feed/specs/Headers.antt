@@ -6,7 +6,7 @@ use Rattle.droid_frame.specs.Streams.{length_in, version_in}
 use Rattle.droid_frame.specs.Versions.{is_version}
 use Rattle.droid_frame.specs.declared.stream.fault.FrameFault.{FrameFault}
 use Rattle.droid_frame.specs.declared.stream.fault.FrameFault.TheVariants.{BadVersion, TooLong}
-use Rattle.droid_frame_feed.specs.declared.header.Header.{Header}
+use Rattle.droid_frame_feed.specs.declared.feed_header.Header.{Header}
 
 -- version, kind, client, number, the length of the body
 abbrev pub header_bytes : Header → List ℕ

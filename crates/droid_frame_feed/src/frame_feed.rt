@@ -6,7 +6,7 @@ ghost use Rattle.droid_frame.specs.types.frame.Frame.{Frame};
 ghost use Rattle.droid_frame.specs.declared.stream.arrival.Arrival.TheVariants as arrivals;
 ghost use Rattle.droid_frame_feed.specs.Feeding.{Brings, Fails, IsFaulty, IsOfBytes, ReadsOn, Waits};
 
-use crate::fed::Fed;
+use crate::feed_result::Fed;
 use crate::parts::Parts;
 use droid_frame::{FrameFault, HEADER_LENGTH};
 use std::alloc::Global;

@@ -5,10 +5,10 @@
 #![tactic(auto)]
 
 mod body;
-mod fed;
+mod feed_header;
+mod feed_result;
 mod frame_feed;
-mod header;
 mod parts;
 
-pub use fed::Fed;
+pub use feed_result::Fed;
 pub use frame_feed::FrameFeed;

@@ -7,8 +7,8 @@ ghost use Rattle.droid_frame_feed.specs.Feeding.{Feeds, IsOfBytes};
 ghost use Rattle.droid_frame_feed.specs.Parts.{IsBetween, came};
 
 use crate::body::append;
-use crate::fed::Fed;
-use crate::header::Header;
+use crate::feed_header::Header;
+use crate::feed_result::Fed;
 use droid_frame::{FrameFault, HEADER_LENGTH};
 use std::alloc::Global;
 use std::mem;

@@ -1,7 +1,7 @@
 -- Streams over one item after another.
 use Rattle.std.proofs.Common.{◌≡◌, ℕ, ◌+◌, List, [], ◌∷◌, ◌++◌, length, refl, sym, ap, subst, arith, inl, inr, length-append}
 use Rattle.droid_frame_stream.specs.Seen.{IsSound, Lasts}
-use Rattle.droid_frame_stream.specs.declared.seen.Seen.{Seen}
+use Rattle.droid_frame_stream.specs.declared.stream_record.Seen.{Seen}
 use Rattle.droid_frame_stream.specs.InTurn.{Effect, GoesOver, ReportsFaultInOne, ReportsFaultInTurn}
 
 -- one more

@@ -1,7 +1,7 @@
 -- What was read where no input came.
 use Rattle.std.proofs.Common.{◌≡◌, ℕ, List, Option, Result, Ok, Err, IfErr, sym, subst}
 use Rattle.std.specs.Prelude.{IsErrAnd}
-use Rattle.droid_frame_stream.specs.declared.fault.InputFault.{InputFault}
+use Rattle.droid_frame_stream.specs.declared.stream_fault.InputFault.{InputFault}
 use Rattle.droid_frame_stream.specs.Reads.{ReadsNoInput}
 
 -- what `?` passes on

@@ -1,7 +1,7 @@
 -- One frame, file or text: its interruptions are counted from its start on.
 use Rattle.std.proofs.Common.{◌≡◌, ℕ, Result, Ok, Err, sym, ap, subst, arith}
 use Rattle.std.specs.Prelude.{IsErrAnd, IsErrOf}
-use Rattle.droid_frame_stream.specs.declared.seen.Seen.{Seen}
+use Rattle.droid_frame_stream.specs.declared.stream_record.Seen.{Seen}
 use Rattle.droid_frame_stream.specs.Seen.{IsSound, Lasts, GivesUp, ReportsFault, Counts, CountsOn}
 
 -- none so far

@@ -1,6 +1,6 @@
 -- A writer that takes no byte has failed, or is full; and what that leaves.
 use Rattle.std.proofs.Common.{◌≡◌, ℕ, zero, suc, ◌+◌, ◌<◌, Option, Some, None, refl, sym, ap, ◌∙◌, arith, inl, inr}
-use Rattle.droid_frame_stream.specs.declared.seen.Seen.{Seen}
+use Rattle.droid_frame_stream.specs.declared.stream_record.Seen.{Seen}
 use Rattle.droid_frame_stream.specs.Seen.{Counts, GivesUp}
 use Rattle.droid_frame_stream.proofs.Scopes.{lasts}
 use Rattle.droid_frame_stream.specs.Writes.{AddsTaken, HasRoom, ReportsWrite, Takes, WriterStops}

@@ -1,7 +1,7 @@
 -- Streams over several frames, replies or lines, one after another. In each of them 64 interruptions are tried again
 -- (this project's own rule).
 use Rattle.std.specs.Prelude.{◌≡◌, ℕ, ◌+◌, ◌⊎◌, List, [], ◌∷◌, length, ◌≤◌, Option, IfSome}
-use Rattle.droid_frame_stream.specs.declared.seen.Seen.{Seen}
+use Rattle.droid_frame_stream.specs.declared.stream_record.Seen.{Seen}
 use Rattle.droid_frame_stream.specs.Seen.{Lasts, ReportsFault}
 
 -- What an item (a frame, a reply or a line) does to a stream: `whole` relates the stream before and after all of this

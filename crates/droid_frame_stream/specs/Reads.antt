@@ -2,9 +2,9 @@
 use Rattle.std.specs.Prelude.{◌≡◌, ℕ, ◌+◌, ◌<◌, List, Option, Result, Ok, Err, length}
 use Rattle.std.specs.Io.KnownBytes.{Consumes}
 use Rattle.std.specs.declared.io.Error.{Error}
-use Rattle.droid_frame_stream.specs.declared.seen.Seen.{Seen}
-use Rattle.droid_frame_stream.specs.declared.fault.InputFault.{InputFault}
-use Rattle.droid_frame_stream.specs.declared.fault.InputFault.TheVariants.{TooLong, Memory, Read}
+use Rattle.droid_frame_stream.specs.declared.stream_record.Seen.{Seen}
+use Rattle.droid_frame_stream.specs.declared.stream_fault.InputFault.{InputFault}
+use Rattle.droid_frame_stream.specs.declared.stream_fault.InputFault.TheVariants.{TooLong, Memory, Read}
 use Rattle.droid_frame_stream.specs.Seen.{AddsError}
 
 -- what a read of a sound reader adds

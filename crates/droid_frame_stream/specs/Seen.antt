@@ -3,8 +3,8 @@ use Rattle.std.specs.Prelude.{◌≡◌, ℕ, ◌+◌, ◌≤◌, ◌⊎◌, Res
 use Rattle.std.specs.IoError.{error_kind}
 use Rattle.std.specs.declared.io.Error.{Error}
 use Rattle.std.specs.declared.io.ErrorKind.TheVariants.{Interrupted}
-use Rattle.droid_frame_stream.specs.declared.seen.Seen.{Seen}
-use Rattle.droid_frame_stream.specs.declared.seen.Condition.TheVariants.{Sound, Failed}
+use Rattle.droid_frame_stream.specs.declared.stream_record.Seen.{Seen}
+use Rattle.droid_frame_stream.specs.declared.stream_record.Condition.TheVariants.{Sound, Failed}
 
 -- the stream hasn't failed
 abbrev pub IsSound : Seen → Type 0

@@ -2,7 +2,7 @@
 use Rattle.std.specs.Prelude.{◌≡◌, ℕ, ◌+◌, ◌-◌, ◌<◌, ◌≤◌, ◌⊎◌, List, Option, Some, None, Result, Ok, Err, length, take}
 use Rattle.std.specs.Io.KnownBytes.{Appends}
 use Rattle.std.specs.declared.io.Error.{Error}
-use Rattle.droid_frame_stream.specs.declared.seen.Seen.{Seen}
+use Rattle.droid_frame_stream.specs.declared.stream_record.Seen.{Seen}
 use Rattle.droid_frame_stream.specs.Seen.{AddsError, Counts, GivesUp, Lasts, after_failure}
 
 -- there is room for `count` bytes; `None` is a writer whose room has no end or isn't known

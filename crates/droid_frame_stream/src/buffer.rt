@@ -6,9 +6,9 @@ ghost use Rattle.std.specs.Io.KnownBytes.{Consumes, IsAtEnd, ReadConsumes};
 ghost use Rattle.droid_frame_stream.specs.Seen.{Counts, CountsOn};
 ghost use Rattle.droid_frame_stream.specs.Reads.{ConsumesFewer};
 
-use crate::fault::ReadFault;
 use crate::retries::Retries;
 use crate::steady::SteadyRead;
+use crate::stream_fault::ReadFault;
 
 /// Reads once, as many bytes as the reader returns. An interrupted read is tried again.
 pub fn read_some<R: SteadyRead>(

@@ -6,9 +6,9 @@ ghost use Rattle.droid_frame_stream.specs.Seen.{IsSound, ReportsFault};
 ghost use Rattle.droid_frame_stream.specs.Reads.{ReadsNoInput};
 
 use crate::buffer::read_some;
-use crate::fault::InputFault;
 use crate::retries::Retries;
 use crate::steady::SteadyRead;
+use crate::stream_fault::InputFault;
 use std::alloc::Global;
 
 /// The most bytes that one read asks for.

@@ -5,19 +5,19 @@
 #![tactic(auto)]
 
 mod buffer;
-mod fault;
 mod input;
-mod noted;
 mod output;
+mod recorded_stream;
 mod retries;
-mod seen;
 mod steady;
+mod stream_fault;
+mod stream_record;
 
 pub use buffer::{fill, read_some};
-pub use fault::{InputFault, ReadFault, WriteFault};
 pub use input::read_to_end;
-pub use noted::Noted;
 pub use output::{WriteState, write_all};
+pub use recorded_stream::Noted;
 pub use retries::Retries;
-pub use seen::{Condition, Seen};
 pub use steady::{SteadyRead, SteadyWrite};
+pub use stream_fault::{InputFault, ReadFault, WriteFault};
+pub use stream_record::{Condition, Seen};

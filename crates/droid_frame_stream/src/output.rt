@@ -5,9 +5,9 @@ ghost use Rattle.std.specs.Io.KnownBytes.{Appends, Keeps};
 ghost use Rattle.droid_frame_stream.specs.Seen.{Counts};
 ghost use Rattle.droid_frame_stream.specs.Writes.{StopsWithin, Takes, WriterStops, WritesOn};
 
-use crate::fault::WriteFault;
 use crate::retries::Retries;
 use crate::steady::SteadyWrite;
+use crate::stream_fault::WriteFault;
 
 /// How much of a frame or a text has been written, over all calls for it.
 #[derive(Drop)]

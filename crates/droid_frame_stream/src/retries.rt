@@ -1,7 +1,7 @@
 //! The count of interruptions that are tried again.
 
 ghost use Rattle.std.specs.Prelude.{◌≡◌, ℕ, ◌+◌, ◌≤◌, IsTrue, MatchBool};
-ghost use Rattle.droid_frame_stream.specs.declared.seen.Seen.{Seen};
+ghost use Rattle.droid_frame_stream.specs.declared.stream_record.Seen.{Seen};
 ghost use Rattle.droid_frame_stream.specs.Seen.{AddsError, Counts, GivesUp};
 
 use std::io::{Error, ErrorKind};

@@ -6,8 +6,8 @@
 ghost use Rattle.std.specs.Prelude.{◌≡◌, ℕ, Option, Some, None, length};
 ghost use Rattle.std.specs.Io.{ReadsAtMost, WritesAtMost};
 ghost use Rattle.std.specs.Io.KnownBytes.{ReadConsumes, WriteAppends};
-ghost use Rattle.droid_frame_stream.specs.declared.seen.Seen.{Seen};
-ghost use Rattle.droid_frame_stream.specs.declared.seen.Condition.TheVariants.{UsedSince};
+ghost use Rattle.droid_frame_stream.specs.declared.stream_record.Seen.{Seen};
+ghost use Rattle.droid_frame_stream.specs.declared.stream_record.Condition.TheVariants.{UsedSince};
 ghost use Rattle.droid_frame_stream.specs.Seen.{IsSound, fresh};
 ghost use Rattle.droid_frame_stream.specs.Reads.{AddsRead};
 ghost use Rattle.droid_frame_stream.specs.Writes.{AddsWrite, LeavesRoom};

@@ -10,9 +10,9 @@ use Rattle.droid_journal_chain.proofs.Chains.{front_bytes, read_is_written, sync
 use Rattle.droid_journal.specs.Opening.{Begun, HandedOn, Hands, HasHeader, IsBegun, IsKept, IsReady, ReadsAll, Records, WasFound, WasRefuted}
 use Rattle.droid_journal.specs.Faults.{IsOfReading}
 use Rattle.droid_journal.specs.Replaying.{Fails}
-use Rattle.droid_journal.specs.declared.fault.Fault.{Fault}
-use Rattle.droid_journal.specs.declared.fault.Fault.TheVariants as faults
-use Rattle.droid_journal.specs.declared.opening.Opened.{Opened}
+use Rattle.droid_journal.specs.declared.journal_fault.Fault.{Fault}
+use Rattle.droid_journal.specs.declared.journal_fault.Fault.TheVariants as faults
+use Rattle.droid_journal.specs.declared.start.Opened.{Opened}
 use Rattle.droid_journal.specs.declared.place.Place.{Place}
 
 -- ---- the header; `seen` are the first 16 MiB of the file

@@ -1,7 +1,7 @@
 -- Which faults come of reading a file, and of writing one.
 use Rattle.std.specs.Prelude.{Option, None, Some}
-use Rattle.droid_journal.specs.declared.fault.Fault.{Fault}
-use Rattle.droid_journal.specs.declared.fault.Fault.TheVariants as faults
+use Rattle.droid_journal.specs.declared.journal_fault.Fault.{Fault}
+use Rattle.droid_journal.specs.declared.journal_fault.Fault.TheVariants as faults
 
 -- neither that the file was damaged, nor that it has another header, nor that it could not be written
 abbrev pub IsOfReading : Fault → Type 0

@@ -6,9 +6,9 @@ use Rattle.droid_journal_chain.specs.Chains.{BeginsNoRecord, Chain, HasLater, ch
 use Rattle.droid_journal_chain.specs.Fronts.{IsFront}
 use Rattle.droid_journal_chain.specs.Records.{AllFit, Fits, Record}
 use Rattle.droid_journal.specs.Replaying.{Gave, Refutes}
-use Rattle.droid_journal.specs.declared.opening.Beginning.{Beginning}
-use Rattle.droid_journal.specs.declared.opening.Beginning.TheVariants as beginnings
-use Rattle.droid_journal.specs.declared.opening.Opened.{Opened}
+use Rattle.droid_journal.specs.declared.start.Beginning.{Beginning}
+use Rattle.droid_journal.specs.declared.start.Beginning.TheVariants as beginnings
+use Rattle.droid_journal.specs.declared.start.Opened.{Opened}
 use Rattle.droid_journal.specs.declared.place.Place.{Place}
 
 -- the file has these bytes behind its header

@@ -6,11 +6,11 @@ ghost use Rattle.droid_journal_chain.specs.Chains.{NoneLaterByChance, NotByChanc
 ghost use Rattle.droid_journal_chain.specs.Fronts.{IsFront};
 ghost use Rattle.droid_journal_chain.specs.Records.{Record};
 
-use crate::fault::Fault;
 use crate::journal::Journal;
+use crate::journal_fault::Fault;
 use crate::log_file::{FileError, LogFile};
 use crate::machine::Machine;
-use crate::opening::open;
+use crate::start::open;
 use std::alloc::Global;
 
 /// A file that a crash may befall.

@@ -12,11 +12,11 @@ ghost use Rattle.droid_journal.specs.Standing.{IsSettled, Stands, WroteOne};
 ghost use Rattle.droid_journal_chain.specs.Fronts.{IsFront};
 ghost use Rattle.droid_journal_chain.specs.Records.{Fits, Record, checksum, made, next_check, record_bytes};
 
-use crate::fault::Fault;
 use crate::frames::{is_carried, reply_bytes, request_bytes};
+use crate::journal_fault::Fault;
 use crate::log_file::LogFile;
 use crate::machine::Machine;
-use crate::opening::Opened;
+use crate::start::Opened;
 use droid_frame::{Frame, Refusal, Reply, mark};
 use droid_journal_chain::record;
 use std::alloc::{AllocError, Global};

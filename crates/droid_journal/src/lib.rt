@@ -6,19 +6,19 @@
 #![tactic(auto)]
 
 mod crash;
-mod fault;
+mod file_records;
 mod frames;
 mod journal;
+mod journal_fault;
 mod log_file;
 mod machine;
-mod opening;
 mod place;
-mod reading;
-mod replaying;
+mod replay;
+mod start;
 
 pub use crash::{Tears, crash_and_reopen};
-pub use fault::Fault;
 pub use journal::Journal;
+pub use journal_fault::Fault;
 pub use log_file::{FileError, LogFile};
 pub use machine::{Handled, Machine};
-pub use opening::{Opened, open};
+pub use start::{Opened, open};

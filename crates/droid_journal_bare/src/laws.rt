@@ -11,7 +11,7 @@ ghost use Rattle.droid_frame.specs.types.reply.Reply.{Reply};
 ghost use Rattle.droid_frame.specs.types.request.Request.{Request};
 ghost use Rattle.droid_journal_bare.specs.BareFrames.{bare_finish, bare_finish_bytes, bare_piece, bare_piece_bytes};
 
-use crate::writing::{BARE_FINISH, BARE_PIECE};
+use crate::frame_writer::{BARE_FINISH, BARE_PIECE};
 
 /// A frame of a bare kind spells no request, so a service refuses it as malformed.
 pub fn a_bare_frame_spells_no_request()

@@ -4,7 +4,7 @@
 //! its kind is none of a request ([`laws::a_bare_frame_spells_no_request`]).
 #![tactic(auto)]
 
+mod frame_writer;
 pub mod laws;
-mod writing;
 
-pub use writing::{BARE_FINISH, BARE_PIECE, bare_finish, bare_piece, bare_piece_by};
+pub use frame_writer::{BARE_FINISH, BARE_PIECE, bare_finish, bare_piece, bare_piece_by};

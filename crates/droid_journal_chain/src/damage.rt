@@ -4,7 +4,7 @@ ghost use Rattle.std.specs.Prelude.{◌≡◌, ◌↔◌, IsTrue, true};
 ghost use Rattle.droid_journal_chain.specs.Chains.{HasLater, IsLater};
 
 use crate::checks::is_sealed;
-use crate::reading::record_of;
+use crate::record_reader::record_of;
 
 /// How many bytes a check value has.
 const CHECK: usize = 16;

@@ -8,11 +8,11 @@ mod checks;
 mod checksums;
 mod damage;
 pub mod laws;
-mod reading;
-mod writing;
+mod record_reader;
+mod record_writer;
 
 pub use checks::start_of;
 pub use checksums::checksum_of;
 pub use damage::has_later;
-pub use reading::{Found, record_by, record_of, request_of};
-pub use writing::record;
+pub use record_reader::{Found, record_by, record_of, request_of};
+pub use record_writer::record;

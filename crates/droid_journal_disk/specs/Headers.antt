@@ -1,6 +1,6 @@
 -- Why no header can be made.
-use Rattle.droid_journal.specs.declared.fault.Fault.{Fault}
-use Rattle.droid_journal.specs.declared.fault.Fault.TheVariants as faults
+use Rattle.droid_journal.specs.declared.journal_fault.Fault.{Fault}
+use Rattle.droid_journal.specs.declared.journal_fault.Fault.TheVariants as faults
 
 -- memory ran out, or the file could not be read
 abbrev pub IsMemoryOrRead : Fault → Type 0

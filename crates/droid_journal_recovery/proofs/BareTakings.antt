@@ -12,8 +12,8 @@ use Rattle.droid_core_revival.specs.BareWorlds.{Bare}
 use Rattle.droid_core_revival.specs.core.state.Changes.{stamp_of}
 use Rattle.droid_core_revival.specs.FoundWords.{FindsWords}
 use Rattle.droid_core_revival.specs.Recovering.{IsBareFinish, IsBarePiece, Recovers}
-use Rattle.droid_core_revival.specs.declared.fault.RecoveryFault.{RecoveryFault}
-use Rattle.droid_core_revival.specs.declared.fault.RecoveryFault.TheVariants.{Memory}
+use Rattle.droid_core_revival.specs.declared.revival_fault.RecoveryFault.{RecoveryFault}
+use Rattle.droid_core_revival.specs.declared.revival_fault.RecoveryFault.TheVariants.{Memory}
 use Rattle.droid_core_revival.specs.core.state.declared.holdings.Holdings.{Holdings}
 use Rattle.droid_core_revival.specs.core.state.declared.stamps.Stamp.{Stamp}
 use Rattle.droid_journal_bare.specs.BareFrames.{bare_finish, bare_piece}

@@ -12,7 +12,7 @@ use Rattle.droid_core_revival.specs.core.MemoryFaults.{is_out_of_memory}
 use Rattle.droid_core_revival.specs.core.Setting.{Setting}
 use Rattle.droid_journal_chain.specs.Records.{Record}
 use Rattle.droid_journal_recovery.specs.BareRecords.{HaveHistory, IsAfter}
-use Rattle.droid_journal_recovery.specs.declared.machine.RecoveringMachine.{RecoveringMachine}
+use Rattle.droid_journal_recovery.specs.declared.recovery_machine.RecoveringMachine.{RecoveringMachine}
 
 -- a service's setting, and which files are bare
 pub record Recovery : Type 0 where

@@ -4,10 +4,10 @@
 //! the history of the accepted requests, as one does that got them whole. The crate re-exports the service.
 #![tactic(auto)]
 
-mod machine;
-mod reading;
-mod taking;
+mod frame_reader;
+mod record_step;
+mod recovery_machine;
 
 pub use droid_core_revival::{Frame, Limits, Registry, Reply, Service};
 pub use droid_journal_bare::{BARE_FINISH, BARE_PIECE};
-pub use machine::RecoveringMachine;
+pub use recovery_machine::RecoveringMachine;

@@ -1,6 +1,6 @@
 -- For proofs: which faults come of taking and of reading records.
-use Rattle.droid_journal_rewriting.specs.declared.fault.RewriteFault.{RewriteFault}
-use Rattle.droid_journal_rewriting.specs.declared.fault.RewriteFault.TheVariants as faults
+use Rattle.droid_journal_rewriting.specs.declared.rewrite_fault.RewriteFault.{RewriteFault}
+use Rattle.droid_journal_rewriting.specs.declared.rewrite_fault.RewriteFault.TheVariants as faults
 
 -- out of memory, or the new file was not written
 abbrev pub IsOfTaking : RewriteFault → Type 0

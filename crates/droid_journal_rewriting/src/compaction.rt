@@ -6,8 +6,8 @@ ghost use Rattle.droid_journal_rewriting.specs.Shortening.{HasBehind, IsShortene
 ghost use Rattle.droid_journal_rewriting.specs.Sizes.{AreSizes};
 
 use crate::exchange::{Exchange, replace};
-use crate::fault::RewriteFault;
 use crate::new_file::{Smaller, rewrite};
+use crate::rewrite_fault::RewriteFault;
 use droid_journal::LogFile;
 use std::alloc::Global;
 

@@ -8,9 +8,9 @@ ghost use Rattle.droid_journal_rewriting.specs.Numbers.{has_number};
 ghost use Rattle.droid_journal_rewriting.specs.Shortening.{IsWhole, has_ended, once};
 ghost use Rattle.droid_journal_rewriting.specs.Skimming.{IsFrontOf};
 
-use crate::fault::RewriteFault;
 use crate::fields::is_end;
 use crate::numbers::Numbers;
+use crate::rewrite_fault::RewriteFault;
 use crate::skim::{Front, skim};
 use droid_journal::LogFile;
 use std::alloc::Global;

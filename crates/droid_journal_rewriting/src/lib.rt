@@ -9,12 +9,12 @@
 mod compaction;
 mod ended_files;
 mod exchange;
-mod fault;
 mod fields;
 mod folder;
 pub mod laws;
 mod new_file;
 mod numbers;
+mod rewrite_fault;
 mod rewriter;
 mod size;
 mod skim;
@@ -26,8 +26,8 @@ mod whole;
 
 pub use compaction::compact;
 pub use exchange::{Exchange, replace};
-pub use fault::RewriteFault;
 pub use folder::Folder;
 pub use new_file::{Smaller, rewrite};
+pub use rewrite_fault::RewriteFault;
 pub use size::Size;
 pub use weight::is_mostly_ended;

@@ -9,8 +9,8 @@ ghost use Rattle.droid_journal_rewriting.specs.Shortening.{HasBehind, IsShortene
 ghost use Rattle.droid_journal_rewriting.specs.Sizes.{AreSizes, IsSizeOf};
 
 use crate::ended_files::ended_in;
-use crate::fault::RewriteFault;
 use crate::numbers::Numbers;
+use crate::rewrite_fault::RewriteFault;
 use crate::rewriter::{Rewriter, flush};
 use crate::size::Size;
 use crate::walk::WINDOW;

@@ -6,9 +6,9 @@ ghost use Rattle.droid_journal_chain.specs.Records.{Fits, checksum, made, next_c
 ghost use Rattle.droid_journal_rewriting.specs.Numbers.{has_number};
 ghost use Rattle.droid_journal_rewriting.specs.Shortening.{smaller_request};
 
-use crate::fault::RewriteFault;
 use crate::fields::{FINISH, PIECE, file_of, is_about, stamp_of};
 use crate::numbers::Numbers;
+use crate::rewrite_fault::RewriteFault;
 use crate::taker::Taker;
 use droid_journal::LogFile;
 use droid_journal_bare::{bare_finish, bare_piece_by};

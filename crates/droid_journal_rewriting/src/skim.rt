@@ -9,8 +9,8 @@ ghost use Rattle.droid_journal_rewriting.specs.Noting.{AreNoted};
 ghost use Rattle.droid_journal_rewriting.specs.Skimming.{IsFrontOf};
 
 use crate::ended_files::Ended;
-use crate::fault::RewriteFault;
 use crate::fields::{file_of, stamp_of};
+use crate::rewrite_fault::RewriteFault;
 use droid_journal::LogFile;
 
 /// How many bytes are read at the front of a record.

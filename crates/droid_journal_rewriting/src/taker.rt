@@ -3,7 +3,7 @@
 ghost use Rattle.std.specs.Prelude.{◌≡◌, ◌+◌, ◌≤◌, ◌++◌, ◌∷◌, [], Bool, List, length, IfErr, OnOk};
 ghost use Rattle.droid_journal_chain.specs.Records.{Record, checksum, made};
 
-use crate::fault::RewriteFault;
+use crate::rewrite_fault::RewriteFault;
 
 /// What takes the records of a file, one after another.
 pub(crate) trait Taker {

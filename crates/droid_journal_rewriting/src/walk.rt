@@ -7,7 +7,7 @@ ghost use Rattle.droid_journal_rewriting.specs.Faults.{IsOfReading, IsOfTaking};
 ghost use Rattle.droid_journal_rewriting.specs.Sums.{AreSumsIn};
 ghost use Rattle.droid_journal_rewriting.specs.Taking.{Passes, StandIn, StandThere, Takes};
 
-use crate::fault::RewriteFault;
+use crate::rewrite_fault::RewriteFault;
 use crate::sums::{Sums, is_long};
 use crate::taker::Taker;
 use droid_journal::LogFile;

@@ -9,9 +9,9 @@ ghost use Rattle.droid_journal_rewriting.specs.Shortening.{HasBehind, IsWhole};
 ghost use Rattle.droid_journal_rewriting.specs.Sizes.{AreMostlyEnded, piece_bytes};
 
 use crate::ended_files::ended_in;
-use crate::fault::RewriteFault;
 use crate::fields::{PIECE, file_of, is_about};
 use crate::numbers::Numbers;
+use crate::rewrite_fault::RewriteFault;
 use crate::taker::Taker;
 use crate::walk::WINDOW;
 use crate::whole::take_whole;

@@ -7,7 +7,7 @@ ghost use Rattle.droid_journal_rewriting.specs.Faults.{IsOfReading};
 ghost use Rattle.droid_journal_rewriting.specs.Shortening.{HasBehind, IsWhole};
 ghost use Rattle.droid_journal_rewriting.specs.Sizes.{IsSizeOf};
 
-use crate::fault::RewriteFault;
+use crate::rewrite_fault::RewriteFault;
 use crate::size::Size;
 use crate::taker::Taker;
 use crate::walk::{Place, take_all};

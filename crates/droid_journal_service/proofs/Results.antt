@@ -1,8 +1,8 @@
 -- What holds of a value that may be missing.
 use Rattle.std.proofs.Common.{◌≡◌, Option, Some, None, IsSome, Result, Ok, Err, refl, subst}
 use Rattle.std.specs.Prelude.{IfErr, IfOk, IfSome, IsErrOf}
-use Rattle.droid_journal_disk.specs.journal.declared.fault.Fault.{Fault}
-use Rattle.droid_journal_disk.specs.journal.declared.fault.Fault.TheVariants.{Memory}
+use Rattle.droid_journal_disk.specs.journal.declared.journal_fault.Fault.{Fault}
+use Rattle.droid_journal_disk.specs.journal.declared.journal_fault.Fault.TheVariants.{Memory}
 
 -- there is none
 pub none_there : {A : Type 0} (P : A → Type 0) (o : Option A) → (IsSome o → ⊥) → IfSome o P

@@ -4,8 +4,8 @@ use Rattle.std.specs.Prelude.{IsErrAnd, IsErrOf}
 use Rattle.std.proofs.lemmas.List.{take-append-drop}
 use Rattle.droid_frame.specs.StreamWrites.{Stops}
 use Rattle.droid_frame.specs.Writes.{StopsWithin}
-use Rattle.droid_frame.specs.stream_types.fault.InputFault.{InputFault}
-use Rattle.droid_frame.specs.stream_types.fault.InputFault.TheVariants as inputs
+use Rattle.droid_frame.specs.stream_types.stream_fault.InputFault.{InputFault}
+use Rattle.droid_frame.specs.stream_types.stream_fault.InputFault.TheVariants as inputs
 use Rattle.droid_lines.specs.Lines.{lines_of}
 use Rattle.droid_lines_script.specs.declared.script_fault.ScriptFault.{ScriptFault}
 use Rattle.droid_lines_script.specs.declared.script_fault.ScriptFault.TheVariants.{Memory, Write}

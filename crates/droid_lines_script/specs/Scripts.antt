@@ -9,8 +9,8 @@ use Rattle.droid_frame.specs.InTurn.{Effect}
 use Rattle.droid_frame.specs.StreamWrites.{Stops}
 use Rattle.droid_lines_script.specs.declared.script_fault.ScriptFault.{ScriptFault}
 use Rattle.droid_lines_script.specs.declared.script_fault.ScriptFault.TheVariants.{TooLong, Read, Memory, Write}
-use Rattle.droid_frame.specs.stream_types.fault.InputFault.{InputFault}
-use Rattle.droid_frame.specs.stream_types.fault.InputFault.TheVariants as inputs
+use Rattle.droid_frame.specs.stream_types.stream_fault.InputFault.{InputFault}
+use Rattle.droid_frame.specs.stream_types.stream_fault.InputFault.TheVariants as inputs
 use Rattle.droid_lines.specs.declared.parser.Line.{Line}
 use Rattle.droid_core.specs.declared.service.Service.{Service}
 use Rattle.droid_core.specs.Setting.{Setting}

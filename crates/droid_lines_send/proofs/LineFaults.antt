@@ -5,7 +5,7 @@ use Rattle.std.specs.Io.KnownBytes.{Appends, Consumes, Keeps}
 use Rattle.droid_frame.specs.InTurn.{Effect, ReportsFaultInOne}
 use Rattle.droid_frame.specs.Seen.{ReportsFault}
 use Rattle.droid_frame.specs.declared.stream.fault.FrameFault.TheVariants.{Read}
-use Rattle.droid_frame.specs.stream_types.seen.Seen.{Seen}
+use Rattle.droid_frame.specs.stream_types.stream_record.Seen.{Seen}
 use Rattle.droid_frame.specs.types.frame.Frame.{Frame}
 use Rattle.droid_frame.specs.types.reply.Reply.{Reply}
 use Rattle.droid_lines.specs.Printed.{answer_line, answer_text, following_bytes}

@@ -2,7 +2,7 @@
 use Rattle.std.proofs.Common.{◌≡◌, List, ℕ, Option, Result, Ok, Err, IfErr, IsErrOf, refl, sym, subst}
 use Rattle.std.specs.Prelude.{IsErrAnd}
 use Rattle.droid_frame.specs.Seen.{Counts, GivesUp, ReportsFault}
-use Rattle.droid_frame.specs.stream_types.seen.Seen.{Seen}
+use Rattle.droid_frame.specs.stream_types.stream_record.Seen.{Seen}
 use Rattle.droid_frame.proofs.Scopes.{lasts}
 use Rattle.droid_wire_client.specs.Cores.{Core}
 use Rattle.droid_lines_send.specs.Reading.{CountsUnless}

@@ -1,11 +1,11 @@
 //! Pages of HTML as trees of elements: no text can become markup.
 #![tactic(auto)]
 
-mod escaped;
 pub mod laws;
 mod page;
+mod page_text;
 mod tables;
 
-pub use escaped::Escaped;
 pub use page::Page;
+pub use page_text::Escaped;
 pub use tables::{Body, Cell, Table};

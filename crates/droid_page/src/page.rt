@@ -3,7 +3,7 @@
 ghost use Rattle.std.specs.Prelude.{◌≡◌, Some};
 ghost use Rattle.droid_page.specs.Pages.{page_around, style};
 
-use crate::escaped::Escaped;
+use crate::page_text::Escaped;
 use std::fmt::{self, Display, Formatter, Write};
 
 /// The rules of style of each page: for light and dark screens, narrow ones and paper, in colours that colour-blind people

@@ -4,7 +4,7 @@ ghost use Rattle.std.specs.Prelude.{◌≡◌, Some, flat_map};
 ghost use Rattle.std.specs.Fmt.{WritesOnOk};
 ghost use Rattle.droid_page.specs.Tables.{body_text, cell_text, head_text, link_text, row_text, rows_text, table_text};
 
-use crate::escaped::Escaped;
+use crate::page_text::Escaped;
 use std::fmt::{self, Display, Formatter, Write};
 
 /// A cell of a table.

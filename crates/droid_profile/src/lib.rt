@@ -1,7 +1,7 @@
 //! The profile of a tree: its folders and files in order, eight files read at a time, no service.
 #![tactic(auto)]
 
-mod handing_out;
+mod delivery;
 mod profiler;
 mod tree_profile;
 

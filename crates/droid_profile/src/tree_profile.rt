@@ -10,7 +10,7 @@ ghost use Rattle.droid_profile_rows.specs.RowsTaken.{HasMoment, IsReady};
 ghost use Rattle.droid_profile_rows.specs.declared.scan.Scan.{Scan};
 ghost use Rattle.droid_profile.specs.Walking.{StandsAt};
 
-use crate::handing_out::{both, hand_out};
+use crate::delivery::{both, hand_out};
 use crate::profiler::Profiler;
 use droid_profile_files::{Batch, read_files};
 use droid_profile_rows::{Row, take_rows, whole_tree};

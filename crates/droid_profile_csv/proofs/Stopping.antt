@@ -3,8 +3,8 @@ use Rattle.std.proofs.Common.{ℕ, ◌-◌, List, [], take, drop, Option, Result
 use Rattle.std.specs.Prelude.{IfErr, OnErr}
 use Rattle.droid_frame.specs.Seen.{IsSound}
 use Rattle.droid_frame.specs.Writes.{StopsWithin, WriterStops}
-use Rattle.droid_frame.specs.stream_types.fault.WriteFault.{WriteFault}
-use Rattle.droid_frame.specs.stream_types.seen.Seen.{Seen}
+use Rattle.droid_frame.specs.stream_types.stream_fault.WriteFault.{WriteFault}
+use Rattle.droid_frame.specs.stream_types.stream_record.Seen.{Seen}
 use Rattle.droid_profile_csv.specs.Taking.{Breaks}
 
 module _ {O : Type 0} (contents : O → Option (List ℕ)) (seen : O → Seen) (room : O → Option ℕ) where

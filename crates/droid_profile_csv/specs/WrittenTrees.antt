@@ -5,7 +5,7 @@ use Rattle.droid_core_spec.specs.Records.{records}
 use Rattle.droid_core_spec.specs.Setting.{Setting}
 use Rattle.droid_core_spec.specs.World.{Node}
 use Rattle.droid_frame.specs.Seen.{IsSound}
-use Rattle.droid_frame.specs.stream_types.seen.Seen.{Seen}
+use Rattle.droid_frame.specs.stream_types.stream_record.Seen.{Seen}
 use Rattle.droid_frame.specs.types.record.Record.{Record}
 use Rattle.droid_pronom.specs.Registry.{Contents}
 use Rattle.droid_tree.specs.Heard.{Heard}

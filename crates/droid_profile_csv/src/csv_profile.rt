@@ -2,7 +2,7 @@
 
 ghost use Rattle.std.specs.Prelude.{◌≡◌, ◌≤◌, IfErr, IfOk};
 ghost use Rattle.droid_frame.specs.Seen.{IsSound};
-ghost use Rattle.droid_frame.specs.stream_types.fault.WriteFault.{WriteFault};
+ghost use Rattle.droid_frame.specs.stream_types.stream_fault.WriteFault.{WriteFault};
 ghost use Rattle.droid_profile.specs.types.fault.ProfileFault.TheVariants as walk_faults;
 ghost use Rattle.droid_profile.specs.types.recipient.RecipientFault.TheVariants as recipient_faults;
 ghost use Rattle.droid_profile_csv.specs.Taking.{EndsRest, stopped_writer};

@@ -12,7 +12,7 @@ use Rattle.droid_scan.specs.Ends.{Came}
 use Rattle.droid_scan.specs.Scanning.{Scanned, lanes_kind}
 use Rattle.droid_tree.specs.Observation.{Observation, Read}
 use Rattle.droid_tree.specs.declared.folder_entry.FolderEntry.{FolderEntry}
-use Rattle.droid_tree.specs.declared.skipped.Skipped.{Skipped}
+use Rattle.droid_tree.specs.declared.skip_reason.Skipped.{Skipped}
 use Rattle.droid_profile_spec.specs.Calls.{Call, OfFile, folder_calls, reads_of}
 use Rattle.droid_profile_spec.specs.Kids.{found_of}
 use Rattle.droid_profile_spec.specs.Readings.{Reading, Ending, AtEnd, NotYet, IsEnding, IsReading, bytes_of, is_whole, joined, last_read, reads_in}

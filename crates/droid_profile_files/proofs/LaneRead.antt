@@ -7,12 +7,12 @@ use Rattle.droid_tree.specs.Reading.{IsReason}
 use Rattle.droid_tree.specs.declared.fault.TreeFault.{TreeFault}
 use Rattle.droid_tree.specs.declared.fault.TreeFault.TheVariants as faults
 use Rattle.droid_tree.specs.declared.folder_entry.FolderEntry.{FolderEntry}
-use Rattle.droid_tree.specs.declared.skipped.Skipped.{Skipped}
+use Rattle.droid_tree.specs.declared.skip_reason.Skipped.{Skipped}
 use Rattle.droid_profile_spec.specs.Readings.{TooShort, TooLong, NoneCame, OtherFile}
 use Rattle.droid_profile_files.specs.LaneReads.{GetsBytes, IsJudged, Keeps, ReadsOnce, StopsReading}
 use Rattle.droid_profile_files.specs.declared.file_lane.FileLane.{FileLane}
-use Rattle.droid_profile_files.specs.declared.reading.Came.{Came as Outcome}
-use Rattle.droid_profile_files.specs.declared.reading.Came.TheVariants as outcomes
+use Rattle.droid_profile_files.specs.declared.lane_reader.Came.{Came as Outcome}
+use Rattle.droid_profile_files.specs.declared.lane_reader.Came.TheVariants as outcomes
 
 module _ {T W : Type 0} (observes : T → Observation → T → Type 0) (hears : W → Heard → W → Type 0) (path : List ℕ) (entry : FolderEntry) (old held new : FileLane)
     (busy : held.busy ≡ old.busy) (its : held.place ≡ old.place) (start : held.from ≡ old.from) (ends : held.ends ≡ old.ends) where

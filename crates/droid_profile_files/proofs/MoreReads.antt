@@ -5,7 +5,7 @@ use Rattle.droid_pronom.specs.Registry.{Contents}
 use Rattle.droid_tree.specs.Heard.{Heard}
 use Rattle.droid_tree.specs.Observation.{Observation, GoesOver}
 use Rattle.droid_tree.specs.declared.folder_entry.FolderEntry.{FolderEntry}
-use Rattle.droid_tree.specs.declared.skipped.Skipped.{Skipped}
+use Rattle.droid_tree.specs.declared.skip_reason.Skipped.{Skipped}
 use Rattle.droid_profile_spec.specs.Calls.{Call, OfFile, heard_of_observation}
 use Rattle.droid_profile_spec.specs.Readings.{Ending, AtEnd, TooShort, TooLong, NoneCame, OtherFile, NotYet, last_read}
 use Rattle.droid_profile_spec.specs.declared.options.Options.{Options}

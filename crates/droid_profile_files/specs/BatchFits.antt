@@ -7,8 +7,8 @@ use Rattle.droid_pronom.specs.types.identification.Found.{Found}
 use Rattle.droid_scan.specs.Ends.{Came}
 use Rattle.droid_scan.specs.Scanning.{Scanned}
 use Rattle.droid_tree.specs.declared.folder_entry.FolderEntry.{FolderEntry}
-use Rattle.droid_tree.specs.declared.skipped.Skipped.{Skipped}
-use Rattle.droid_tree.specs.declared.skipped.Skipped.TheVariants as reasons
+use Rattle.droid_tree.specs.declared.skip_reason.Skipped.{Skipped}
+use Rattle.droid_tree.specs.declared.skip_reason.Skipped.TheVariants as reasons
 use Rattle.droid_profile_spec.specs.Calls.{Call, folder_calls, reads_of}
 use Rattle.droid_profile_spec.specs.Kids.{found_of}
 use Rattle.droid_profile_spec.specs.Readings.{Reading, Ending, TooShort, TooLong, NoneCame, OtherFile, NotYet, IsReading, bytes_of, is_whole, joined, reads_in, unread}

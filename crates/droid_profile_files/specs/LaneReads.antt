@@ -5,14 +5,14 @@ use Rattle.droid_scan.specs.Ends.{Came}
 use Rattle.droid_tree.specs.Heard.{Heard, TookBytes}
 use Rattle.droid_tree.specs.Observation.{Observation, Read, GoesOver}
 use Rattle.droid_tree.specs.declared.folder_entry.FolderEntry.{FolderEntry}
-use Rattle.droid_tree.specs.declared.skipped.Skipped.{Skipped}
-use Rattle.droid_tree.specs.declared.skipped.Skipped.TheVariants as reasons
+use Rattle.droid_tree.specs.declared.skip_reason.Skipped.{Skipped}
+use Rattle.droid_tree.specs.declared.skip_reason.Skipped.TheVariants as reasons
 use Rattle.droid_profile_spec.specs.Calls.{heard_of_observation}
 use Rattle.droid_profile_spec.specs.Readings.{Ending, AtEnd, TooShort, TooLong, IsEnding, last_read}
 use Rattle.droid_profile_files.specs.BatchFits.{IsDropped}
 use Rattle.droid_profile_files.specs.declared.file_lane.FileLane.{FileLane}
-use Rattle.droid_profile_files.specs.declared.reading.Came.{Came as Outcome}
-use Rattle.droid_profile_files.specs.declared.reading.Came.TheVariants as outcomes
+use Rattle.droid_profile_files.specs.declared.lane_reader.Came.{Came as Outcome}
+use Rattle.droid_profile_files.specs.declared.lane_reader.Came.TheVariants as outcomes
 
 -- the lane got these bytes of its file, which follow upon those before
 pub record GetsBytes (old new : FileLane) (bytes : List ℕ) : Type 0 where

@@ -2,8 +2,8 @@
 use Rattle.std.specs.Prelude.{◌≡◌, ◌⊎◌, ℕ, ◌+◌, ◌-◌, ◌*◌, ◌<◌, ◌^◌, Bool, true, false, List, [], ◌∷◌, length, drop, Some, slice_get}
 use Rattle.droid_profile_files.specs.declared.batch.Batch.{Batch}
 use Rattle.droid_profile_files.specs.declared.file_lane.FileLane.{FileLane}
-use Rattle.droid_profile_files.specs.declared.reading.Came.{Came as Outcome}
-use Rattle.droid_profile_files.specs.declared.reading.Came.TheVariants as outcomes
+use Rattle.droid_profile_files.specs.declared.lane_reader.Came.{Came as Outcome}
+use Rattle.droid_profile_files.specs.declared.lane_reader.Came.TheVariants as outcomes
 
 -- each offset in a file is below this one
 unfoldable pub far : ℕ

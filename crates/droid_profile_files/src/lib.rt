@@ -2,13 +2,13 @@
 #![tactic(auto)]
 
 mod batch;
-mod beginning;
-mod ending;
+mod file_end;
 mod file_lane;
 mod file_row;
-mod hashing;
+mod file_start;
+mod lane_hashes;
+mod lane_reader;
 mod reader;
-mod reading;
 
 pub use batch::Batch;
 pub use file_row::{FileRow, FileState};

@@ -10,11 +10,11 @@ ghost use Rattle.droid_profile_files.specs.declared.file_row.FileRow.{FileRow};
 ghost use Rattle.std.specs.Prelude.{List};
 
 use crate::batch::Batch;
-use crate::beginning::begin_file;
-use crate::ending::end_file;
+use crate::file_end::end_file;
 use crate::file_row::FileRow;
-use crate::hashing::{advance, are_idle};
-use crate::reading::read_on;
+use crate::file_start::begin_file;
+use crate::lane_hashes::{advance, are_idle};
+use crate::lane_reader::read_on;
 use droid_profile_spec::{Options, ProfileFault};
 use droid_pronom::Registry;
 use droid_tree::{Tree, Watcher};

@@ -17,8 +17,8 @@ use Rattle.droid_tree.specs.Paths.{below}
 use Rattle.droid_tree.specs.declared.folder_entry.EntryKind.TheVariants as kinds
 use Rattle.droid_tree.specs.declared.folder_entry.FolderEntry.{FolderEntry}
 use Rattle.droid_tree.specs.declared.pending_folder.PendingFolder.{PendingFolder}
-use Rattle.droid_tree.specs.declared.skipped.Skipped.{Skipped}
-use Rattle.droid_tree.specs.declared.skipped.Skipped.TheVariants as reasons
+use Rattle.droid_tree.specs.declared.skip_reason.Skipped.{Skipped}
+use Rattle.droid_tree.specs.declared.skip_reason.Skipped.TheVariants as reasons
 use Rattle.droid_profile_spec.specs.Calls.{OfFolder}
 use Rattle.droid_profile_spec.specs.Kids.{Kid, Subfolder, ClosedFolder, AFile, AnotherKind, NoText, RefusedEntry, IsNode, MayCome, entry_of, entry_refusal, heard_of_kid, is_done, numbers_in, reads_of_kid, seen_of_kid, subfolders_of_kid}
 use Rattle.droid_profile_spec.specs.ProfileRecords.{folder_record, records_of_kid}

@@ -6,8 +6,8 @@ use Rattle.droid_frame.specs.types.record.Record.{Record}
 use Rattle.droid_pronom.specs.Registry.{Contents}
 use Rattle.droid_tree.specs.Heard.{Heard, Left, Held, TookBytes, TookFolder, TookFile}
 use Rattle.droid_tree.specs.Observation.{Observation}
-use Rattle.droid_tree.specs.declared.skipped.Skipped.{Skipped}
-use Rattle.droid_tree.specs.declared.skipped.Skipped.TheVariants as reasons
+use Rattle.droid_tree.specs.declared.skip_reason.Skipped.{Skipped}
+use Rattle.droid_tree.specs.declared.skip_reason.Skipped.TheVariants as reasons
 use Rattle.droid_profile_spec.specs.EarlyEnds.{is_same_name}
 use Rattle.droid_profile_spec.specs.Kids.{found_of, heard_of_file}
 use Rattle.droid_profile_spec.specs.Readings.{Reading, Ending, AtEnd, IsReading, bytes_of, has_ended, reads_in}

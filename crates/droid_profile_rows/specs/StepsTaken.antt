@@ -11,8 +11,8 @@ use Rattle.droid_tree.specs.Observation.{Observation, Opened, Unopened}
 use Rattle.droid_tree.specs.Paths.{below}
 use Rattle.droid_tree.specs.declared.folder_entry.FolderEntry.{FolderEntry}
 use Rattle.droid_tree.specs.declared.pending_folder.PendingFolder.{PendingFolder}
-use Rattle.droid_tree.specs.declared.skipped.Skipped.{Skipped}
-use Rattle.droid_tree.specs.declared.skipped.Skipped.TheVariants as reasons
+use Rattle.droid_tree.specs.declared.skip_reason.Skipped.{Skipped}
+use Rattle.droid_tree.specs.declared.skip_reason.Skipped.TheVariants as reasons
 use Rattle.droid_profile_spec.specs.Kids.{IsNode, entry_refusal}
 use Rattle.droid_profile_spec.specs.ProfileRecords.{folder_record}
 use Rattle.droid_profile_spec.specs.Visits.{AreListed}

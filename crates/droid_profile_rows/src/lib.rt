@@ -2,12 +2,12 @@
 #![tactic(auto)]
 
 mod entries;
+mod entry_order;
 mod folders;
 mod refusal;
 mod row;
 mod scan;
-mod taking;
 
+pub use entry_order::take_rows;
 pub use row::Row;
 pub use scan::{Scan, whole_tree};
-pub use taking::take_rows;

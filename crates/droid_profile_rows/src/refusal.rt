@@ -5,7 +5,7 @@ ghost use Rattle.std.specs.List.{list_any};
 ghost use Rattle.droid_core_spec.specs.Conditions.{is_bad_name, is_moment, is_separator};
 ghost use Rattle.droid_frame.specs.types.refusal.Refusal.{Refusal};
 ghost use Rattle.droid_tree.specs.Paths.{below};
-ghost use Rattle.droid_tree.specs.declared.skipped.Skipped.TheVariants.{Refused};
+ghost use Rattle.droid_tree.specs.declared.skip_reason.Skipped.TheVariants.{Refused};
 ghost use Rattle.droid_profile_spec.specs.Kids.{IsNode, entry_refusal};
 ghost use Rattle.droid_profile_rows.specs.StepsTaken.{IsSkipped};
 

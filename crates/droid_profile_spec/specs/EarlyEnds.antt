@@ -8,8 +8,8 @@ use Rattle.droid_tree.specs.Observation.{Observation, GoesOver}
 use Rattle.droid_tree.specs.Paths.{top}
 use Rattle.droid_tree.specs.declared.folder_entry.FolderEntry.{FolderEntry}
 use Rattle.droid_tree.specs.declared.pending_folder.PendingFolder.{PendingFolder}
-use Rattle.droid_tree.specs.declared.skipped.Skipped.{Skipped}
-use Rattle.droid_tree.specs.declared.skipped.Skipped.TheVariants as reasons
+use Rattle.droid_tree.specs.declared.skip_reason.Skipped.{Skipped}
+use Rattle.droid_tree.specs.declared.skip_reason.Skipped.TheVariants as reasons
 use Rattle.droid_profile_spec.specs.Calls.{Call, heard_of_calls, observation_of}
 use Rattle.droid_profile_spec.specs.ProfileRecords.{records_of}
 use Rattle.droid_profile_spec.specs.Profiles.{AreCallsOf, is_of_bytes, is_of_entry}

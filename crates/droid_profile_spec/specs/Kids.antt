@@ -18,7 +18,7 @@ use Rattle.droid_tree.specs.declared.folder_entry.EntryKind.{EntryKind}
 use Rattle.droid_tree.specs.declared.folder_entry.EntryKind.TheVariants as kinds
 use Rattle.droid_tree.specs.declared.folder_entry.FolderEntry.{FolderEntry}
 use Rattle.droid_tree.specs.declared.pending_folder.PendingFolder.{PendingFolder}
-use Rattle.droid_tree.specs.declared.skipped.Skipped.TheVariants as reasons
+use Rattle.droid_tree.specs.declared.skip_reason.Skipped.TheVariants as reasons
 use Rattle.droid_profile_spec.specs.Readings.{Reading, Ending, AtEnd, TooShort, TooLong, NoneCame, OtherFile, NotYet, IsReading, bytes_of, has_ended, is_whole, reads_in}
 use Rattle.droid_profile_spec.specs.declared.options.Options.{Options}
 

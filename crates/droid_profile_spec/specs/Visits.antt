@@ -8,7 +8,7 @@ use Rattle.droid_tree.specs.Observation.{Observation}
 use Rattle.droid_tree.specs.Paths.{below}
 use Rattle.droid_tree.specs.declared.folder_entry.FolderEntry.{FolderEntry}
 use Rattle.droid_tree.specs.declared.pending_folder.PendingFolder.{PendingFolder}
-use Rattle.droid_tree.specs.declared.skipped.Skipped.TheVariants as reasons
+use Rattle.droid_tree.specs.declared.skip_reason.Skipped.TheVariants as reasons
 use Rattle.droid_profile_spec.specs.Kids.{Kid, MayCome, entry_of, heard_of_kid, is_done, is_taken, numbers_in, reads_of_kid, seen_of_kid, subfolders_of_kid}
 use Rattle.droid_profile_spec.specs.declared.options.Options.{Options}
 

@@ -4,7 +4,7 @@ use Rattle.std.specs.BTreeMap.{get_by}
 use Rattle.std.specs.List.{flat_map, list_any}
 use Rattle.std.specs.Ordering.{nat_cmp}
 use Rattle.droid_signature_combinations.specs.Records.{FileRecord, FormatRecord, SignatureRecord}
-use Rattle.droid_signature.specs.declared.unnamed.Named.{Named}
+use Rattle.droid_signature.specs.declared.nameless_signatures.Named.{Named}
 
 -- the IDs that formats name
 abbrev pub ids_named : List FormatRecord → List ℕ

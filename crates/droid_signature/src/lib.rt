@@ -5,14 +5,14 @@
 #![tactic(auto)]
 
 mod conversion;
+mod nameless_signatures;
 mod omissions;
 mod tables;
-mod unnamed;
 
 pub use conversion::{ConversionFault, Converted, Taken, convert};
 pub use droid_signature_combinations::{
     FileFault, FileFormat, Item, LeftOut, Problem, Reason, SignatureFile, UnknownName, UnknownPart,
     Why, Wrong, read,
 };
+pub use nameless_signatures::unnamed_signatures;
 pub use omissions::all_left_out;
-pub use unnamed::unnamed_signatures;

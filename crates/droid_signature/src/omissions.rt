@@ -5,8 +5,8 @@ ghost use Rattle.droid_signature_combinations.specs.table_types.left_out.LeftOut
 ghost use Rattle.droid_signature.specs.AllLeftOut as spec;
 ghost use Rattle.droid_signature.specs.AllLeftOut.{AreCountsOf, all_left_out, holder_of, is_without, unnamed_item, without};
 
+use crate::nameless_signatures::unnamed_signatures;
 use crate::tables::push_all;
-use crate::unnamed::unnamed_signatures;
 use droid_signature_combinations::{FileFormat, Item, LeftOut, SignatureFile, Why};
 use std::alloc::{AllocError, Global};
 use std::collections::BTreeMap;

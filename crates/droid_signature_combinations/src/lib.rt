@@ -3,8 +3,8 @@
 #![tactic(auto)]
 
 mod combination;
-mod listing;
 mod outcomes;
+mod signature_list;
 mod signature_table;
 
 pub use droid_signature_tables::{
@@ -12,6 +12,6 @@ pub use droid_signature_tables::{
     SignatureFile, Table, UnknownName, UnknownPart, Why, Wrong, ids_of, keep_formats,
     list_extensions, list_priorities, read,
 };
-pub use listing::list_signatures;
 pub use outcomes::{Outcome, Outcomes};
+pub use signature_list::list_signatures;
 pub use signature_table::SignatureTable;

@@ -6,9 +6,9 @@ use Rattle.std.specs.Str.{bytes_eq}
 use Rattle.droid_xml.specs.declared.attributes.Attribute.{Attribute}
 use Rattle.droid_xml.specs.Pieces.{Part, Start, End, Text, Data, Reference, Comment, Instruction}
 use Rattle.droid_xml.specs.Tags.{Tag}
-use Rattle.droid_signature_spec.specs.declared.file.UnknownName.{UnknownName}
-use Rattle.droid_signature_spec.specs.declared.file.UnknownPart.{UnknownPart}
-use Rattle.droid_signature_spec.specs.declared.file.UnknownPart.TheVariants as parts
+use Rattle.droid_signature_spec.specs.declared.whole_file.UnknownName.{UnknownName}
+use Rattle.droid_signature_spec.specs.declared.whole_file.UnknownPart.{UnknownPart}
+use Rattle.droid_signature_spec.specs.declared.whole_file.UnknownPart.TheVariants as parts
 use Rattle.droid_signature_file.specs.declared.kinds.Kind.{Kind}
 use Rattle.droid_signature_file.specs.declared.kinds.Kind.TheVariants as kinds
 

@@ -7,7 +7,7 @@ ghost use Rattle.droid_signature_file.specs.Outcomes.{Gives, Reads, ReadsText, n
 ghost use Rattle.droid_signature_file.specs.Signatures as spec;
 
 use crate::fault::{FileFault, Stop, Wrong};
-use crate::formats::or_empty;
+use crate::format_elements::or_empty;
 use crate::from_node::read_collected;
 use crate::node::{Node, first_node};
 use crate::pieces::pieces_of;

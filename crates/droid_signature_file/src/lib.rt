@@ -5,14 +5,14 @@
 
 mod fault;
 mod file;
-mod formats;
+mod format_elements;
 mod from_node;
 mod kinds;
 mod node;
 mod numbers;
 mod pieces;
+mod search_tables;
 mod signatures;
-mod tables;
 mod tally;
 mod words;
 

@@ -6,7 +6,7 @@ ghost use Rattle.droid_xml.specs.Pieces.{Part};
 ghost use Rattle.droid_xml.specs.Views.{IsFaultOf, IsMemory, part};
 ghost use Rattle.droid_signature_file.specs.Tables.{kept_piece, meaningful};
 
-use crate::tables::{depth_behind, is_kept};
+use crate::search_tables::{depth_behind, is_kept};
 use droid_xml::{Fault, Piece, Reader};
 use std::alloc::Global;
 

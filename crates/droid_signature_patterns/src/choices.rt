@@ -8,7 +8,7 @@ ghost use Rattle.droid_signature_patterns.specs.Ends as ends;
 ghost use Rattle.droid_signature_patterns.specs.Reasons.{IsReasonOfOne};
 
 use crate::part_texts::sequence_texts;
-use crate::reading::read_sequence;
+use crate::sequence_reader::read_sequence;
 use droid_signature_texts::{
     InternalSignature, Offsets, PatternText, PatternTexts, Reason, SequenceRecord, Stop,
 };

@@ -6,7 +6,7 @@ mod offsets;
 mod part_texts;
 mod positions;
 mod read_parts;
-mod reading;
+mod sequence_reader;
 
 pub use choices::{Choices, choices_of};
 pub use droid_signature_texts::{

@@ -3,7 +3,7 @@ use Rattle.std.specs.Prelude.{ℕ, List, Option}
 use Rattle.droid_signature_spec.specs.declared.subsequence.OffsetRange.{OffsetRange}
 use Rattle.droid_signature_spec.specs.declared.subsequence.Fragment.{Fragment}
 use Rattle.droid_signature_spec.specs.declared.sequence.Reference.{Reference}
-use Rattle.droid_signature_spec.specs.declared.file.UnknownName.{UnknownName}
+use Rattle.droid_signature_spec.specs.declared.whole_file.UnknownName.{UnknownName}
 
 -- a subsequence: its position and offsets, the text of its Sequence, and the fragments on both sides
 pub record SubSequenceRecord : Type 0 where

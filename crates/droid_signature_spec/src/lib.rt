@@ -4,17 +4,17 @@
 //! PRONOM publishes its signatures as such a file. The names are those of its elements and attributes.
 #![tactic(auto)]
 
-mod file;
 mod format;
 pub mod laws;
 mod sequence;
 mod signature;
 mod subsequence;
+mod whole_file;
 
 pub use droid_frame::Text;
 pub use droid_pronom_formats::{Anchor, Offsets, is_puid};
-pub use file::{SignatureFile, UnknownName, UnknownPart};
 pub use format::{FileFormat, FormatAttributes};
 pub use sequence::{Reference, SequenceRecord};
 pub use signature::InternalSignature;
 pub use subsequence::{Fragment, OffsetRange, SubSequence};
+pub use whole_file::{SignatureFile, UnknownName, UnknownPart};

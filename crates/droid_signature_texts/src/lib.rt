@@ -4,7 +4,7 @@
 #![tactic(auto)]
 
 mod element_texts;
-mod growing;
+mod growth;
 pub mod laws;
 mod pattern_text;
 mod pattern_texts;
@@ -18,7 +18,7 @@ pub use droid_signature_parser::{
     UnknownPart, Wrong, is_puid, read, read_text,
 };
 pub use element_texts::push_gap;
-pub use growing::{Growing, expanded};
+pub use growth::{Growing, expanded};
 pub use pattern_text::PatternText;
 pub use pattern_texts::PatternTexts;
 pub use reason::{Reason, Stop};

@@ -13,7 +13,7 @@ ghost use Rattle.droid_signature_texts.specs.Written as spec;
 ghost use Rattle.droid_signature_texts.specs.Written.{marked, one_text, pair, written, written_each};
 
 use crate::element_texts::{push_byte, push_bytes, push_except, push_gap, push_range};
-use crate::growing::Growing;
+use crate::growth::Growing;
 use crate::pattern_texts::PatternTexts;
 use crate::range_texts::range_texts;
 use crate::reason::{Reason, Stop};

@@ -11,7 +11,7 @@ use Rattle.sqlite.specs.Order.{Row}
 use Rattle.sqlite.specs.State.{State, IsUnchanged, FailsToQuery}
 use Rattle.sqlite.proofs.Callers.{IsPlain, EndsIn, command_of, given_begin, begins_shown, begun_plain, unchanged_then}
 use Rattle.droid_frame.specs.types.record.Record.{Record}
-use Rattle.droid_store_trees.specs.declared.store.TreeStore.{TreeStore}
+use Rattle.droid_store_trees.specs.declared.storage.TreeStore.{TreeStore}
 use Rattle.droid_store_trees.specs.Over.{over_trees}
 use Rattle.droid_store_sql.specs.Transactions.{Settled}
 use Rattle.droid_store_sql.specs.MemoryFaults.{IsOutOfMemory}

@@ -14,7 +14,7 @@ use Rattle.sqlite.specs.Held.{Held, state}
 use Rattle.sqlite.specs.State.{IsLive, Opens, store_error}
 use Rattle.sqlite.specs.Steps.{FailsToOpen}
 use Rattle.sqlite.proofs.ListingLemmas.{empty_is_sound}
-use Rattle.droid_store_trees.specs.declared.store.TreeStore.{TreeStore}
+use Rattle.droid_store_trees.specs.declared.storage.TreeStore.{TreeStore}
 use Rattle.droid_store_trees.specs.Over.{over_trees}
 use Rattle.droid_store_sql.specs.Transactions.{Settled}
 use Rattle.droid_store_sql.specs.MemoryFaults.{IsOutOfMemory}

@@ -1,6 +1,6 @@
 -- A transaction begins with what was there.
 use Rattle.std.proofs.Common.{◌≡◌, true, sym, subst, Result, Ok, Err, OnOk}
-use Rattle.droid_store_trees.specs.declared.store.TreeStore.{TreeStore}
+use Rattle.droid_store_trees.specs.declared.storage.TreeStore.{TreeStore}
 use Rattle.sqlite.specs.Held.{Held, state}
 use Rattle.droid_store_trees.specs.Over.{over_trees}
 use Rattle.droid_store_sql.specs.Transactions.{Settled, Within}

@@ -7,7 +7,7 @@ use Rattle.sqlite.specs.Held.{Held, state}
 use Rattle.sqlite.specs.Schema.{Schema}
 use Rattle.sqlite.specs.State.{State}
 use Rattle.droid_store_trees.specs.Over.{over_trees}
-use Rattle.droid_store_trees.specs.declared.store.TreeStore.{TreeStore}
+use Rattle.droid_store_trees.specs.declared.storage.TreeStore.{TreeStore}
 use Rattle.droid_store.specs.Changes.{IsWord}
 use Rattle.droid_store_sql.specs.KeyedRows.{numbered_from, AreRising}
 use Rattle.droid_store_sql.specs.Transactions.{Within}

@@ -2,7 +2,7 @@
 use Rattle.std.proofs.Common.{◌≡◌, ◌≢◌, inl, inr, ℕ, ◌||◌, true, false, List, length, Option, Some, None, Result, Ok, Err, is_some, append-nil, refl, sym, ap, subst, subst₂, ◌∙◌, arith}
 use Rattle.sqlite_trees.specs.declared.error.StoreError.{StoreError}
 use Rattle.sqlite_trees.specs.declared.error.StoreError.TheVariants.{OutOfMemory, Io, Corrupt, Full, Broken, Unstorable}
-use Rattle.droid_store_trees.specs.declared.store.TreeStore.{TreeStore}
+use Rattle.droid_store_trees.specs.declared.storage.TreeStore.{TreeStore}
 use Rattle.sqlite_resolve.specs.declared.compiled.Compiled.{Compiled}
 use Rattle.sqlite_resolve.specs.declared.error.CompileError.{CompileError}
 use Rattle.sqlite_schema.specs.declared.program.Program.{Program}

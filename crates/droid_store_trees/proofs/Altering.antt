@@ -12,7 +12,7 @@ use Rattle.sqlite_trees.specs.Listing.{Heading, objects_from, reals_unless_absen
 use Rattle.sqlite_trees.proofs.StoreLemmas.{present_reals}
 use Rattle.droid_store_trees.specs.declared.tree.Tree.{Tree}
 use Rattle.droid_store_trees.specs.declared.forest.Forest.{Forest}
-use Rattle.droid_store_trees.specs.declared.store.TreeStore.{TreeStore}
+use Rattle.droid_store_trees.specs.declared.storage.TreeStore.{TreeStore}
 use Rattle.droid_store_trees.specs.Alike.{Replaces, Relabels}
 use Rattle.droid_store_trees.specs.Shown.{heading, headings, shape_of, shown, current, view, IsStill}
 use Rattle.droid_store_trees.proofs.Places.{set_same, shape_shown, rows_shown}

@@ -1,7 +1,7 @@
 -- The store as the contracts of a connection over it name it.
 use Rattle.std.specs.Prelude.{◌≡◌, None}
 use Rattle.sqlite_trees.specs.declared.store.Store.{Ghosts}
-use Rattle.droid_store_trees.specs.declared.store.TreeStore.{TreeStore}
+use Rattle.droid_store_trees.specs.declared.storage.TreeStore.{TreeStore}
 use Rattle.droid_store_trees.specs.Shown.{view}
 
 abbrev pub over_trees : Ghosts TreeStore

@@ -11,7 +11,7 @@ use Rattle.sqlite_trees.specs.declared.store.Direction.TheVariants.{Forward, Bac
 use Rattle.droid_store_trees.specs.declared.tree.Tree.{Tree}
 use Rattle.droid_store_trees.specs.declared.cursor.Cursor.{Cursor}
 use Rattle.droid_store_trees.specs.declared.forest.Forest.{Forest}
-use Rattle.droid_store_trees.specs.declared.store.TreeStore.{TreeStore}
+use Rattle.droid_store_trees.specs.declared.storage.TreeStore.{TreeStore}
 
 -- its shape, its REAL columns and its description
 abbrev pub heading : Tree → Heading

@@ -5,7 +5,7 @@
 mod cursor;
 mod edit;
 mod forest;
-mod store;
+mod storage;
 mod tree;
 
-pub use store::TreeStore;
+pub use storage::TreeStore;

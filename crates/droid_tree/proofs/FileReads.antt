@@ -7,8 +7,8 @@ use Rattle.droid_tree.specs.Reading.{Stop, NoneCame, FewerCame, MoreCame, OtherF
 use Rattle.droid_tree.specs.declared.fault.TreeFault.{TreeFault}
 use Rattle.droid_tree.specs.declared.fault.TreeFault.TheVariants as faults
 use Rattle.droid_tree.specs.declared.folder_entry.FolderEntry.{FolderEntry}
-use Rattle.droid_tree.specs.declared.skipped.Skipped.{Skipped}
-use Rattle.droid_tree.specs.declared.skipped.Skipped.TheVariants as reasons
+use Rattle.droid_tree.specs.declared.skip_reason.Skipped.{Skipped}
+use Rattle.droid_tree.specs.declared.skip_reason.Skipped.TheVariants as reasons
 
 module _ {T : Type 0} (observes : T → Observation → T → Type 0) (path : List ℕ) (entry : FolderEntry) (from : ℕ) where
   -- all bytes came, or fewer

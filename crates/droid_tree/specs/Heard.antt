@@ -1,7 +1,7 @@
 -- What a watcher learns during a walk (this project's own).
 use Rattle.std.specs.Prelude.{ℕ, List}
 use Rattle.droid_frame.specs.types.reply.Reply.{Reply}
-use Rattle.droid_tree.specs.declared.skipped.Skipped.{Skipped}
+use Rattle.droid_tree.specs.declared.skip_reason.Skipped.{Skipped}
 
 pub data Heard : Type 0 where
   -- this entry was skipped, for this reason

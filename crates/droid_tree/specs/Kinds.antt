@@ -1,8 +1,8 @@
 -- Entries that have no node in a profile, by their type (this project's own).
 use Rattle.droid_tree.specs.declared.folder_entry.EntryKind.{EntryKind}
 use Rattle.droid_tree.specs.declared.folder_entry.EntryKind.TheVariants as kinds
-use Rattle.droid_tree.specs.declared.skipped.Skipped.{Skipped}
-use Rattle.droid_tree.specs.declared.skipped.Skipped.TheVariants as reasons
+use Rattle.droid_tree.specs.declared.skip_reason.Skipped.{Skipped}
+use Rattle.droid_tree.specs.declared.skip_reason.Skipped.TheVariants as reasons
 
 -- it is neither a folder nor a regular file
 abbrev pub IsNoNode : EntryKind → Type 0

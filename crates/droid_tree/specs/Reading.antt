@@ -4,8 +4,8 @@ use Rattle.droid_tree.specs.Observation.{Observation, Read, Unread, Exchanged}
 use Rattle.droid_tree.specs.declared.fault.TreeFault.{TreeFault}
 use Rattle.droid_tree.specs.declared.fault.TreeFault.TheVariants as faults
 use Rattle.droid_tree.specs.declared.folder_entry.FolderEntry.{FolderEntry}
-use Rattle.droid_tree.specs.declared.skipped.Skipped.{Skipped}
-use Rattle.droid_tree.specs.declared.skipped.Skipped.TheVariants as reasons
+use Rattle.droid_tree.specs.declared.skip_reason.Skipped.{Skipped}
+use Rattle.droid_tree.specs.declared.skip_reason.Skipped.TheVariants as reasons
 
 -- why the reading of a file ended early: `wanted` bytes could not be read, or fewer came, or the file has more bytes
 -- than its folder lists, or another file was at its path when `wanted` bytes were asked for

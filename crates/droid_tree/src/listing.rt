@@ -4,12 +4,12 @@ ghost use Rattle.std.specs.Prelude.{◌≡◌, IfErr, IfOk, MatchOption, MatchRe
 ghost use Rattle.droid_tree.specs.Listings.{ListsInOrder};
 ghost use Rattle.droid_tree.specs.Observation.{Unlisted};
 ghost use Rattle.droid_tree.specs.declared.fault.WalkFault.TheVariants.{Memory};
-ghost use Rattle.droid_tree.specs.declared.skipped.Skipped.TheVariants as reasons;
+ghost use Rattle.droid_tree.specs.declared.skip_reason.Skipped.TheVariants as reasons;
 
 use crate::fault::WalkFault;
 use crate::folder_entry::FolderEntry;
 use crate::order::in_order;
-use crate::skipped::{Skipped, unlisted};
+use crate::skip_reason::{Skipped, unlisted};
 use crate::tree::Tree;
 use std::alloc::Global;
 

@@ -4,11 +4,11 @@ ghost use Rattle.std.specs.Prelude.{◌≡◌, ◌≢◌, ◌-◌, ◌<◌, [], 
 ghost use Rattle.droid_tree.specs.Observation.{Read};
 ghost use Rattle.droid_tree.specs.Reading.{IsPastEnd, IsShort, ReadsPiece, StopsAt, begin_of};
 ghost use Rattle.droid_tree.specs.declared.fault.WalkFault.TheVariants.{Memory};
-ghost use Rattle.droid_tree.specs.declared.skipped.Skipped.TheVariants as reasons;
+ghost use Rattle.droid_tree.specs.declared.skip_reason.Skipped.TheVariants as reasons;
 
 use crate::fault::WalkFault;
 use crate::folder_entry::FolderEntry;
-use crate::skipped::{Skipped, unread};
+use crate::skip_reason::{Skipped, unread};
 use crate::tree::Tree;
 use std::alloc::Global;
 

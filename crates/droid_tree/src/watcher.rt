@@ -2,7 +2,7 @@
 
 ghost use Rattle.droid_tree.specs.Heard.{Heard, Left, Held, TookBytes, TookFolder, TookFile};
 
-use crate::skipped::Skipped;
+use crate::skip_reason::Skipped;
 use droid_frame::Reply;
 
 /// Is informed of what a walk does.

@@ -9,8 +9,8 @@ ghost use Rattle.droid_tree_connection.specs.declared.known_requests.KnownReques
 
 use crate::connection::Connection;
 use crate::known_requests::KnownRequests;
+use crate::new_connection::begin;
 use crate::transfer_fault::TransferFault;
-use crate::vouching::begin;
 use droid_frame::Frame;
 use std::alloc::Global;
 use std::collections::VecDeque;

@@ -8,10 +8,10 @@ mod connection;
 mod connection_steps;
 mod in_flight;
 mod known_requests;
+mod new_connection;
 mod reply_checks;
 mod streams;
 mod transfer_fault;
-mod vouching;
 
 pub use connection::{Broken, Connection};
 pub use connection_steps::Stage;

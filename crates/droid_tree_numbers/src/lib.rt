@@ -7,7 +7,7 @@ mod digests;
 mod fields;
 pub mod laws;
 mod numbers;
-mod packed;
-mod submitted;
+mod request_bodies;
+mod request_numbers;
 
 pub use numbers::number_of;

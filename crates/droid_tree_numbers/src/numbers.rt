@@ -10,8 +10,8 @@ ghost use Rattle.droid_tree_numbers.specs.Submitted.{IsSubmitted};
 
 use crate::digests::{node_number, text_number};
 use crate::fields::{u32_in, u64_in};
-use crate::packed::{packed, packed_part};
-use crate::submitted::is_submitted;
+use crate::request_bodies::is_submitted;
+use crate::request_numbers::{packed, packed_part};
 
 /// Returns the number of the request that this kind and body of version 2 spell, in the submission of this name.
 /// `attempt` says how often this very folder or file was added before and then abandoned: 0 at first. It does not count

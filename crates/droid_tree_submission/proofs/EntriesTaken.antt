@@ -8,7 +8,7 @@ use Rattle.droid_tree.specs.declared.folder_entry.FolderEntry.{FolderEntry}
 use Rattle.droid_tree.specs.declared.pending_folder.PendingFolder.{PendingFolder}
 use Rattle.droid_tree_submission.specs.Kids.{MayCome, deeds_of_kid, entry_of, is_taken, nodes_of_kid, subfolders_of_kid}
 use Rattle.droid_tree_submission.specs.SubmissionSteps.{AreOfFirst, TakesKid, TakesKids}
-use Rattle.droid_tree_submission.specs.declared.found.Found.{Found}
+use Rattle.droid_tree_submission.specs.declared.findings.Found.{Found}
 use Rattle.droid_tree_upload.specs.Deeds.{Deed}
 use Rattle.droid_tree_upload.specs.Fronts.{EndsEarly}
 use Rattle.droid_tree_upload.specs.declared.submission_fault.SubmissionFault.{SubmissionFault}

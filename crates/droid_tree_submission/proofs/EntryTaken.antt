@@ -13,10 +13,10 @@ use Rattle.droid_tree.specs.declared.folder_entry.FolderEntry.{FolderEntry}
 use Rattle.droid_tree.specs.declared.folder_entry.EntryKind.{EntryKind}
 use Rattle.droid_tree.specs.declared.folder_entry.EntryKind.TheVariants as kinds
 use Rattle.droid_tree.specs.declared.pending_folder.PendingFolder.{PendingFolder}
-use Rattle.droid_tree.specs.declared.skipped.Skipped.TheVariants as reasons
+use Rattle.droid_tree.specs.declared.skip_reason.Skipped.TheVariants as reasons
 use Rattle.droid_tree_submission.specs.Kids.{Kid, Subfolder, RefusedFolder, AFile, OtherKind, NoText, MayCome, deeds_of_kid, entry_of, folder_node, is_taken_file, nodes_of_file}
 use Rattle.droid_tree_submission.specs.SubmissionSteps.{AreOfFirst, TakesKid}
-use Rattle.droid_tree_submission.specs.declared.found.Found.{Found}
+use Rattle.droid_tree_submission.specs.declared.findings.Found.{Found}
 use Rattle.droid_tree_upload.specs.Calls.{Answered}
 use Rattle.droid_tree_upload.specs.Deeds.{Deed, Called, Informed}
 use Rattle.droid_tree_upload.specs.Faults.{skips}

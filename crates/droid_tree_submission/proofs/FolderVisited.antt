@@ -7,11 +7,11 @@ use Rattle.droid_tree.specs.Listings.{HasNameOf}
 use Rattle.droid_tree.specs.Observation.{GoesOver, Listed, Unlisted}
 use Rattle.droid_tree.specs.declared.folder_entry.FolderEntry.{FolderEntry}
 use Rattle.droid_tree.specs.declared.pending_folder.PendingFolder.{PendingFolder}
-use Rattle.droid_tree.specs.declared.skipped.Skipped.{Skipped}
-use Rattle.droid_tree.specs.declared.skipped.Skipped.TheVariants as reasons
+use Rattle.droid_tree.specs.declared.skip_reason.Skipped.{Skipped}
+use Rattle.droid_tree.specs.declared.skip_reason.Skipped.TheVariants as reasons
 use Rattle.droid_tree_submission.specs.FolderVisits.{AreListed, Visit, deeds_of_listing, report_repeated}
 use Rattle.droid_tree_submission.specs.SubmissionSteps.{AreOfFirst, AreOfListing, AreOfVisit, ListsFolder, TakesKids, TakesListing, TakesVisit}
-use Rattle.droid_tree_submission.specs.declared.found.Found.{Found}
+use Rattle.droid_tree_submission.specs.declared.findings.Found.{Found}
 use Rattle.droid_tree_upload.specs.Deeds.{Deed, Observed, Informed}
 use Rattle.droid_tree_upload.specs.Fronts.{AreJust, EndsEarly}
 use Rattle.droid_tree_upload.specs.declared.submission_fault.SubmissionFault.{SubmissionFault}

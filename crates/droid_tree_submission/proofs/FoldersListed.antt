@@ -7,7 +7,7 @@ use Rattle.droid_frame.specs.types.reply.Reply.TheVariants as replies
 use Rattle.droid_tree.specs.Heard.{Left}
 use Rattle.droid_tree.specs.Observation.{Listed, Unlisted}
 use Rattle.droid_tree.specs.declared.folder_entry.FolderEntry.{FolderEntry}
-use Rattle.droid_tree.specs.declared.skipped.Skipped.TheVariants as reasons
+use Rattle.droid_tree.specs.declared.skip_reason.Skipped.TheVariants as reasons
 use Rattle.droid_tree_submission.specs.FolderVisits.{Visit, deeds_of_listing, report_repeated}
 use Rattle.droid_tree_submission.specs.Kids.{deeds_of_kid}
 use Rattle.droid_tree_submission.specs.Submissions.{deeds_in, deeds_of_tree, into_of, profile_request}

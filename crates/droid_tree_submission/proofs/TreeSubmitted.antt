@@ -11,7 +11,7 @@ use Rattle.droid_tree_submission.specs.FolderVisits.{Visit, AreListed, IsBegun, 
 use Rattle.droid_tree_submission.specs.Kids.{entry_of}
 use Rattle.droid_tree_submission.specs.SubmissionSteps.{AreOfVisit, TakesVisit}
 use Rattle.droid_tree_submission.specs.Submissions.{AreBegun, AreOfFront, EachFolderOnce, IsVisitIn, SubmitsTree, deeds_in, deeds_of_tree, into_of, profile_request}
-use Rattle.droid_tree_submission.specs.declared.found.Found.{Found}
+use Rattle.droid_tree_submission.specs.declared.findings.Found.{Found}
 use Rattle.droid_tree_submission.specs.declared.node.Node.{Node}
 use Rattle.droid_tree_submission.specs.declared.tree_submission.Options.{Options}
 use Rattle.droid_tree_upload.specs.Calls.{Answered}

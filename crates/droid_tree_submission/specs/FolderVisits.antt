@@ -7,7 +7,7 @@ use Rattle.droid_tree.specs.Observation.{Listed, Unlisted}
 use Rattle.droid_tree.specs.Paths.{below}
 use Rattle.droid_tree.specs.declared.folder_entry.FolderEntry.{FolderEntry}
 use Rattle.droid_tree.specs.declared.pending_folder.PendingFolder.{PendingFolder}
-use Rattle.droid_tree.specs.declared.skipped.Skipped.TheVariants as reasons
+use Rattle.droid_tree.specs.declared.skip_reason.Skipped.TheVariants as reasons
 use Rattle.droid_tree_submission.specs.Kids.{Kid, MayCome, deeds_of_kid, entry_of, is_taken, nodes_of_kid, subfolders_of_kid}
 use Rattle.droid_tree_submission.specs.declared.node.Node.{Node}
 use Rattle.droid_tree_upload.specs.Deeds.{Deed, Observed, Informed}

@@ -12,7 +12,7 @@ use Rattle.droid_tree.specs.Paths.{below}
 use Rattle.droid_tree.specs.declared.folder_entry.FolderEntry.{FolderEntry}
 use Rattle.droid_tree.specs.declared.folder_entry.EntryKind.TheVariants as kinds
 use Rattle.droid_tree.specs.declared.pending_folder.PendingFolder.{PendingFolder}
-use Rattle.droid_tree.specs.declared.skipped.Skipped.TheVariants as reasons
+use Rattle.droid_tree.specs.declared.skip_reason.Skipped.TheVariants as reasons
 use Rattle.droid_tree_upload.specs.Calls.{Answered}
 use Rattle.droid_tree_upload.specs.Deeds.{Deed, Called, Informed}
 use Rattle.droid_tree_upload.specs.FileOutcomes.{FileOutcome, MayComeOfFile, deeds_of_file, uploaded_of}

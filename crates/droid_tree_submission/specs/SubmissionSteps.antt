@@ -6,7 +6,7 @@ use Rattle.droid_tree.specs.declared.folder_entry.FolderEntry.{FolderEntry}
 use Rattle.droid_tree.specs.declared.pending_folder.PendingFolder.{PendingFolder}
 use Rattle.droid_tree_submission.specs.FolderVisits.{Visit, AreListed, IsBegun, IsVisit, deeds_of_visit, is_whole, nodes_of_visit, report_repeated, subfolders_of_visit}
 use Rattle.droid_tree_submission.specs.Kids.{Kid, MayCome, deeds_of_kid, entry_of, is_taken, nodes_of_kid, subfolders_of_kid}
-use Rattle.droid_tree_submission.specs.declared.found.Found.{Found}
+use Rattle.droid_tree_submission.specs.declared.findings.Found.{Found}
 use Rattle.droid_tree_upload.specs.Deeds.{Deed, Observed}
 use Rattle.droid_tree_upload.specs.declared.upload.Destination.{Destination}
 

@@ -8,7 +8,7 @@ ghost use Rattle.droid_tree_submission.specs.SubmissionSteps.{AreOfFirst, TakesK
 ghost use Rattle.droid_tree_upload.specs.Deeds.{Does};
 ghost use Rattle.droid_tree_upload.specs.Fronts.{EndsEarly};
 
-use crate::found::{Found, add_file_node, add_folder_node};
+use crate::findings::{Found, add_file_node, add_folder_node};
 use crate::watcher_reports::{report, report_below, report_folder};
 use droid_frame::Text;
 use droid_tree::{

@@ -2,7 +2,7 @@
 
 ghost use Rattle.std.specs.Prelude.{◌≡◌, ◌&&◌, map, IfErr, IfOk, MatchResult, OnOk};
 ghost use Rattle.droid_tree.specs.Observation.{GoesOver, Unlisted};
-ghost use Rattle.droid_tree.specs.declared.skipped.Skipped.TheVariants as reasons;
+ghost use Rattle.droid_tree.specs.declared.skip_reason.Skipped.TheVariants as reasons;
 ghost use Rattle.droid_tree_submission.specs.FolderVisits.{report_repeated};
 ghost use Rattle.droid_tree_submission.specs.SubmissionSteps.{AreOfFirst, AreOfListing, AreOfVisit, ListsFolder, TakesKids, TakesListing, TakesVisit};
 ghost use Rattle.droid_tree_upload.specs.Deeds.{Does, Observed};
@@ -10,7 +10,7 @@ ghost use Rattle.droid_tree_upload.specs.Fronts.{AreJust, EndsEarly};
 ghost use Rattle.droid_tree_upload.specs.declared.submission_fault.SubmissionFault.TheVariants as faults;
 
 use crate::entry_submission::submit_entry;
-use crate::found::Found;
+use crate::findings::Found;
 use crate::watcher_reports::{report, report_below};
 use droid_tree::{FolderEntry, Listing, PendingFolder, Skipped, Tree, Watcher, read_folder};
 use droid_tree_upload::{Client, Destination, SubmissionFault, Upload};

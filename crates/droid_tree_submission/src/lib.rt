@@ -5,8 +5,8 @@
 #![tactic(auto)]
 
 mod entry_submission;
+mod findings;
 mod folder_visit;
-mod found;
 mod node;
 mod tree_submission;
 mod watcher_reports;

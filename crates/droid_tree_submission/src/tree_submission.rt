@@ -5,8 +5,8 @@ ghost use Rattle.droid_tree_submission.specs.Submissions.{AreOfFront, SubmitsTre
 ghost use Rattle.droid_tree_upload.specs.Deeds.{Does};
 ghost use Rattle.droid_tree_upload.specs.Fronts.{EndsEarly};
 
+use crate::findings::Found;
 use crate::folder_visit::{both, visit_folder};
-use crate::found::Found;
 use crate::node::Node;
 use droid_frame::HashKind;
 use droid_tree::{TURNS, Tree, Watcher, only_the_top};

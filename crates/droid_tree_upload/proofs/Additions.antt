@@ -14,7 +14,7 @@ use Rattle.droid_tree.specs.Heard.{Left, Held}
 use Rattle.droid_tree.specs.Observation.{Read, GoesOver}
 use Rattle.droid_tree.specs.Reading.{IsPastEnd, StopsAt, begin_of, reason_of}
 use Rattle.droid_tree.specs.declared.folder_entry.FolderEntry.{FolderEntry}
-use Rattle.droid_tree.specs.declared.skipped.Skipped.{Skipped}
+use Rattle.droid_tree.specs.declared.skip_reason.Skipped.{Skipped}
 use Rattle.droid_tree_upload.specs.Calls.{Failed}
 use Rattle.droid_tree_upload.specs.Deeds.{Deed, Observed, Called, Informed}
 use Rattle.droid_tree_upload.specs.Faults.{IsAfterCall, IsAfterRead}

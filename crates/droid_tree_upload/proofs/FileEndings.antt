@@ -8,8 +8,8 @@ use Rattle.droid_frame.specs.types.reply.Reply.{Reply}
 use Rattle.droid_frame.specs.types.reply.Reply.TheVariants as replies
 use Rattle.droid_frame.specs.types.request.Request.TheVariants.{Finish, Abandon}
 use Rattle.droid_tree.specs.Heard.{Left}
-use Rattle.droid_tree.specs.declared.skipped.Skipped.{Skipped}
-use Rattle.droid_tree.specs.declared.skipped.Skipped.TheVariants as reasons
+use Rattle.droid_tree.specs.declared.skip_reason.Skipped.{Skipped}
+use Rattle.droid_tree.specs.declared.skip_reason.Skipped.TheVariants as reasons
 use Rattle.droid_tree_upload.specs.Calls.{Answered, Failed}
 use Rattle.droid_tree_upload.specs.Deeds.{Deed, Called, Informed}
 use Rattle.droid_tree_upload.specs.Faults.{IsAfterCall, IsAfterRead, fault_of_reply, is_finished, is_left}

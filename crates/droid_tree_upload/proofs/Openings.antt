@@ -8,7 +8,7 @@ use Rattle.droid_frame.specs.types.request.Request.TheVariants.{Finish}
 use Rattle.droid_tree.specs.Heard.{Left}
 use Rattle.droid_tree.specs.Observation.{GoesOver}
 use Rattle.droid_tree.specs.declared.folder_entry.FolderEntry.{FolderEntry}
-use Rattle.droid_tree.specs.declared.skipped.Skipped.TheVariants as reasons
+use Rattle.droid_tree.specs.declared.skip_reason.Skipped.TheVariants as reasons
 use Rattle.droid_tree_upload.specs.Calls.{Answered}
 use Rattle.droid_tree_upload.specs.Deeds.{Deed, Called, Informed}
 use Rattle.droid_tree_upload.specs.Faults.{IsAfterLastAttempt, fault_of_reply, is_countable, is_finished, is_node, is_open}

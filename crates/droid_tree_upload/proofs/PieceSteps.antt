@@ -11,7 +11,7 @@ use Rattle.droid_tree.specs.Heard.{TookBytes}
 use Rattle.droid_tree.specs.Observation.{Read, Unread, GoesOver}
 use Rattle.droid_tree.specs.Reading.{Stop, NoneCame, FewerCame, MoreCame, OtherFile, IsPastEnd, IsShort, IsStop, StopsAt, observed_of_stop}
 use Rattle.droid_tree.specs.declared.folder_entry.FolderEntry.{FolderEntry}
-use Rattle.droid_tree.specs.declared.skipped.Skipped.{Skipped}
+use Rattle.droid_tree.specs.declared.skip_reason.Skipped.{Skipped}
 use Rattle.droid_tree_upload.specs.Calls.{Failed, Sent}
 use Rattle.droid_tree_upload.specs.Deeds.{Deed, Observed, Called, Informed}
 use Rattle.droid_tree_upload.specs.Fronts.{ByCall, EndsEarly, Last, Stands}

@@ -14,7 +14,7 @@ use Rattle.droid_tree.specs.Heard.{Heard, Left, Held, TookFile}
 use Rattle.droid_tree.specs.Observation.{Read, GoesOver}
 use Rattle.droid_tree.specs.Reading.{Stop, IsPastEnd, begin_of, observed_of_stop, reason_of}
 use Rattle.droid_tree.specs.declared.folder_entry.FolderEntry.{FolderEntry}
-use Rattle.droid_tree.specs.declared.skipped.Skipped.TheVariants as reasons
+use Rattle.droid_tree.specs.declared.skip_reason.Skipped.TheVariants as reasons
 use Rattle.droid_tree_upload.specs.Calls.{Answered, Failed}
 use Rattle.droid_tree_upload.specs.Deeds.{Deed, Observed, Called, Informed}
 use Rattle.droid_tree_upload.specs.Faults.{skips, is_finished, is_left}

@@ -15,8 +15,8 @@ use Rattle.droid_tree.specs.Heard.{Left, Held, TookBytes}
 use Rattle.droid_tree.specs.Observation.{Observation, Read, GoesOver}
 use Rattle.droid_tree.specs.Reading.{Stop, IsPastEnd, IsShort, StopsAt, begin_of, reason_of}
 use Rattle.droid_tree.specs.declared.folder_entry.FolderEntry.{FolderEntry}
-use Rattle.droid_tree.specs.declared.skipped.Skipped.{Skipped}
-use Rattle.droid_tree.specs.declared.skipped.Skipped.TheVariants as reasons
+use Rattle.droid_tree.specs.declared.skip_reason.Skipped.{Skipped}
+use Rattle.droid_tree.specs.declared.skip_reason.Skipped.TheVariants as reasons
 use Rattle.droid_tree_upload.specs.Calls.{Answered, Failed, Sent}
 use Rattle.droid_tree_upload.specs.Deeds.{Deed, Observed, Called, Informed}
 use Rattle.droid_tree_upload.specs.Faults.{fault_of_client, is_countable, is_finished, is_left, skips}

@@ -11,7 +11,7 @@ use Rattle.droid_frame.proofs.StreamFrames.{no_frame_in_short}
 use Rattle.droid_wire_journal.specs.core.declared.service.Service.{Service}
 use Rattle.droid_wire_journal.specs.core.Histories.{History}
 use Rattle.droid_wire_journal.specs.core.Setting.{Setting}
-use Rattle.droid_wire.specs.declared.ended.Ended.TheVariants.{Closed, Turns}
+use Rattle.droid_wire.specs.declared.stream_end.Ended.TheVariants.{Closed, Turns}
 use Rattle.droid_wire.specs.declared.serve_fault.ServeFault.TheVariants as faults
 use Rattle.droid_wire.specs.Serving.{Handled}
 use Rattle.droid_wire.specs.WhatWasRead.{ReadFramesAreAnswered}

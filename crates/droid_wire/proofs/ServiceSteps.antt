@@ -13,8 +13,8 @@ use Rattle.droid_wire_journal.specs.turns.Events.{Event}
 use Rattle.droid_wire_journal.specs.turns.Turns.{EndsBy, ServesAll}
 use Rattle.droid_wire_journal.specs.turns.Steps.{Does, FailedToSettle, Goes, Handles, Happens, Settles, Step}
 use Rattle.droid_wire_journal.specs.turns.declared.rules.Rules.{Rules}
-use Rattle.droid_wire_journal.specs.turns.declared.served.Served.{Served}
-use Rattle.droid_wire_journal.specs.turns.declared.served.Served.TheVariants as ways
+use Rattle.droid_wire_journal.specs.turns.declared.service_end.Served.{Served}
+use Rattle.droid_wire_journal.specs.turns.declared.service_end.Served.TheVariants as ways
 use Rattle.droid_wire.specs.OneAnswer.{IsAnswered}
 use Rattle.droid_wire.specs.ManyConnections.{ServesMany, events_of, frames_of, replies_of}
 use Rattle.droid_wire.specs.declared.service_handler.ServiceHandler.{ServiceHandler}

@@ -12,7 +12,7 @@ use Rattle.droid_frame.specs.Streams.{IsReadable}
 use Rattle.droid_frame.specs.types.frame.Frame.{Frame}
 use Rattle.droid_frame.specs.types.reply.Reply.{Reply}
 use Rattle.droid_frame.specs.Writes.{LacksRoom, ReportsWrite}
-use Rattle.droid_frame.specs.stream_types.seen.Seen.{Seen}
+use Rattle.droid_frame.specs.stream_types.stream_record.Seen.{Seen}
 use Rattle.droid_frame.proofs.StreamFrames.{no_frame_in_short}
 use Rattle.droid_wire_journal.specs.core.Standing.{StandsFor}
 use Rattle.droid_wire_journal.specs.core.declared.service.Service.{Service}

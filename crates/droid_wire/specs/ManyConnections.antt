@@ -12,7 +12,7 @@ use Rattle.droid_wire_journal.specs.turns.Events.{Event}
 use Rattle.droid_wire_journal.specs.turns.Turns.{ServesAll}
 use Rattle.droid_wire_journal.specs.turns.Steps.{Handles, Happens, Settles, Step, all_handled}
 use Rattle.droid_wire_journal.specs.turns.declared.rules.Rules.{Rules}
-use Rattle.droid_wire_journal.specs.turns.declared.served.Served.{Served}
+use Rattle.droid_wire_journal.specs.turns.declared.service_end.Served.{Served}
 
 -- the frames of all connections that were handled, in order, and their replies
 abbrev pub frames_of : List Step → List Frame

@@ -11,8 +11,8 @@ use Rattle.droid_wire_journal.specs.core.Running.{Runs}
 use Rattle.droid_wire_journal.specs.core.declared.service.Service.{Service}
 use Rattle.droid_wire_journal.specs.core.Histories.{History}
 use Rattle.droid_wire_journal.specs.core.Setting.{Setting}
-use Rattle.droid_wire.specs.declared.ended.Ended.{Ended}
-use Rattle.droid_wire.specs.declared.ended.Ended.TheVariants.{Closed, Turns}
+use Rattle.droid_wire.specs.declared.stream_end.Ended.{Ended}
+use Rattle.droid_wire.specs.declared.stream_end.Ended.TheVariants.{Closed, Turns}
 use Rattle.droid_wire.specs.declared.serve_fault.ServeFault.{ServeFault}
 use Rattle.droid_wire.specs.declared.serve_fault.ServeFault.TheVariants as faults
 use Rattle.droid_wire_journal.specs.core.Written.{reply_frames}

@@ -3,13 +3,13 @@
 //! the [`Service`], and one with a journal, so that a program that serves one names this crate alone.
 #![tactic(auto)]
 
-mod ended;
 pub mod laws;
 mod many;
 mod reply_frame;
 mod serve_fault;
 mod server;
 mod service_handler;
+mod stream_end;
 
 pub use droid_wire_client::{Client, HearFault, Heard, SubmitFault};
 pub use droid_wire_journal::{
@@ -19,8 +19,8 @@ pub use droid_wire_journal::{
     WaitFault, answer_journal, compact, crash_and_reopen, header_for, is_mostly_ended,
     journal_laws, replace, rewrite, serve_journal,
 };
-pub use ended::Ended;
 pub use many::serve_many;
 pub use serve_fault::ServeFault;
 pub use server::serve;
 pub use service_handler::ServiceHandler;
+pub use stream_end::Ended;

@@ -12,9 +12,9 @@ ghost use Rattle.droid_wire.specs.Turns.{ReadsFrame, WritesReply};
 ghost use Rattle.droid_wire.specs.Serving.{GoesOnFrom, Outcome};
 ghost use Rattle.droid_wire.specs.Steps.{TurnGives};
 
-use crate::ended::Ended;
 use crate::reply_frame::send_reply;
 use crate::serve_fault::ServeFault;
+use crate::stream_end::Ended;
 use droid_frame::{
     Arrival, FrameFault, HEADER_LENGTH, SteadyRead, SteadyWrite, read_frame, reply_body_len,
 };

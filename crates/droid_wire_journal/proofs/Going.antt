@@ -6,7 +6,7 @@ use Rattle.droid_frame.specs.types.frame.Frame.{Frame}
 use Rattle.droid_frame.specs.types.reply.Reply.{Reply}
 use Rattle.droid_journal_service.specs.core.Histories.{History}
 use Rattle.droid_journal_service.specs.core.Setting.{Setting}
-use Rattle.droid_journal_service.specs.journal.declared.fault.Fault.{Fault}
+use Rattle.droid_journal_service.specs.journal.declared.journal_fault.Fault.{Fault}
 use Rattle.droid_journal_service.specs.journal.declared.journal.Journal.{Journal}
 use Rattle.droid_journal_service.specs.chain.Records.{Record}
 use Rattle.droid_journal_service.specs.Standing.{AnswersIn, KeepsHistory, StandsForHistory}
@@ -17,10 +17,10 @@ use Rattle.droid_wire_pipe.specs.turns.Events.{Event, Unwritten, Wrote}
 use Rattle.droid_wire_pipe.specs.turns.Steps.{AllSettled, AtEach, Does, EachSettled, Goes, Handles, Happens, NeverFailed, Settles, Step, all_handled}
 use Rattle.droid_wire_pipe.specs.turns.Turns.{ServesAll, SettlesFirst}
 use Rattle.droid_wire_pipe.specs.turns.declared.rules.Rules.{Rules}
-use Rattle.droid_wire_pipe.specs.turns.declared.served.Served.{Served}
+use Rattle.droid_wire_pipe.specs.turns.declared.service_end.Served.{Served}
 use Rattle.droid_wire_journal.specs.Handling.{HandlesIn, HandlesSo, SettlesIn, SettlesSo}
 use Rattle.droid_wire_journal.specs.Serving.{Answered, AnswersJournal, AtMoments, CameOf, IsNextOf, IsWrite, Moment, ServesJournal, Shows}
-use Rattle.droid_frame.specs.stream_types.seen.Seen.{Seen}
+use Rattle.droid_frame.specs.stream_types.stream_record.Seen.{Seen}
 use Rattle.droid_wire_pipe.specs.Pipes.{AnswersOne, PipeDoes, rules_of_one}
 use Rattle.droid_wire_pipe.specs.declared.pipe.Pipe.{Pipe}
 use Rattle.droid_wire_journal.specs.declared.journal_handler.JournalHandler.{JournalHandler}

@@ -1,7 +1,7 @@
 -- The fault that is noted through the steps of a loop: one of writing, if any.
 use Rattle.std.proofs.Common.{◌≡◌, ℕ, Bool, true, false, Option, List, [], ◌∷◌, refl, sym, subst}
 use Rattle.droid_journal_service.specs.journal.Faults.{MayBeOfWriting}
-use Rattle.droid_journal_service.specs.journal.declared.fault.Fault.{Fault}
+use Rattle.droid_journal_service.specs.journal.declared.journal_fault.Fault.{Fault}
 use Rattle.droid_journal_service.specs.journal.declared.journal.Journal.{Journal}
 use Rattle.droid_journal_service.specs.declared.service_machine.ServiceMachine.{ServiceMachine}
 use Rattle.droid_wire_pipe.specs.turns.Chains.{GoesOver}

@@ -5,7 +5,7 @@ use Rattle.droid_frame.specs.types.reply.Reply.{Reply}
 use Rattle.droid_journal_service.specs.core.Histories.{History}
 use Rattle.droid_journal_service.specs.core.Setting.{Setting}
 use Rattle.droid_journal_service.specs.journal.Faults.{MayBeOfWriting}
-use Rattle.droid_journal_service.specs.journal.declared.fault.Fault.{Fault}
+use Rattle.droid_journal_service.specs.journal.declared.journal_fault.Fault.{Fault}
 use Rattle.droid_journal_service.specs.journal.declared.journal.Journal.{Journal}
 use Rattle.droid_journal_service.specs.chain.Records.{Record}
 use Rattle.droid_journal_service.specs.Standing.{AnswersIn, IsNextOr, KeepsHistory, StandsForHistory}

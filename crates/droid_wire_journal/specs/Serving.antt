@@ -8,7 +8,7 @@ use Rattle.droid_journal_service.specs.chain.Records.{Record}
 use Rattle.droid_journal_service.specs.Standing.{AnswersIn, KeepsHistory}
 use Rattle.droid_wire_journal.specs.Handling.{HandlesSo, SettlesSo}
 use Rattle.droid_wire_journal.specs.declared.journal_handler.JournalHandler.{JournalHandler}
-use Rattle.droid_frame.specs.stream_types.seen.Seen.{Seen}
+use Rattle.droid_frame.specs.stream_types.stream_record.Seen.{Seen}
 use Rattle.droid_wire_pipe.specs.Pipes.{AnswersOne, PipeDoes}
 use Rattle.droid_wire_pipe.specs.declared.pipe.Pipe.{Pipe}
 use Rattle.droid_wire_pipe.specs.turns.Chains.{GoesOver}
@@ -16,7 +16,7 @@ use Rattle.droid_wire_pipe.specs.turns.Events.{Event, Unwritten, Wrote}
 use Rattle.droid_wire_pipe.specs.turns.Steps.{AtEach, Does, Happens, Step, all_handled}
 use Rattle.droid_wire_pipe.specs.turns.Turns.{ServesAll}
 use Rattle.droid_wire_pipe.specs.turns.declared.rules.Rules.{Rules}
-use Rattle.droid_wire_pipe.specs.turns.declared.served.Served.{Served}
+use Rattle.droid_wire_pipe.specs.turns.declared.service_end.Served.{Served}
 
 -- These frames were handled one after another from this history on, each with this reply; `after` is the history then.
 abbrev pub Answered : Setting → History → List (Frame × Reply) → History → Type 0

@@ -2,8 +2,8 @@
 //! crate re-exports the service, the file of a journal, and the loop.
 #![tactic(auto)]
 
+mod journal_connections;
 mod journal_handler;
-mod serving;
 mod stream;
 
 pub use droid_journal_service::{
@@ -14,6 +14,6 @@ pub use droid_journal_service::{
 pub use droid_wire_pipe::{
     Came, Connections, Departure, Handler, Pipe, Rules, Served, Took, WaitFault, serve_in_turns,
 };
+pub use journal_connections::serve_journal;
 pub use journal_handler::JournalHandler;
-pub use serving::serve_journal;
 pub use stream::answer_journal;

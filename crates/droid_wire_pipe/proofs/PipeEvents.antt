@@ -3,7 +3,7 @@ use Rattle.std.proofs.Common.{◌≡◌, ℕ, List, [], Option, subst, sym, inl}
 use Rattle.std.proofs.KnownBytes.{Appends-nil, Consumes-nil}
 use Rattle.std.specs.Io.KnownBytes.{Appends, Consumes}
 use Rattle.droid_frame.specs.Seen.{Counts}
-use Rattle.droid_frame.specs.stream_types.seen.Seen.{Seen}
+use Rattle.droid_frame.specs.stream_types.stream_record.Seen.{Seen}
 use Rattle.droid_wire_turns.specs.Events.{read_event, write_event}
 use Rattle.droid_wire_turns.specs.declared.connections.Came.{Came}
 use Rattle.droid_wire_turns.specs.declared.connections.Came.TheVariants as came_as

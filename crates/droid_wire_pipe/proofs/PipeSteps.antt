@@ -4,7 +4,7 @@ use Rattle.std.proofs.KnownBytes.{Appends-nil, Appends-trans, Consumes-nil, Cons
 use Rattle.std.proofs.lemmas.Bool.{eq-eqb}
 use Rattle.std.specs.Io.KnownBytes.{Appends, Consumes}
 use Rattle.std.specs.Prelude.{fold}
-use Rattle.droid_frame.specs.stream_types.seen.Seen.{Seen}
+use Rattle.droid_frame.specs.stream_types.stream_record.Seen.{Seen}
 use Rattle.droid_frame.specs.types.frame.Frame.{Frame}
 use Rattle.droid_frame.specs.types.reply.Reply.{Reply}
 use Rattle.droid_wire_turns.specs.Chains.{GoesOver}
@@ -12,7 +12,7 @@ use Rattle.droid_wire_turns.specs.Events.{Read, Wrote}
 use Rattle.droid_wire_turns.specs.Steps.{Does, Goes, Handles, Happens, Settles, Step, bytes_read, bytes_written, came, went}
 use Rattle.droid_wire_turns.specs.Turns.{ServesAll}
 use Rattle.droid_wire_turns.specs.declared.departure.Departure.{Departure}
-use Rattle.droid_wire_turns.specs.declared.served.Served.{Served}
+use Rattle.droid_wire_turns.specs.declared.service_end.Served.{Served}
 use Rattle.droid_wire_pipe.specs.Pipes.{AnswersOne, PipeDoes, left_behind, rules_of_one}
 use Rattle.droid_wire_pipe.specs.declared.pipe.Pipe.{Pipe}
 

@@ -3,7 +3,7 @@ use Rattle.std.specs.Prelude.{◌≡◌, ◌⊎◌, ℕ, ◌==◌, if◌then◌e
 use Rattle.std.specs.Io.KnownBytes.{Appends, Consumes, IsAtEnd}
 use Rattle.droid_frame.specs.Seen.{Counts, GivesUp}
 use Rattle.droid_frame.specs.Writes.{WriterStops}
-use Rattle.droid_frame.specs.stream_types.seen.Seen.{Seen}
+use Rattle.droid_frame.specs.stream_types.stream_record.Seen.{Seen}
 use Rattle.droid_wire_turns.specs.Events.{Event, Closed, Ended, Opened, Read, Unread, Unwritten, Wrote}
 use Rattle.droid_wire_turns.specs.Steps.{Happens, Step, came, went}
 use Rattle.droid_wire_turns.specs.Turns.{ServesAll}
@@ -13,7 +13,7 @@ use Rattle.droid_wire_turns.specs.declared.connections.Took.{Took}
 use Rattle.droid_wire_turns.specs.declared.connections.Took.TheVariants as took_as
 use Rattle.droid_wire_turns.specs.declared.departure.Departure.{Departure}
 use Rattle.droid_wire_turns.specs.declared.rules.Rules.{Rules}
-use Rattle.droid_wire_turns.specs.declared.served.Served.{Served}
+use Rattle.droid_wire_turns.specs.declared.service_end.Served.{Served}
 use Rattle.droid_wire_pipe.specs.declared.pipe.Pipe.{Pipe}
 
 -- what a read did to the reader

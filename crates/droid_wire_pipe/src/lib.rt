@@ -4,11 +4,11 @@
 //! The crate re-exports the loop.
 #![tactic(auto)]
 
-mod answering;
 mod pipe;
+mod stream_answers;
 
-pub use answering::answer_pipe;
 pub use droid_wire_turns::{
     Came, Connections, Departure, Handler, Rules, Served, Took, WaitFault, serve_in_turns,
 };
 pub use pipe::Pipe;
+pub use stream_answers::answer_pipe;

@@ -20,8 +20,8 @@ use Rattle.droid_wire_turns.specs.declared.departure.Departure.TheVariants as de
 use Rattle.droid_wire_turns.specs.declared.hall.Hall.{Hall}
 use Rattle.droid_wire_turns.specs.declared.peer.Peer.{Peer}
 use Rattle.droid_wire_turns.specs.declared.rules.Rules.{Rules}
-use Rattle.droid_wire_turns.specs.declared.served.Served.{Served as Ending}
-use Rattle.droid_wire_turns.specs.declared.served.Served.TheVariants as ways
+use Rattle.droid_wire_turns.specs.declared.service_end.Served.{Served as Ending}
+use Rattle.droid_wire_turns.specs.declared.service_end.Served.TheVariants as ways
 use Rattle.droid_wire_turns.proofs.OwnSteps.{Elsewhere, all_elsewhere, at_once, calm, clock_more, clock_told, closed_elsewhere, gathered, none_elsewhere, none_gathered, none_more, opened_elsewhere, settling_elsewhere, times_now, times_one, times_opened, turn_more}
 use Rattle.droid_wire_turns.proofs.AllConnections.{Leaves, cases_zero, keeps_as, keeps_closed, keeps_none, keeps_opened, keeps_settled, keeps_start, keeps_told, keeps_traffic, keeps_unwaited, keeps_waited, lt_self, numbers_size, one_here, one_other}
 use Rattle.droid_wire_turns.proofs.Moments.{all_as, all_both, all_first, all_last, always_end, goes_both, goes_moving, goes_settling, moves_both, moves_event}

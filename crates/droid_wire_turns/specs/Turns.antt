@@ -8,8 +8,8 @@ use Rattle.droid_wire_turns.specs.Steps.{AllSettled, Always, AreOfOthers, AtEach
 use Rattle.droid_wire_turns.specs.declared.departure.Departure.{Departure}
 use Rattle.droid_wire_turns.specs.declared.departure.Departure.TheVariants as departures
 use Rattle.droid_wire_turns.specs.declared.rules.Rules.{Rules}
-use Rattle.droid_wire_turns.specs.declared.served.Served.{Served}
-use Rattle.droid_wire_turns.specs.declared.served.Served.TheVariants as ways
+use Rattle.droid_wire_turns.specs.declared.service_end.Served.{Served}
+use Rattle.droid_wire_turns.specs.declared.service_end.Served.TheVariants as ways
 
 -- ---- how each connection ends
 

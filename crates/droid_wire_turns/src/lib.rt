@@ -10,12 +10,12 @@ mod hall;
 mod handler;
 mod peer;
 mod rules;
-mod served;
+mod service_end;
 mod turns;
 
 pub use connections::{Came, Connections, Took, WaitFault};
 pub use departure::Departure;
 pub use handler::Handler;
 pub use rules::Rules;
-pub use served::Served;
+pub use service_end::Served;
 pub use turns::serve_in_turns;

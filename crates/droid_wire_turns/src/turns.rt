@@ -7,7 +7,7 @@ use crate::connections::Connections;
 use crate::hall::Hall;
 use crate::handler::Handler;
 use crate::rules::Rules;
-use crate::served::Served;
+use crate::service_end::Served;
 use std::alloc::Global;
 
 /// Serves many connections in turns, until as many as are wanted came and left.

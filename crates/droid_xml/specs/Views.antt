@@ -5,7 +5,7 @@ use Rattle.droid_xml.specs.declared.attributes.Attribute.{Attribute}
 use Rattle.droid_xml.specs.declared.tags.Element.{Element}
 use Rattle.droid_xml.specs.declared.pieces.Piece.{Piece}
 use Rattle.droid_xml.specs.declared.pieces.Piece.TheVariants as pieces
-use Rattle.droid_xml.specs.declared.nesting.Open.{Open}
+use Rattle.droid_xml.specs.declared.open_elements.Open.{Open}
 use Rattle.droid_xml.specs.declared.reader.Reader.{Reader}
 use Rattle.droid_xml.specs.Attributes.{Setting}
 use Rattle.droid_xml.specs.Tags.{Tag}

@@ -11,7 +11,7 @@ mod declarations;
 pub mod laws;
 mod line_ends;
 mod names;
-mod nesting;
+mod open_elements;
 mod pieces;
 mod problem;
 mod reader;

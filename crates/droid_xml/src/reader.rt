@@ -9,7 +9,7 @@ ghost use Rattle.droid_xml.specs.Views.{Goes, IsFaultOf, IsMemory, IsProblem, St
 
 use crate::bytes::after;
 use crate::declarations::{declaration_at, declaration_start, is_readable};
-use crate::nesting::Open;
+use crate::open_elements::Open;
 use crate::pieces::{Piece, piece_at};
 use crate::problem::{Fault, Problem, Stop};
 use std::alloc::Global;

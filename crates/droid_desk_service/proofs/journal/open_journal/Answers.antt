@@ -6,7 +6,7 @@ use Rattle.droid_desk_service.proofs.Headers.{is_header, left_header, no_damage,
 use Rattle.droid_wire.specs.with_journal.service.Histories.{GivesReply, IsBetween, no_base}
 use Rattle.droid_wire.specs.with_journal.service.Standing.{IsLeft, StandsForHistory}
 use Rattle.droid_wire.specs.with_journal.service.journal.Opening.{HasHeader, IsKept, WasRefuted}
-use Rattle.droid_wire.specs.with_journal.service.journal.declared.fault.Fault.TheVariants as faults
+use Rattle.droid_wire.specs.with_journal.service.journal.declared.journal_fault.Fault.TheVariants as faults
 use Rattle.droid_wire.specs.Histories.{History}
 use Rattle.droid_desk_service.proofs.journal.open_journal.Goals as goal
 

@@ -2,7 +2,7 @@ use Rattle.std.proofs.Common.{◌≡◌, ◌++◌, length, take, subst, sym, ap,
 use Rattle.std.proofs.lemmas.List.{length-append, length-take, take-append-le}
 use Rattle.std.proofs.KnownBytes.{Consumes-trans}
 use Rattle.std.specs.Io.KnownBytes.{Consumes}
-use Rattle.droid_frame_stream.specs.declared.fault.InputFault.TheVariants.{Memory}
+use Rattle.droid_frame_stream.specs.declared.stream_fault.InputFault.TheVariants.{Memory}
 use Rattle.droid_frame_stream.proofs.Inputs.{passed_fault}
 use Rattle.droid_frame_stream.proofs.Scopes.{counts_none, is_error, reported_fault, reported_none}
 use Rattle.droid_frame_stream.proofs.input.read_to_end.Goals as goal

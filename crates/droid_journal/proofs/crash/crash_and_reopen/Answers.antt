@@ -1,6 +1,6 @@
 use Rattle.std.proofs.Common.{◌≡◌, ◌∙◌, List, ℕ, ◌++◌, Err, length, ap, subst, inr}
 use Rattle.droid_journal_chain.specs.Chains.{NoneLaterByChance}
-use Rattle.droid_journal.specs.declared.fault.Fault.TheVariants as faults
+use Rattle.droid_journal.specs.declared.journal_fault.Fault.TheVariants as faults
 use Rattle.droid_journal.proofs.crash.crash_and_reopen.Goals as goal
 
 pub open-requires-clause-kept : goal.open-requires-clause-kept

@@ -2,7 +2,7 @@ use Rattle.std.proofs.Common.{◌≡◌, ◌<◌, ℕ, List, [], length, refl, s
 use Rattle.std.specs.Prelude.{MatchResult}
 use Rattle.droid_tree.specs.Observation.{BytesCame}
 use Rattle.droid_tree.specs.Reading.{IsPastEnd}
-use Rattle.droid_tree.specs.declared.skipped.Skipped.TheVariants as reasons
+use Rattle.droid_tree.specs.declared.skip_reason.Skipped.TheVariants as reasons
 use Rattle.droid_tree.proofs.FileReads.{came_more, stops}
 use Rattle.droid_tree.proofs.pieces.see_end.Goals as goal
 

@@ -6,7 +6,7 @@ use Rattle.droid_frame.specs.declared.stream.fault.FrameFault.TheVariants.{Read}
 use Rattle.droid_wire.specs.declared.serve_fault.ServeFault.TheVariants as faults
 use Rattle.droid_frame.specs.InTurn.{ReportsFaultInTurn}
 use Rattle.droid_wire.specs.Turns.{ReadsFrame, WritesReply}
-use Rattle.droid_wire.specs.declared.ended.Ended.{Ended}
+use Rattle.droid_wire.specs.declared.stream_end.Ended.{Ended}
 use Rattle.droid_wire.specs.declared.serve_fault.ServeFault.{ServeFault}
 use Rattle.droid_wire.specs.Serving.{Outcome}
 use Rattle.droid_wire.proofs.Ends.{stopped, stream_closed, turns_done}

@@ -3,7 +3,7 @@ use Rattle.droid_wire_turns.specs.Events.{Unwaited, Waited}
 use Rattle.droid_wire_turns.specs.Halls.{GivesUp, Stops, TakesTurn, Turned}
 use Rattle.droid_wire_turns.specs.Turns.{ServesAll}
 use Rattle.droid_wire_turns.specs.Steps.{Goes, Happens, Step}
-use Rattle.droid_wire_turns.specs.declared.served.Served.TheVariants as ways
+use Rattle.droid_wire_turns.specs.declared.service_end.Served.TheVariants as ways
 use Rattle.droid_wire_turns.proofs.Moments.{goes_as, goes_both, goes_moving, goes_none, moves_both, moves_one}
 use Rattle.droid_wire_turns.proofs.HallSteps.{FailsAndStops, IsBetween, WaitsAndFails, WaitsAndGoes, ended_all, ended_at_once, ended_stopped, failed, turned, unsettled}
 use Rattle.droid_wire_turns.proofs.Settling.{ordered_none}

@@ -2,7 +2,7 @@ use Rattle.std.proofs.Common.{◌≡◌, ◌+◌, [], ◌++◌, length, ap, refl
 use Rattle.std.proofs.lemmas.List.{append-nil, length-append}
 use Rattle.std.specs.Io.KnownBytes.{Appends}
 use Rattle.std.proofs.KnownBytes.{Appends-trans}
-use Rattle.droid_frame_stream.specs.declared.fault.WriteFault.{WriteFault}
+use Rattle.droid_frame_stream.specs.declared.stream_fault.WriteFault.{WriteFault}
 use Rattle.droid_frame_stream.specs.Writes.{StopsWithin, Takes}
 use Rattle.droid_frame_stream.proofs.Scopes.{counts_begin}
 use Rattle.droid_frame_stream.proofs.Stopping.{reported_stop}

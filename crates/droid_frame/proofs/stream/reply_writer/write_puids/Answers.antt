@@ -1,6 +1,6 @@
 use Rattle.std.proofs.Common.{◌≡◌, ◌+◌, ◌++◌, List, ℕ, suc, length, take, drop, ap, sym, subst, ◌∙◌, arith}
 use Rattle.std.proofs.lemmas.Grind.{common_steps}
-use Rattle.droid_frame_stream.specs.declared.fault.WriteFault.{WriteFault}
+use Rattle.droid_frame_stream.specs.declared.stream_fault.WriteFault.{WriteFault}
 use Rattle.droid_frame_stream.specs.Writes.{StopsWithin, Takes}
 use Rattle.droid_frame_stream.proofs.Stopping.{takes_more}
 use Rattle.droid_frame_bodies.specs.TextLists.{sized_bytes, texts_bytes}

@@ -1,6 +1,6 @@
 use Rattle.std.proofs.Common.{◌≡◌, ◌≤◌, ◌+◌, ◌++◌, [], length, refl, ◌∙◌, arith}
 use Rattle.std.specs.Io.KnownBytes.{Appends}
-use Rattle.droid_frame_stream.specs.declared.fault.WriteFault.{WriteFault}
+use Rattle.droid_frame_stream.specs.declared.stream_fault.WriteFault.{WriteFault}
 use Rattle.droid_frame_bodies.specs.Replies.{reply_bytes}
 use Rattle.droid_frame.specs.ReplyFrames.{reply_frame}
 use Rattle.droid_frame.specs.ReplyFronts.{reply_front, reply_rest}

@@ -4,7 +4,7 @@ use Rattle.std.proofs.lemmas.Result.{IfOk-weaker}
 use Rattle.droid_journal_smaller.specs.core.Histories.{History}
 use Rattle.droid_journal_smaller.specs.recovery.revival.BareWorlds.{Bare}
 use Rattle.droid_journal_disk.specs.chain.Records.{Record}
-use Rattle.droid_journal_disk.specs.journal.declared.fault.Fault.TheVariants as faults
+use Rattle.droid_journal_disk.specs.journal.declared.journal_fault.Fault.TheVariants as faults
 use Rattle.droid_journal_smaller.specs.recovery.Standing.{Recovery}
 use Rattle.droid_journal_smaller.specs.recovery.BareRecords.{LeadTo}
 use Rattle.droid_journal_service.specs.Histories.{HasBare, IsBetween}

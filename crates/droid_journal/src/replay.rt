@@ -1,0 +1,125 @@
+//! Handing a machine the records of a file again.
+
+ghost use Rattle.std.specs.Prelude.{◌≡◌, ◌+◌, ◌<◌, ◌≤◌, ◌^◌, ◌∷◌, ◌++◌, ℕ, Bool, List, [], length, true, IfErr, IfNone, IfOk, IfSome, IsErrOf, OnOk};
+ghost use Rattle.droid_frame.specs.types.refusal.Refusal.TheVariants.{Memory};
+ghost use Rattle.droid_frame.specs.types.reply.Reply.TheVariants.{Refused};
+ghost use Rattle.droid_journal.specs.Faults.{IsOfReading};
+ghost use Rattle.droid_journal.specs.Replaying.{Fails, GaveOne, Refutes, Replays};
+ghost use Rattle.droid_journal_chain.specs.Chains.{BeginsNoRecord, BeginsWith};
+ghost use Rattle.droid_journal_chain.specs.Records.{Record, checksum, made};
+
+use crate::frames::{frame_of, is_same, reply_bytes};
+use crate::journal_fault::Fault;
+use crate::machine::Machine;
+use droid_frame::{Refusal, Reply};
+use droid_journal_chain::{Found, record_of};
+use std::alloc::Global;
+
+/// How far the records of some bytes were handed to a machine.
+#[derive(Clone, Copy)]
+pub(crate) struct Replayed {
+    /// How many bytes the records have.
+    pub(crate) used: usize,
+    /// The check value of the last record.
+    pub(crate) check: [u8; 16],
+    /// How many records there were so far in all.
+    pub(crate) records: u64,
+}
+
+/// Whether a reply says that memory ran out.
+fn is_out_of_memory(reply: &Reply) -> bool
+    ensures { reply.now ≡ Refused Memory → result ≡ true }
+{
+    matches!(reply, Reply::Refused(Refusal::Memory))
+}
+
+/// Hands a machine the request of a record, of which this is the checksum, and sees that it is accepted with the reply of
+/// the record.
+fn replay_one<M: Machine + Drop>(
+    alloc: Global,
+    machine: &mut M,
+    request: &[u8],
+    sum: [u8; 16],
+    reply: &[u8],
+    number: u64,
+) -> Result<(), Fault>
+    requires { sum ≡ checksum request.now }
+    ensures stands { (setting : M.Setting) (before : List Record) (first : Bool) → M.stands setting machine.old before
+        → OnOk result (M.stands setting machine.new (before ++ made first request.now reply.now ∷ [])) }
+    ensures gave { (setting : M.Setting) (before : List Record) (first : Bool) → M.stands setting machine.old before
+        → OnOk result (GaveOne (M.gives setting) before (made first request.now reply.now)) }
+    ensures fault { IfErr result IsOfReading }
+    // A record is named only if it is none of a journal of this machine, and by its own number.
+    ensures number { (other : ℕ) → IsErrOf result (Fault.Record other) → other ≡ number }
+    ensures refuted { (other : ℕ) → IsErrOf result (Fault.Record other) → (setting : M.Setting) (before : List Record) → M.stands setting machine.old before
+        → Refutes (M.gives setting) before request.now reply.now }
+{
+    let frame = match frame_of(alloc, request) {
+        Ok(Some(frame)) => frame,
+        Ok(None) => return Err(Fault::Record(number)),
+        Err(_) => return Err(Fault::Memory),
+    };
+    let (version, client, its) = (frame.version, frame.client, frame.number);
+    let handled = machine.handle(frame, sum);
+    if is_out_of_memory(&handled.reply) {
+        return Err(Fault::Memory);
+    }
+    if !handled.accepted {
+        return Err(Fault::Record(number));
+    }
+    let spelled = reply_bytes(alloc, version, client, its, &handled.reply)?;
+    if !is_same(&spelled, reply) {
+        return Err(Fault::Record(number));
+    }
+    Ok(())
+}
+
+/// Reads the record at the front of bytes.
+fn next_of<'a>(start: &[u8], check: [u8; 16], bytes: &'a [u8]) -> Option<Found<'a>>
+    ensures found { IfSome result (λ x. BeginsWith start.now check bytes.now (made x.first x.request.now x.reply.now) x.check x.rest.now) }
+    ensures sum { IfSome result (λ x. x.sum ≡ checksum x.request.now) }
+    ensures none { IfNone result (BeginsNoRecord start.now check bytes.now) }
+{
+    record_of(start, &check, bytes)
+}
+
+/// Hands a machine each record at the front of bytes, behind `records` records of which the last has this check value.
+pub(crate) fn replay<M: Machine + Drop>(
+    alloc: Global,
+    machine: &mut M,
+    start: &[u8],
+    check: [u8; 16],
+    records: u64,
+    bytes: &[u8],
+) -> Result<Replayed, Fault>
+    requires count { records + length bytes.now < 2 ^ 64 }
+    ensures replays { IfOk result (λ x. Replays M.stands M.gives start.now check bytes.now records machine.old x.used x.check x.records machine.new) }
+    ensures bound { IfOk result (λ x. x.used ≤ length bytes.now) }
+    ensures fault { IfErr result IsOfReading }
+    ensures refuted { (number : ℕ) → IsErrOf result (Fault.Record number) → Fails M.stands M.gives start.now check bytes.now records machine.old number }
+{
+    let mut rest = bytes;
+    let mut check = check;
+    let mut records = records;
+    while let Some(found) = next_of(start, check, rest) {
+        records += 1;
+        match replay_one(
+            alloc,
+            machine,
+            found.request,
+            found.sum,
+            found.reply,
+            records,
+        ) {
+            Ok(()) => {}
+            Err(fault) => return Err(fault),
+        }
+        check = found.check;
+        rest = found.rest;
+    }
+    Ok(Replayed {
+        used: bytes.len() - rest.len(),
+        check,
+        records,
+    })
+}

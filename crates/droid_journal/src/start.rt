@@ -1,0 +1,311 @@
+//! Opening a journal: a machine that stands for the records of a file.
+
+ghost use Rattle.std.specs.Prelude.{◌≡◌, ◌≢◌, ◌≤◌, ℕ, List, [], length, take, IfOk, IfErr, IsErrOf, OnErr, OnOk};
+ghost use Rattle.droid_journal.specs.Opening.{HasHeader, IsBegun, IsKept, IsReady, Knows, PartWithin, ReadsAll, WasDamaged, WasFound, WasRefuted};
+ghost use Rattle.droid_journal.specs.Replaying.{Gave};
+ghost use Rattle.droid_journal.specs.Turns.{IsTurn};
+ghost use Rattle.droid_journal_chain.specs.Chains.{NoneLaterByChance, NotByChance, journal_bytes};
+ghost use Rattle.droid_journal_chain.specs.Fronts.{IsFront};
+ghost use Rattle.droid_journal_chain.specs.Records.{AllFit, Record};
+
+use crate::file_records::{WINDOW, hand_all, is_damaged};
+use crate::frames::is_same;
+use crate::journal_fault::Fault;
+use crate::log_file::LogFile;
+use crate::machine::Machine;
+use crate::place::Place;
+use droid_journal_chain::start_of;
+use std::alloc::Global;
+
+/// A machine that stands for the records of a file.
+#[derive(Drop)]
+pub struct Opened<M> {
+    /// The machine.
+    pub machine: M,
+    /// The MD5 of the file's header.
+    pub(crate) start: [u8; 16],
+    /// The check value of the last record.
+    pub(crate) check: [u8; 16],
+    /// How many records there are.
+    pub records: u64,
+}
+
+impl<M> Opened<M> {
+    /// Puts another machine in the place of this one, and returns this one too.
+    pub fn with<N>(self, machine: N) -> (M, Opened<N>)
+        ensures old { result.0 ≡ self.machine }
+        ensures new { result.1.machine ≡ machine }
+        ensures start { result.1.start ≡ self.start }
+        ensures check { result.1.check ≡ self.check }
+        ensures records { result.1.records ≡ self.records }
+    {
+        let Opened {
+            machine: old,
+            start,
+            check,
+            records,
+        } = self;
+        let new = Opened {
+            machine,
+            start,
+            check,
+            records,
+        };
+        (old, new)
+    }
+}
+
+/// What a file begins with.
+enum Beginning {
+    /// The header.
+    Whole,
+    /// So many bytes of the header, and nothing else.
+    Part(usize),
+}
+
+/// Reads what a file begins with.
+fn beginning_of<F: LogFile>(file: &F, header: &[u8], buffer: &mut [u8]) -> Result<Beginning, Fault>
+    requires found { F.is_found file.now }
+    requires header { length header.now ≤ 4096 }
+    requires window { length buffer.old ≡ 16777216 }
+    ensures window { length buffer.new ≡ 16777216 }
+    ensures begins { (s : List ℕ) → F.has file.now s → IfOk result (Knows header.now s) }
+    ensures part { IfOk result (PartWithin header.now) }
+    ensures other { IsErrOf result Fault.Header → (s : List ℕ) → F.has file.now s → (HasHeader header.now s → ⊥) × ((count : ℕ) → IsBegun header.now s count → ⊥) }
+    ensures others { (n : ℕ) → (IsErrOf result (Fault.Damage n) → ⊥) × (IsErrOf result (Fault.Record n) → ⊥) }
+{
+    let Ok(count) = file.read_at(0, buffer) else {
+        return Err(Fault::Read);
+    };
+    beginning_in(&buffer[..count], header)
+}
+
+/// Tells what a file begins with, by its first 16 MiB.
+fn beginning_in(seen: &[u8], header: &[u8]) -> Result<Beginning, Fault>
+    requires { length header.now ≤ 4096 }
+    ensures begins { (s : List ℕ) → seen.now ≡ take 16777216 s → IfOk result (Knows header.now s) }
+    ensures other { IsErrOf result Fault.Header → (s : List ℕ) → seen.now ≡ take 16777216 s → (HasHeader header.now s → ⊥) × ((count : ℕ) → IsBegun header.now s count → ⊥) }
+    ensures part { IfOk result (PartWithin header.now) }
+    ensures header { IfErr result (λ fault. fault ≡ Fault.Header) }
+{
+    if seen.len() >= header.len() {
+        if !is_same(&seen[..header.len()], header) {
+            return Err(Fault::Header);
+        }
+        return Ok(Beginning::Whole);
+    }
+    if !is_same(seen, &header[..seen.len()]) {
+        return Err(Fault::Header);
+    }
+    Ok(Beginning::Part(seen.len()))
+}
+
+/// Writes what a file lacks of its header, and syncs it.
+fn make_header<F: LogFile>(file: &mut F, header: &[u8], count: usize) -> Result<(), Fault>
+    requires { count ≤ length header.now }
+    ensures made { (s : List ℕ) → F.has file.old s → IsBegun header.now s count → OnOk result (F.has file.new header.now × (F.kept file.new ≡ header.now)) }
+    ensures kept { OnErr result (F.kept file.new ≡ F.kept file.old) }
+{
+    if file.append(&header[count..]).is_err() {
+        return Err(Fault::Write);
+    }
+    match file.sync() {
+        Ok(()) => Ok(()),
+        Err(_) => Err(Fault::Write),
+    }
+}
+
+/// Cuts a file behind its records, and syncs it.
+fn cut_behind<F: LogFile>(file: &mut F, end: u64) -> Result<(), Fault>
+    requires found { F.is_found file.old }
+    requires within { (s : List ℕ) → F.has file.old s → (length (F.kept file.old) ≤ end) × (end ≤ length s) }
+    ensures cut { (s : List ℕ) → F.has file.old s → OnOk result (F.has file.new (take end s) × (F.kept file.new ≡ take end s)) }
+    ensures kept { OnErr result (F.kept file.new ≡ F.kept file.old) }
+{
+    if file.cut(end).is_err() {
+        return Err(Fault::Write);
+    }
+    match file.sync() {
+        Ok(()) => Ok(()),
+        Err(_) => Err(Fault::Write),
+    }
+}
+
+/// Hands a machine all records of a file that has this header, and sees that nothing behind them was damaged.
+fn read_all<F: LogFile, M: Machine + Drop>(
+    alloc: Global,
+    file: &F,
+    header: &[u8],
+    machine: &mut M,
+    buffer: &mut [u8],
+) -> Result<Place, Fault>
+    requires found { F.is_found file.now }
+    requires header { length header.now ≤ 4096 }
+    requires window { length buffer.old ≡ 16777216 }
+    ensures read { (s : List ℕ) → F.has file.now s → HasHeader header.now s
+        → IfOk result (λ to. (its : List Record) × ReadsAll M.stands M.gives header.now s machine.old machine.new to its) }
+    ensures damage { (n : ℕ) → IsErrOf result (Fault.Damage n) → (s : List ℕ) → F.has file.now s → HasHeader header.now s → WasDamaged header.now s n }
+    ensures refuted { (n : ℕ) → IsErrOf result (Fault.Record n) → (setting : M.Setting) (s : List ℕ) → F.has file.now s → HasHeader header.now s → M.stands setting machine.old []
+        → WasRefuted (M.gives setting) header.now s n }
+    ensures others { IsErrOf result Fault.Header → ⊥ }
+{
+    let start = start_of(header);
+    let from = Place {
+        at: header.len() as u64,
+        check: start,
+        records: 0,
+    };
+    let to = match hand_all(alloc, file, machine, &start, from, buffer) {
+        Ok(to) => to,
+        Err(fault) => return Err(fault),
+    };
+    let Ok(later) = is_damaged(file, &start, to.at, buffer) else {
+        return Err(Fault::Read);
+    };
+    if later {
+        return Err(Fault::Damage(to.records));
+    }
+    Ok(to)
+}
+
+/// Opens a file that has this header.
+fn open_whole<F: LogFile, M: Machine + Drop>(
+    alloc: Global,
+    file: &mut F,
+    header: &[u8],
+    machine: M,
+    buffer: &mut [u8],
+) -> Result<Opened<M>, Fault>
+    requires found { F.is_found file.old }
+    requires header { length header.now ≤ 4096 }
+    requires window { length buffer.old ≡ 16777216 }
+    requires begins { (s : List ℕ) → F.has file.old s → HasHeader header.now s }
+    requires kept { (s : List ℕ) → F.has file.old s → IsKept header.now (F.kept file.old) }
+    ensures opened { (s : List ℕ) → F.has file.old s → IfOk result (λ opened. (its : List Record) × WasFound header.now s its
+        × ((setting : M.Setting) → M.stands setting machine [] → IsReady F.has F.kept (M.stands setting) header.now file.new opened its × Gave (M.gives setting) [] its)) }
+    ensures unchanged { IfErr result (λ fault. fault ≢ Fault.Write → file.new ≡ file.old) }
+    ensures kept { OnErr result (F.kept file.new ≡ F.kept file.old) }
+    ensures damage { (n : ℕ) → IsErrOf result (Fault.Damage n) → (s : List ℕ) → F.has file.old s → WasDamaged header.now s n }
+    ensures refuted { (n : ℕ) → IsErrOf result (Fault.Record n) → (setting : M.Setting) (s : List ℕ) → F.has file.old s → M.stands setting machine []
+        → WasRefuted (M.gives setting) header.now s n }
+    ensures others { IsErrOf result Fault.Header → ⊥ }
+{
+    let mut machine = machine;
+    let to = match read_all(alloc, file, header, &mut machine, buffer) {
+        Ok(to) => to,
+        Err(fault) => return Err(fault),
+    };
+    match cut_behind(file, to.at) {
+        Ok(()) => {}
+        Err(_) => return Err(Fault::Write),
+    }
+    let start = start_of(header);
+    let check = to.check;
+    Ok(Opened {
+        machine,
+        start,
+        check,
+        records: to.records,
+    })
+}
+
+/// Opens a file that has less than this header, and nothing else.
+fn open_begun<F: LogFile, M: Machine + Drop>(
+    file: &mut F,
+    header: &[u8],
+    machine: M,
+    count: usize,
+) -> Result<Opened<M>, Fault>
+    requires count { count ≤ length header.now }
+    requires begins { (s : List ℕ) → F.has file.old s → IsBegun header.now s count }
+    ensures opened { (s : List ℕ) → F.has file.old s → IfOk result (λ opened. (its : List Record) × WasFound header.now s its
+        × ((setting : M.Setting) → M.stands setting machine [] → IsReady F.has F.kept (M.stands setting) header.now file.new opened its × Gave (M.gives setting) [] its)) }
+    ensures fault { IfErr result (λ fault. fault ≡ Fault.Write) }
+    ensures kept { OnErr result (F.kept file.new ≡ F.kept file.old) }
+{
+    match make_header(file, header, count) {
+        Ok(()) => {}
+        Err(_) => return Err(Fault::Write),
+    }
+    let start = start_of(header);
+    Ok(Opened {
+        machine,
+        start,
+        check: start,
+        records: 0,
+    })
+}
+
+/// Opens a file, by this buffer.
+fn open_by<F: LogFile, M: Machine + Drop>(
+    alloc: Global,
+    file: &mut F,
+    header: &[u8],
+    machine: M,
+    buffer: &mut [u8],
+) -> Result<Opened<M>, Fault>
+    requires found { F.is_found file.old }
+    requires header { length header.now ≤ 4096 }
+    requires window { length buffer.old ≡ 16777216 }
+    requires kept { (s : List ℕ) → F.has file.old s → HasHeader header.now s → IsKept header.now (F.kept file.old) }
+    ensures opened { (s : List ℕ) → F.has file.old s → IfOk result (λ opened. (its : List Record) × WasFound header.now s its
+        × ((setting : M.Setting) → M.stands setting machine [] → IsReady F.has F.kept (M.stands setting) header.now file.new opened its × Gave (M.gives setting) [] its)) }
+    ensures unchanged { IfErr result (λ fault. fault ≢ Fault.Write → file.new ≡ file.old) }
+    ensures kept { OnErr result (F.kept file.new ≡ F.kept file.old) }
+    ensures damage { (n : ℕ) → IsErrOf result (Fault.Damage n) → (s : List ℕ) → F.has file.old s → WasDamaged header.now s n }
+    ensures refuted { (n : ℕ) → IsErrOf result (Fault.Record n) → (setting : M.Setting) (s : List ℕ) → F.has file.old s → M.stands setting machine []
+        → WasRefuted (M.gives setting) header.now s n }
+    ensures other_header { IsErrOf result Fault.Header → (s : List ℕ) → F.has file.old s → (HasHeader header.now s → ⊥) × ((count : ℕ) → IsBegun header.now s count → ⊥) }
+{
+    let beginning = match beginning_of(file, header, buffer) {
+        Ok(beginning) => beginning,
+        Err(fault) => return Err(fault),
+    };
+    match beginning {
+        Beginning::Whole => open_whole(alloc, file, header, machine, buffer),
+        Beginning::Part(count) => match open_begun(file, header, machine, count) {
+            Ok(opened) => Ok(opened),
+            Err(_) => Err(Fault::Write),
+        },
+    }
+}
+
+/// Makes a machine stand for the records of a file, and cuts the file behind them; `machine` has accepted nothing yet. The
+/// file is made, if it is empty. Whatever a crash left behind what was synced, the machine then stands for the first of the
+/// requests that were accepted, in order, and for every one that was synced.
+///
+/// Nothing is written or cut before everything was read and found right: after any fault but [`Fault::Write`] the file is
+/// as it was.
+pub fn open<F: LogFile, M: Machine + Drop>(
+    alloc: Global,
+    file: &mut F,
+    header: &[u8],
+    machine: M,
+) -> Result<Opened<M>, Fault>
+    requires found { F.is_found file.old }
+    requires header { length header.now ≤ 4096 }
+    // What is kept of a file that has this header was written by a journal.
+    requires kept { (s : List ℕ) → F.has file.old s → HasHeader header.now s → IsKept header.now (F.kept file.old) }
+    ensures opened { (s : List ℕ) → F.has file.old s → IfOk result (λ opened. (its : List Record) × WasFound header.now s its
+        × ((setting : M.Setting) → M.stands setting machine [] → IsReady F.has F.kept (M.stands setting) header.now file.new opened its × Gave (M.gives setting) [] its)) }
+    ensures reopened { (setting : M.Setting) (s : List ℕ) (synced written : List Record) → F.has file.old s → M.stands setting machine [] → AllFit synced
+        → IsFront (journal_bytes header.now synced) s → NotByChance header.now written s
+        → IfOk result (λ opened. (its : List Record) × IsReady F.has F.kept (M.stands setting) header.now file.new opened its × IsFront synced its × IsFront its written) }
+    ensures unchanged { IfErr result (λ fault. fault ≢ Fault.Write → file.new ≡ file.old) }
+    // After any fault what is on the disk for sure is what it was.
+    ensures kept { OnErr result (F.kept file.new ≡ F.kept file.old) }
+    // Damage is told only where a record stands behind it that was written when all before it was on the disk.
+    ensures damage { (n : ℕ) → IsErrOf result (Fault.Damage n) → (s : List ℕ) → F.has file.old s → WasDamaged header.now s n }
+    // So it is never told of what a crash leaves of a journal, unless the end of the file has a record of a later turn by
+    // chance.
+    ensures lawful { (s : List ℕ) (synced written : List Record) (n : ℕ) → F.has file.old s → AllFit synced → IsFront (journal_bytes header.now synced) s → IsTurn synced written
+        → NoneLaterByChance header.now written s (length (journal_bytes header.now synced)) → IsErrOf result (Fault.Damage n) → ⊥ }
+    // A record is told only if no journal of such a machine wrote it behind those before it.
+    ensures refuted { (n : ℕ) → IsErrOf result (Fault.Record n) → (setting : M.Setting) (s : List ℕ) → F.has file.old s → M.stands setting machine []
+        → WasRefuted (M.gives setting) header.now s n }
+    // Another header is told only where the file begins with another, and not where it was not made whole.
+    ensures other_header { IsErrOf result Fault.Header → (s : List ℕ) → F.has file.old s → (HasHeader header.now s → ⊥) × ((count : ℕ) → IsBegun header.now s count → ⊥) }
+{
+    let mut buffer = vec![in alloc; 0u8; WINDOW]?;
+    open_by(alloc, file, header, machine, buffer.as_mut_slice())
+}

@@ -1,0 +1,99 @@
+//! Handling the frame of one record.
+
+ghost use Rattle.std.specs.Prelude.{◌≡◌, ◌≢◌, ℕ, true};
+ghost use Rattle.droid_core_revival.specs.core.MemoryFaults.{is_out_of_memory};
+ghost use Rattle.droid_core_revival.specs.core.Verdicts.{is_refused};
+ghost use Rattle.droid_core_revival.specs.frame.Frames.{mark_of};
+ghost use Rattle.droid_core_revival.specs.frame.Replies.{HasReplySpelling};
+ghost use Rattle.droid_core_revival.specs.frame.Streams.{IsReadable};
+ghost use Rattle.droid_journal_recovery.specs.Taking.{Takes};
+
+use crate::frame_reader::{BareFinish, BarePiece, read_finish, read_piece};
+use droid_core_revival::{
+    BodyFault, Frame, Holdings, RecoveryFault, Refusal, Reply, Stamp, recover_command,
+    recover_finish, recover_piece, request_of,
+};
+use droid_journal_bare::{BARE_FINISH, BARE_PIECE};
+
+/// Handles the frame of a record, of which this is the mark. What is none of a record is refused.
+pub(crate) fn take(holdings: &mut Holdings, frame: Frame, mark: [u8; 16]) -> Reply
+    requires readable { IsReadable frame }
+    requires mark { mark ≡ mark_of frame.kind frame.body }
+    ensures { Takes frame holdings.old holdings.new result }
+{
+    match frame.kind {
+        BARE_PIECE => take_piece(holdings, &frame),
+        BARE_FINISH => take_finish(holdings, &frame),
+        _ => take_whole(holdings, frame, mark),
+    }
+}
+
+/// Handles the frame of a request that needs no bytes of a bare file.
+fn take_whole(holdings: &mut Holdings, frame: Frame, mark: [u8; 16]) -> Reply
+    requires readable { IsReadable frame }
+    requires mark { mark ≡ mark_of frame.kind frame.body }
+    requires no_piece { frame.kind ≢ 68 }
+    requires no_finish { frame.kind ≢ 69 }
+    ensures { Takes frame holdings.old holdings.new result }
+{
+    let stamp = Stamp {
+        client: frame.client,
+        number: frame.number,
+        version: frame.version,
+        mark,
+    };
+    match request_of(holdings.alloc, frame) {
+        Ok(request) => recover_command(holdings, stamp, request),
+        Err(BodyFault::Malformed) => Reply::Refused(Refusal::Malformed),
+        Err(BodyFault::Memory) => Reply::Refused(Refusal::Memory),
+    }
+}
+
+/// Handles a bare piece.
+fn take_piece(holdings: &mut Holdings, frame: &Frame) -> Reply
+    requires readable { IsReadable frame.now }
+    requires kind { frame.now.kind ≡ 68 }
+    ensures { Takes frame.now holdings.old holdings.new result }
+{
+    let BarePiece { stamp, reply } = match read_piece(holdings.alloc, frame) {
+        Ok(piece) => piece,
+        Err(fault) => return refused(fault),
+    };
+    match recover_piece(holdings, stamp, &reply) {
+        Ok(()) => reply,
+        Err(fault) => refused(fault),
+    }
+}
+
+/// Handles a bare Finish.
+fn take_finish(holdings: &mut Holdings, frame: &Frame) -> Reply
+    requires readable { IsReadable frame.now }
+    requires kind { frame.now.kind ≡ 69 }
+    ensures { Takes frame.now holdings.old holdings.new result }
+{
+    let BareFinish {
+        stamp,
+        profile,
+        file,
+        reply,
+    } = match read_finish(holdings.alloc, frame) {
+        Ok(finish) => finish,
+        Err(fault) => return refused(fault),
+    };
+    match recover_finish(holdings, stamp, profile, file, &reply) {
+        Ok(()) => reply,
+        Err(fault) => refused(fault),
+    }
+}
+
+/// The refusal for a fault.
+fn refused(fault: RecoveryFault) -> Reply
+    ensures refused { is_refused result ≡ true }
+    ensures memory { fault ≡ RecoveryFault.Memory → is_out_of_memory result ≡ true }
+    ensures spelled { (version : ℕ) → HasReplySpelling version result }
+{
+    match fault {
+        RecoveryFault::Memory => Reply::Refused(Refusal::Memory),
+        RecoveryFault::Unfit => Reply::Refused(Refusal::Malformed),
+    }
+}

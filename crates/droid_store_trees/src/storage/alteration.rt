@@ -1,0 +1,60 @@
+//! Creates trees, drops them and describes them anew.
+
+use crate::storage::TreeStore;
+use crate::tree::Tree;
+use sqlite_trees::error::StoreError;
+use sqlite_trees::schema::Object;
+use sqlite_trees::store::{Alter, Shape};
+use sqlite_value::row::Row;
+use std::alloc::{AllocError, Global};
+
+impl Alter for TreeStore {
+    ghost use Rattle.droid_store_trees.specs.Shown.{current};
+    ghost use Rattle.droid_store_trees.specs.Laws.{is_listed};
+
+    ghost listed = { λ s _. is_listed (current s) };
+
+    fn objects(&self, alloc: Global) -> Result<Vec<Row>, AllocError> {
+        let mut rows = Vec::new(alloc);
+        let trees = self.current().trees.as_slice();
+        for at in 0..trees.len() {
+            let tree = &trees[at];
+            if tree.shape != Shape::Absent {
+                rows.push(tree.listing(alloc, at)?)?;
+            }
+        }
+        Ok(rows)
+    }
+
+    fn create(&mut self, tree: u32, object: &Object<'_>) -> Result<(), StoreError> {
+        let new = Tree::new(self.alloc, object)?;
+        self.replace(tree, new)
+    }
+
+    fn destroy(&mut self, tree: u32) -> Result<(), StoreError> {
+        let new = Tree::absent(self.alloc)?;
+        self.replace(tree, new)
+    }
+
+    fn version(&self) -> u32 {
+        self.current().version
+    }
+
+    fn set_version(&mut self, version: u32) -> Result<(), StoreError> {
+        let mut forest = self.take_changed()?;
+        forest.version = version;
+        self.changed = Some(forest);
+        self.cursors.clear();
+        Ok(())
+    }
+
+    fn relist(&mut self, changes: &[(u32, Object<'_>)]) -> Result<(), StoreError> {
+        let mut forest = self.current().copy(self.alloc)?;
+        for (tree, object) in changes {
+            forest.relist(self.alloc, *tree, object)?;
+        }
+        self.changed = Some(forest);
+        self.cursors.clear();
+        Ok(())
+    }
+}
