@@ -4,6 +4,8 @@
 #![tactic(auto)]
 
 #[cfg(test)]
+mod bad_frames;
+#[cfg(test)]
 mod by_chance;
 #[cfg(test)]
 mod cache;
@@ -13,8 +15,6 @@ mod faults;
 mod kept_bytes;
 #[cfg(test)]
 mod limits;
-#[cfg(test)]
-mod malformed;
 #[cfg(test)]
 mod memory;
 #[cfg(test)]

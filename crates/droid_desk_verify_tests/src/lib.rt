@@ -2,7 +2,7 @@
 #![tactic(auto)]
 
 #[cfg(test)]
-mod asked;
+mod comparison;
 #[cfg(test)]
 mod lists;
 #[cfg(test)]

@@ -1,6 +1,6 @@
 //! The lists of the tree before all steps.
 
-use crate::asked::Asked;
+use crate::comparison::Asked;
 use crate::rows::{ROWS, Row, is_in, size_of};
 use droid_frame::HashKind;
 use droid_tree::EntryKind;

@@ -1,6 +1,6 @@
 //! A comparison while memory runs out.
 
-use crate::asked::Asked;
+use crate::comparison::Asked;
 use crate::lists::list_text;
 use crate::runs::{Came, judge};
 use droid_desk_comparison::Registry;

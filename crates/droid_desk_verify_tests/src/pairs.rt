@@ -1,6 +1,6 @@
 //! Each step alone by lists of every form, and with each other one by two of them.
 
-use crate::asked::{Asked, LISTS};
+use crate::comparison::{Asked, LISTS};
 use crate::lists::list_text;
 use crate::rows::STEPS;
 use crate::runs::{Came, judge};

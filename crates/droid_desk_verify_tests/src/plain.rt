@@ -1,6 +1,6 @@
 //! A plain comparison: the report as it has to be, row by row of the table.
 
-use crate::asked::Asked;
+use crate::comparison::Asked;
 use crate::lists::is_same;
 use crate::report_lines::{COLUMNS, Line, add_line};
 use crate::rows::{NAME, ROWS, Row, is_in, row_at, size_of};

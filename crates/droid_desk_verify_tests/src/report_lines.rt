@@ -1,6 +1,6 @@
 //! The lines of a report.
 
-use crate::asked::Asked;
+use crate::comparison::Asked;
 use crate::lists::add_all;
 use crate::rows::{Row, size_of};
 use std::alloc::AllocError;

@@ -1,6 +1,6 @@
 //! Comparisons of trees in memory.
 
-use crate::asked::Asked;
+use crate::comparison::Asked;
 use crate::plain::report;
 use crate::report_lines::COLUMNS;
 use crate::table_tree::TableTree;

@@ -16,6 +16,6 @@ mod replies;
 #[cfg(test)]
 mod reply_bodies;
 #[cfg(test)]
-mod requests;
+mod request_texts;
 #[cfg(test)]
-mod shown;
+mod requests;

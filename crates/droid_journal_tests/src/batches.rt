@@ -1,7 +1,7 @@
 //! Making a journal smaller that has as many pieces as checksums are computed side by side, or fewer, or more. What it must give
 //! is a journal that is written by itself, with the checksum of each request computed alone.
 
-use crate::accepting::Accepting;
+use crate::accepting_machine::Accepting;
 use crate::memory_log::MemoryLog;
 use crate::memory_name::MemoryName;
 use droid_frame::{Blob, Frame, mark};

@@ -1,7 +1,7 @@
 //! Tests of the journal over a file in memory that tears.
 #![tactic(auto)]
 
-mod accepting;
+mod accepting_machine;
 #[cfg(test)]
 mod batches;
 mod counter;

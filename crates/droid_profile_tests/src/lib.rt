@@ -8,6 +8,8 @@ mod manifests;
 #[cfg(test)]
 mod memory;
 #[cfg(test)]
+mod memory_profile;
+#[cfg(test)]
 mod memory_tree;
 #[cfg(test)]
 mod noting_watcher;
@@ -21,5 +23,3 @@ mod skipped_entries;
 mod stopped_writers;
 #[cfg(test)]
 mod tree_counts;
-#[cfg(test)]
-mod written;

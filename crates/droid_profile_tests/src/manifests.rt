@@ -1,7 +1,7 @@
 //! Lists of checksums of odd names, as `md5sum` and `sha256sum` of GNU coreutils 9.1 print them in such a folder.
 
+use crate::memory_profile::{WrittenProfile, memory, written};
 use crate::memory_tree::Row;
-use crate::written::{WrittenProfile, memory, written};
 use droid_frame::HashKind;
 use droid_pronom::Registry;
 use droid_pronom_sample::SAMPLE;

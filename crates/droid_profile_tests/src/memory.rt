@@ -1,7 +1,7 @@
 //! A profile while memory runs out.
 
+use crate::memory_profile::{Memory, WrittenProfile, memory, written};
 use crate::profiles::{LIST, ROWS, TEXT};
-use crate::written::{Memory, WrittenProfile, memory, written};
 use droid_frame::HashKind;
 use droid_profile_csv::CsvFault;
 use droid_pronom::Registry;

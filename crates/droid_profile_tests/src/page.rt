@@ -1,9 +1,9 @@
 //! The example of the page README.md of droid_profile.
 
+use crate::memory_profile::{Memory, memory};
 use crate::memory_tree::MemoryTree;
 use crate::noting_watcher::NotingWatcher;
 use crate::profiles::ROWS;
-use crate::written::{Memory, memory};
 use droid_frame::HashKind;
 use droid_profile_csv::{CsvRecipient, Options, Profiler, profile};
 use droid_pronom::Registry;

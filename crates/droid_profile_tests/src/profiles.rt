@@ -1,7 +1,7 @@
 //! The profile of a small tree, as CSV. (The digests are those of RFC 1321's test suite.)
 
+use crate::memory_profile::{Memory, WrittenProfile, memory, written};
 use crate::memory_tree::Row;
-use crate::written::{Memory, WrittenProfile, memory, written};
 use droid_frame::HashKind;
 use droid_pronom::Registry;
 use droid_pronom_sample::SAMPLE;

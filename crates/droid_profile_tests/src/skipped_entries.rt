@@ -1,9 +1,9 @@
 //! What is skipped is reported, and has no row; what is taken stands in order. (The digests are those of RFC 1321's test
 //! suite and of FIPS 180-4's example.)
 
+use crate::memory_profile::{Memory, memory};
 use crate::memory_tree::{MemoryTree, Row};
 use crate::noting_watcher::NotingWatcher;
-use crate::written::{Memory, memory};
 use droid_frame::HashKind;
 use droid_profile_csv::{CsvFault, CsvRecipient, Options, Profiler, write_profile};
 use droid_pronom::Registry;

@@ -1,8 +1,8 @@
 //! Profiles whose CSV or list can't be written to its end.
 
+use crate::memory_profile::{Memory, WrittenProfile, memory, written};
 use crate::memory_tree::Row;
 use crate::profiles::{LIST, ROWS, TEXT};
-use crate::written::{Memory, WrittenProfile, memory, written};
 use droid_frame::{HashKind, Noted};
 use droid_frame_shaky::{STEADY, ShakyWriter, Stop};
 use droid_profile_csv::CsvFault;

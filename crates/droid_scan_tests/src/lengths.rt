@@ -1,7 +1,7 @@
 //! Every length up to 300 in every lane, beside files of seven other lengths, for MD5 and SHA-256.
 
 use crate::chance::{LEN, filled, part};
-use crate::feeding::{feed, whole};
+use crate::lane_feed::{feed, whole};
 use droid_frame::HashKind;
 use droid_scan::{HashLanes, LANES};
 

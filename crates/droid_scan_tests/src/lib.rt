@@ -7,7 +7,7 @@ mod chance;
 #[cfg(test)]
 mod ends;
 #[cfg(test)]
-mod feeding;
+mod lane_feed;
 #[cfg(test)]
 mod lengths;
 #[cfg(test)]

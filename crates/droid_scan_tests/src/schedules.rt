@@ -2,7 +2,7 @@
 //! hash of each file's bytes at once.
 
 use crate::chance::{LEN, below, filled, next, part};
-use crate::feeding::whole;
+use crate::lane_feed::whole;
 use droid_frame::HashKind;
 use droid_scan::HashLanes;
 

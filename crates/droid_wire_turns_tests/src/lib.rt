@@ -22,4 +22,4 @@ mod orders;
 #[cfg(test)]
 mod paper_hall;
 #[cfg(test)]
-mod settling;
+mod settlement;
