@@ -7,9 +7,9 @@ use Rattle.md5.specs.Md5.{md5}
 use Rattle.droid_desk_progress.specs.Paths.{shown_text}
 use Rattle.droid_signature.specs.Records.{FileRecord, FormatRecord}
 use Rattle.droid_signature.specs.declared.conversion.Taken.{Taken}
-use Rattle.droid_signature.specs.record_types.file.UnknownName.{UnknownName}
-use Rattle.droid_signature.specs.record_types.file.UnknownPart.{UnknownPart}
-use Rattle.droid_signature.specs.record_types.file.UnknownPart.TheVariants as parts
+use Rattle.droid_signature.specs.record_types.whole_file.UnknownName.{UnknownName}
+use Rattle.droid_signature.specs.record_types.whole_file.UnknownPart.{UnknownPart}
+use Rattle.droid_signature.specs.record_types.whole_file.UnknownPart.TheVariants as parts
 use Rattle.droid_signature.specs.table_types.left_out.Item.{Item}
 use Rattle.droid_signature.specs.table_types.left_out.Item.TheVariants as items
 use Rattle.droid_signature.specs.table_types.left_out.LeftOut.{LeftOut}
