@@ -73,7 +73,8 @@ def prove_library(crate, jobs, begun):
     crates.lay_out(tree_of(crate), crate)
     move_kept(crate, TOP, tree_of(crate))
     try:
-        return run_in(folder(crate, tree_of(crate)), [RT, "lib", "--jobs", str(jobs)], begun)
+        # what is above a library then loads its statements and not its proofs
+        return run_in(folder(crate, tree_of(crate)), [RT, "lib", "--statements", "--jobs", str(jobs)], begun)
     finally:
         bring_back(crate)
 
