@@ -45,8 +45,9 @@ test: need_rt
 
 # Checks that the prover refuses every wrong body, those of wrong-bodies/ too. It tries all, or those of CRATES="a b", or
 # with BASE=commit those of the crates that changed since that commit and of the crates above them. One check tries many.
+# After an interrupt it resumes; with ANEW=1 it begins anew.
 wrong: need_rt need_python
-	@RT=$(RT) python3 tools/wrong.py $(if $(BASE),--base $(BASE)) $(CRATES)
+	@RT=$(RT) python3 tools/wrong.py $(if $(BASE),--base $(BASE)) $(if $(ANEW),--anew) $(CRATES)
 
 # Measures the dear calls: a large registry, identification, large exports, a large store, files in pieces, profiles and
 # submissions of folders, repeats, and the dearest requests of a client; with the same in Python beside it.

@@ -27,6 +27,8 @@ EACH = 4 << 30
 NEAR_HALF = 0.5
 # a chain of at least this part of the longest counts as the longest
 NEAR_ALL = 0.95
+# more jobs than these take a library up to twice the seconds of a processor
+MOST_JOBS = 2
 # the niceness of a library for which the longest chain waits, and of the rest
 FIRST = os.getpriority(os.PRIO_PROCESS, 0)
 BEHIND = min(FIRST + 10, 19)
@@ -164,7 +166,7 @@ class Build:
         others = [*self.work, *(it for it in ready if it != crate)]
         if self.is_longest(crate):
             others = [it for it in others if self.left(it) >= NEAR_ALL * self.left(crate)]
-        return max(1, self.cores // (1 + len(others)))
+        return max(1, min(MOST_JOBS, self.cores // (1 + len(others))))
 
     def report(self, what):
         print(f"  {time.time() - self.begun:4.0f} s: {what}", file=sys.stderr, flush=True)

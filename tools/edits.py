@@ -21,6 +21,7 @@ class Edit:
 
     def __init__(self, path):
         self.name = os.path.relpath(path, TOP)
+        self.crate = self.name.split(os.sep)[1]
         self.changes = []
         file = old = ""
         for line in read(path).split("\n"):

@@ -1,5 +1,5 @@
 """Says by checksums, without a call of `rt`, which crates are proved and built from their sources and toolchain as
-they are now."""
+they are now, and which wrong bodies of them the prover has refused."""
 import hashlib
 import os
 import shutil
@@ -61,3 +61,22 @@ def stands(crate, sums, is_program=False):
 
 def note(crate, sums, is_program=False):
     write(note_of(crate), mark_of(crate, sums, is_program))
+
+
+def refusal_of(edit):
+    """Returns the path of the note that a wrong body was refused."""
+    return os.path.join(TOP, "out", "refused", os.path.relpath(edit.name, "crates"))
+
+
+def mark_of_edit(edit, sums):
+    """Returns the checksum of what it changes, and of its own text."""
+    with open(os.path.join(TOP, edit.name), "rb") as file:
+        return f"{sums.of(edit.crate)} {hashlib.sha256(file.read()).hexdigest()}\n"
+
+
+def was_refused(edit, sums):
+    return os.path.isfile(refusal_of(edit)) and read(refusal_of(edit)) == mark_of_edit(edit, sums)
+
+
+def note_refusal(edit, sums):
+    write(refusal_of(edit), mark_of_edit(edit, sums))

@@ -7,6 +7,9 @@ wrong bodies at once, at most one for each function: a proof uses only the contr
 check reports for each function whether it is refused by itself. It tries alone the wrong bodies that such a check
 leaves open, and changes outside of functions. It prints each wrong body that no clause refuses, and ends with
 status 0 if there is none.
+
+It notes below out/refused/ which were refused, with checksums of the crate, of all below it and of the edit. After an
+interrupt or a change it tries only the rest; with --anew it tries all.
 """
 import argparse
 import collections
@@ -23,7 +26,7 @@ import crates
 from crates import EDITS, SOURCES, TOP, edits_of, folder, listed, touched, write
 from edits import Edit, Texts
 from functions import OF_NAMES, Said, function_of, names_of
-from standing import RT, Sums
+from standing import RT, Sums, note_refusal, was_refused
 
 REFUSED, BY_NAME, BY_LIMIT, MISSED, BAD = range(5)
 # the most in one check: more would leave processors idle at the end
@@ -75,8 +78,8 @@ def trials_with(crate, places):
     return trials
 
 
-def trials_of(crate):
-    return trials_with(crate, {edit: places_of(crate, edit) for edit in map(Edit, edits_of(crate))})
+def trials_of(crate, edits):
+    return trials_with(crate, {edit: places_of(crate, edit) for edit in edits})
 
 
 def parts_of(trial, left):
@@ -139,10 +142,10 @@ def found_alone(status, said):
 
 
 class Trials:
-    """Runs trials, as many at once as processors and memory allow, and collects the results."""
+    """Runs trials, as many at once as processors and memory allow, collects the results, and notes refusals."""
 
-    def __init__(self, trials, room, most):
-        self.room, self.most, self.begun = room, most, time.time()
+    def __init__(self, trials, room, most, sums):
+        self.room, self.most, self.sums, self.begun = room, most, sums, time.time()
         self.number, self.found, self.waiting = 0, {}, list(trials)
 
     def report(self, what):
@@ -161,6 +164,8 @@ class Trials:
     def end(self, trial, found):
         """Collects the results, and queues the rest again in smaller trials."""
         self.found.update(found)
+        for edit in [it for it in found if found[it][0] == REFUSED]:
+            note_refusal(edit, self.sums)
         left = [edit for edit in trial.edits if edit not in found]
         self.report(f"{trial.crate}: {len(found)} of {len(trial.edits)} settled" + f"; {len(left)} to be tried again" * bool(left))
         self.waiting[:0] = parts_of(trial, left)
@@ -178,45 +183,57 @@ class Trials:
         return self.found
 
 
-def chosen_crates():
+def asked():
+    """Reads the command line: the crates with wrong bodies, and whether to try all anew."""
     parser = argparse.ArgumentParser(description=__doc__, formatter_class=argparse.RawDescriptionHelpFormatter)
     parser.add_argument("--base", metavar="COMMIT")
+    parser.add_argument("--anew", action="store_true")
     parser.add_argument("crates", metavar="CRATE", nargs="*")
     given = parser.parse_args()
     unknown = [crate for crate in given.crates if crate not in listed()]
     if unknown:
         parser.error(f"crates.txt has no line for {', '.join(unknown)}")
     found = touched(given.base, SOURCES + EDITS) if given.base else listed()
-    return [crate for crate in found if edits_of(crate) and (not given.crates or crate in given.crates)]
+    return [crate for crate in found if edits_of(crate) and (not given.crates or crate in given.crates)], given.anew
 
 
-def tried(chosen):
-    """Proves the crates, and tries their wrong bodies; returns the result of each by its name."""
-    failed = build.prove(crates.with_below(chosen), Sums(), "each crate")
+def tried(edits, sums):
+    """Proves the crates of these wrong bodies, and tries them; returns the result of each."""
+    chosen = list(dict.fromkeys(edit.crate for edit in edits))
+    failed = build.prove(crates.with_below(chosen), sums, "each crate")
     if failed:
         sys.exit(build.fail(*failed))
-    trials = [trial for crate in chosen for trial in trials_of(crate)]
+    trials = [trial for crate in chosen for trial in trials_of(crate, [it for it in edits if it.crate == crate])]
     seconds = build.seconds_of(chosen)
     trials.sort(key=lambda trial: -len(trial.edits) * seconds[trial.crate])
     with crates.room("wrong") as room:
-        found = Trials(trials, room, len(os.sched_getaffinity(0))).all_run()
-    return {edit.name: what for edit, what in found.items()}
+        return Trials(trials, room, len(os.sched_getaffinity(0)), sums).all_run()
+
+
+def report(edits, found, kept):
+    """Prints each that was not refused, and the last line; returns whether all were."""
+    counts = collections.Counter({REFUSED: kept})
+    for edit in edits:
+        kind, text = found.get(edit, (BAD, "NOT TRIED"))
+        counts[kind] += 1
+        if kind != REFUSED:
+            print(f"{edit.name}: {text}")
+    by_earlier = f" ({kept} of them by an earlier run)" * bool(kept)
+    by_limit = f", {counts[BY_LIMIT]} by a limit alone" * bool(counts[BY_LIMIT])
+    print(f"{sum(counts.values())} wrong bodies: {counts[REFUSED]} refused{by_earlier}, {counts[BY_NAME]} refused for a name alone{by_limit}, {counts[MISSED]} not refused, {counts[BAD]} bad")
+    return counts[REFUSED] == sum(counts.values())
 
 
 def main():
     for it in (signal.SIGINT, signal.SIGTERM, signal.SIGHUP):
         signal.signal(it, lambda number, _: sys.exit(128 + number))
-    chosen, counts = chosen_crates(), collections.Counter()
+    chosen, is_anew = asked()
     with build.alone():
-        found = tried(chosen) if chosen else {}
-    for name in [os.path.relpath(path, TOP) for crate in chosen for path in edits_of(crate)]:
-        kind, text = found.get(name, (BAD, "NOT TRIED"))
-        counts[kind] += 1
-        if kind != REFUSED:
-            print(f"{name}: {text}")
-    by_limit = f", {counts[BY_LIMIT]} by a limit alone" * bool(counts[BY_LIMIT])
-    print(f"{sum(counts.values())} wrong bodies: {counts[REFUSED]} refused, {counts[BY_NAME]} refused for a name alone{by_limit}, {counts[MISSED]} not refused, {counts[BAD]} bad")
-    return 0 if counts[REFUSED] == sum(counts.values()) else 1
+        sums = Sums()
+        all_edits = [Edit(path) for crate in chosen for path in edits_of(crate)]
+        edits = [it for it in all_edits if is_anew or not was_refused(it, sums)]
+        found = tried(edits, sums) if edits else {}
+    return 0 if report(edits, found, len(all_edits) - len(edits)) else 1
 
 
 if __name__ == "__main__":
