@@ -41,10 +41,10 @@ def built_file(crate, is_program):
     return os.path.join(out, crate) if is_program else os.path.join(out, "rlib", "stamp")
 
 
-def mark_of(crate, sums, is_program):
-    """Returns the note of a build: the checksum of its sources, and of the built file."""
+def mark_of(crate, sums, is_program, cpu):
+    """Returns the note of a build: the checksum of its sources, that of the built file, and the processor, if any."""
     with open(built_file(crate, is_program), "rb") as file:
-        return f"{sums.of(crate)} {hashlib.sha256(file.read()).hexdigest()}\n"
+        return f"{sums.of(crate)} {hashlib.sha256(file.read()).hexdigest()} {cpu}".rstrip() + "\n"
 
 
 def note_of(crate):
@@ -53,14 +53,14 @@ def note_of(crate):
     return os.path.join(TOP, "out", "stands", crate)
 
 
-def stands(crate, sums, is_program=False):
+def stands(crate, sums, is_program=False, cpu=""):
     if not os.path.isfile(note_of(crate)) or not os.path.isfile(built_file(crate, is_program)):
         return False
-    return read(note_of(crate)) == mark_of(crate, sums, is_program)
+    return read(note_of(crate)) == mark_of(crate, sums, is_program, cpu)
 
 
-def note(crate, sums, is_program=False):
-    write(note_of(crate), mark_of(crate, sums, is_program))
+def note(crate, sums, is_program=False, cpu=""):
+    write(note_of(crate), mark_of(crate, sums, is_program, cpu))
 
 
 def refusal_of(edit):

@@ -108,7 +108,7 @@ def checked(trial, tree):
     for file, text in trial.texts.items():
         write(os.path.join(folder(crate, tree), file), text)
     try:
-        return build.run_in(folder(crate, tree), [RT, "check", "--jobs", "1"])[:2]
+        return build.run_in(folder(crate, tree), [RT, "check", *build.ONE_JOB])[:2]
     finally:
         shutil.rmtree(tree, ignore_errors=True)
 
