@@ -1,6 +1,6 @@
 import os,time,json,re
 # last seen seconds of each rattle process below the gate, by crate and kind
-ROOT=8791
+ROOT=1866
 seen={}
 def ppid_map():
     out={}
@@ -25,4 +25,4 @@ while os.path.isdir(f'/proc/{ROOT}'):
             key=(words[1] if len(words)>1 else '')+' '+c+(' test' if '--test' in words else '')+(' only' if '--only' in words else '')
         seen[str(p)]=(key,cpu,round(time.time()))
     json.dump(seen,open('/work/gate/sample2.json.new','w')); os.replace('/work/gate/sample2.json.new','/work/gate/sample2.json')
-    time.sleep(2)
+    time.sleep(3)
