@@ -1,8 +1,8 @@
 RT = rt
 PROGRAM = crates/droid_desk/out/droid_desk
 BENCH = crates/droid_desk_bench/out/droid_desk_bench
-# the processor that `make build` builds for: x86-64-v3, with twice as wide vectors, hashes faster. It isn't proved to be there:
-# the program checks it at its start. Empty: any of the last fifteen years
+# the kind of processor that `make build` builds for: empty, which is the kit's x86-64-v2, or x86-64-v3, which has vectors of
+# twice the width. A program for x86-64-v3 checks when it starts whether the processor has them
 CPU =
 # where `make install` puts the program, its manual page and its completions
 PREFIX = /usr/local
