@@ -9,8 +9,8 @@ ghost use Rattle.droid_desk_options.specs.Values.{Reads};
 
 use crate::arguments::Asked;
 use crate::profile_help::{
-    FOLDER_HELP, HASH_HELP, LEFT_OUT_HELP, MANIFEST_HELP, MATCH_ALL_HELP, OUTPUT_HELP,
-    OWN_REGISTRY_HELP, PAGE_HELP, PROFILE_ABOUT, PROFILE_HELP, QUIET_HELP,
+    FOLDER_HELP, HASH_HELP, MANIFEST_HELP, MATCH_ALL_HELP, OUTPUT_HELP, OWN_REGISTRY_HELP,
+    PAGE_HELP, PROFILE_ABOUT, PROFILE_HELP, PROFILE_SKIPPED_HELP, QUIET_HELP,
 };
 use crate::report_options::REPORT;
 use clap::{ArgMatches, Command};
@@ -124,7 +124,7 @@ pub(crate) fn profile<'a>(alloc: Global) -> Result<Command<'a>, AllocError>
         .option(named(alloc, HASH, "HASH", HASH_HELP))
         .option(named(alloc, OUTPUT, "FILE", OUTPUT_HELP))
         .option(named(alloc, MANIFEST, "FILE", MANIFEST_HELP))
-        .option(named(alloc, SKIPPED, "FILE", LEFT_OUT_HELP))
+        .option(named(alloc, SKIPPED, "FILE", PROFILE_SKIPPED_HELP))
         .option(named(alloc, REPORT, "PAGE", PAGE_HELP))
         .option(flag(alloc, QUIET, QUIET_HELP))
         .made

@@ -19,7 +19,7 @@ pub const OUTPUT_HELP: &str =
 pub const MANIFEST_HELP: &str =
     "Write the files' checksums to this file, for `md5sum -c` or `sha256sum -c`, never an incomplete list";
 
-pub const LEFT_OUT_HELP: &str =
+pub const PROFILE_SKIPPED_HELP: &str =
     "Write what was skipped to this file, as a CSV of paths and reasons, never an incomplete one";
 
 pub const PAGE_HELP: &str =

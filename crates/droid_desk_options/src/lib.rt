@@ -1,4 +1,4 @@
-//! Options that several commands have: how a command is told of them, and what their values are.
+//! Options that several commands have: their declarations, and what their values are.
 #![tactic(auto)]
 
 mod builder;

@@ -1,4 +1,4 @@
-//! Options: how a command is told of them.
+//! How options are declared.
 
 ghost use Rattle.std.specs.Prelude.{◌≡◌, false};
 ghost use Rattle.clap.specs.Words.{rule_of};

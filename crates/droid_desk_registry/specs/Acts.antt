@@ -14,4 +14,4 @@ pub data Act : Type 0 where
   -- it could not be put there, and what was there before stays
   PutNone : (part : Part) (bytes : List ℕ) (why : Unput) → Act
   -- this was printed on standard error
-  Told : (text : List ℕ) → Act
+  Reported : (text : List ℕ) → Act

@@ -1,6 +1,6 @@
 -- What the command does on a machine: the file system says no more than this (this project's own).
 use Rattle.std.specs.Prelude.{ℕ, ◌≤◌, Bool, length, ⊤}
-use Rattle.droid_desk_registry.specs.Acts.{Act, Got, GotNone, Put, PutNone, Told}
+use Rattle.droid_desk_registry.specs.Acts.{Act, Got, GotNone, Put, PutNone, Reported}
 use Rattle.droid_desk_registry.specs.Runs.{Runs}
 use Rattle.droid_desk_registry.specs.declared.registry_ending.RegistryEnding.{RegistryEnding}
 
@@ -10,7 +10,7 @@ MayDo (Got bytes) = length bytes ≤ 67108864
 MayDo (GotNone why) = ⊤
 MayDo (Put part bytes) = ⊤
 MayDo (PutNone part bytes why) = ⊤
-MayDo (Told text) = ⊤
+MayDo (Reported text) = ⊤
 
 -- a run on a machine, by what was read and by the ending: of the machine before and after nothing is known, so a number stands for it
 abbrev pub IsMachineRun : Bool → RegistryEnding → Type 0

@@ -1,6 +1,6 @@
 -- A run of the command: what it does outside of itself, in order, and how it ends (this project's own).
 use Rattle.std.specs.Prelude.{◌≡◌, Bool, true, false, ℕ, List, string_bytes}
-use Rattle.droid_desk_registry.specs.Acts.{Act, Got, GotNone, Put, PutNone, Told}
+use Rattle.droid_desk_registry.specs.Acts.{Act, Got, GotNone, Put, PutNone, Reported}
 use Rattle.droid_desk_registry.specs.Conversions.{IsConversionOf, IsEndingOf}
 use Rattle.droid_desk_registry.specs.declared.conversion.Conversion.{Conversion}
 use Rattle.droid_desk_registry.specs.declared.registry_places.Part.TheVariants.{Registry, Note}
@@ -22,7 +22,7 @@ module _ {P : Type 0} (does : P → Act → P → Type 0) where
     NoNote : (why : Unput) (with_registry : P) → does old (Put Registry it.csv.items) with_registry → does with_registry (PutNone Note (string_bytes it.note) why) new
         → ending ≡ endings.NoNote why → Writes it old ending new
     All : (with_registry with_note : P) → does old (Put Registry it.csv.items) with_registry → does with_registry (Put Note (string_bytes it.note)) with_note
-        → does with_note (Told (string_bytes it.report)) new → ending ≡ ending_of it.is_partial → Writes it old ending new
+        → does with_note (Reported (string_bytes it.report)) new → ending ≡ ending_of it.is_partial → Writes it old ending new
 
   -- What is written is the registry of the signature file that was read, whole, or nothing. Nothing else is done.
   pub data Runs (quiet : Bool) (old : P) (ending : RegistryEnding) (new : P) : Type 0 where

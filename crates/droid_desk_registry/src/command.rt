@@ -50,7 +50,7 @@ fn write_conversion<P: Places>(places: &mut P, conversion: &Conversion) -> Regis
         Ok(()) => {}
         Err(why) => return RegistryEnding::NoNote(why),
     }
-    places.tell(conversion.report.as_str());
+    places.report(conversion.report.as_str());
     ending_of(conversion.is_partial)
 }
 

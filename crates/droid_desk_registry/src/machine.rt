@@ -40,8 +40,8 @@ impl<R: Files<File = File> + Print + Eprint + AllocGlobal> Places for Machine<'_
         }
     }
 
-    fn tell(&mut self, report: &str) {
-        let _ = eprint!(self.rt; "{report}");
+    fn report(&mut self, text: &str) {
+        let _ = eprint!(self.rt; "{text}");
     }
 }
 

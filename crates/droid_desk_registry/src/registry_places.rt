@@ -1,7 +1,7 @@
 //! Where the command reads and writes.
 
 ghost use Rattle.std.specs.Prelude.{IfErr, IfOk, OnOk};
-ghost use Rattle.droid_desk_registry.specs.Acts.{Act, Got, GotNone, Put, PutNone, Told};
+ghost use Rattle.droid_desk_registry.specs.Acts.{Act, Got, GotNone, Put, PutNone, Reported};
 
 use std::alloc::Global;
 use std::io::ErrorKind;
@@ -58,6 +58,6 @@ pub trait Places {
         ensures none { IfErr result (λ why. does self.old (PutNone part bytes.now why) self.new) };
 
     /// Prints the report.
-    fn tell(&mut self, report: &str)
-        ensures { does self.old (Told report.now) self.new };
+    fn report(&mut self, text: &str)
+        ensures { does self.old (Reported text.now) self.new };
 }

@@ -21,7 +21,7 @@ pub record IsBegun (header file : List ℕ) (count : ℕ) : Type 0 where
   pub size : length file ≡ count
   pub short : count < length header
 
--- what reading the beginning of a file told
+-- what reading the beginning of a file reported
 abbrev pub Knows : List ℕ → List ℕ → Beginning → Type 0
 Knows header file beginnings.Whole = HasHeader header file
 Knows header file (beginnings.Part count) = IsBegun header file count

@@ -208,7 +208,7 @@ impl<F: LogFile + Drop, M: Machine + Drop> Journal<F, M> {
         ensures kept { OnErr result (F.kept self.new.file ≡ F.kept self.old.file) }
         ensures fault { OnOk result (self.new.fault ≡ None) }
         ensures closes { OnErr result (IsSome self.new.fault) }
-        ensures told { IfErr result (λ fault. self.new.fault ≡ Some fault) }
+        ensures reported { IfErr result (λ fault. self.new.fault ≡ Some fault) }
         ensures writing { MayBeOfWriting self.old.fault → MayBeOfWriting self.new.fault }
         ensures closed { IsSome self.old.fault → IsErr result }
     {

@@ -80,7 +80,7 @@ fn beginning_of<F: LogFile>(file: &F, header: &[u8], buffer: &mut [u8]) -> Resul
     beginning_in(&buffer[..count], header)
 }
 
-/// Tells what a file begins with, by its first 16 MiB.
+/// Returns what a file begins with, by its first 16 MiB.
 fn beginning_in(seen: &[u8], header: &[u8]) -> Result<Beginning, Fault>
     requires { length header.now ≤ 4096 }
     ensures begins { (s : List ℕ) → seen.now ≡ take 16777216 s → IfOk result (Knows header.now s) }
@@ -294,16 +294,16 @@ pub fn open<F: LogFile, M: Machine + Drop>(
     ensures unchanged { IfErr result (λ fault. fault ≢ Fault.Write → file.new ≡ file.old) }
     // After any fault what is on the disk for sure is what it was.
     ensures kept { OnErr result (F.kept file.new ≡ F.kept file.old) }
-    // Damage is told only where a record stands behind it that was written when all before it was on the disk.
+    // Damage is reported only where a record stands behind it that was written when all before it was on the disk.
     ensures damage { (n : ℕ) → IsErrOf result (Fault.Damage n) → (s : List ℕ) → F.has file.old s → WasDamaged header.now s n }
-    // So it is never told of what a crash leaves of a journal, unless the end of the file has a record of a later turn by
+    // So it is never reported of what a crash leaves of a journal, unless the end of the file has a record of a later turn by
     // chance.
     ensures lawful { (s : List ℕ) (synced written : List Record) (n : ℕ) → F.has file.old s → AllFit synced → IsFront (journal_bytes header.now synced) s → IsTurn synced written
         → NoneLaterByChance header.now written s (length (journal_bytes header.now synced)) → IsErrOf result (Fault.Damage n) → ⊥ }
-    // A record is told only if no journal of such a machine wrote it behind those before it.
+    // A record is refused only if no journal of such a machine wrote it behind those before it.
     ensures refuted { (n : ℕ) → IsErrOf result (Fault.Record n) → (setting : M.Setting) (s : List ℕ) → F.has file.old s → M.stands setting machine []
         → WasRefuted (M.gives setting) header.now s n }
-    // Another header is told only where the file begins with another, and not where it was not made whole.
+    // Another header is reported only where the file begins with another, and not where it was not made whole.
     ensures other_header { IsErrOf result Fault.Header → (s : List ℕ) → F.has file.old s → (HasHeader header.now s → ⊥) × ((count : ℕ) → IsBegun header.now s count → ⊥) }
 {
     let mut buffer = vec![in alloc; 0u8; WINDOW]?;

@@ -1,4 +1,4 @@
-//! Telling a torn end from damage.
+//! Whether the end of a journal is torn or damaged.
 
 ghost use Rattle.std.specs.Prelude.{◌≡◌, ◌↔◌, IsTrue, true};
 ghost use Rattle.droid_journal_chain.specs.Chains.{HasLater, IsLater};

@@ -208,7 +208,7 @@ impl<'a, R: Files<File = File> + Eprint + AllocGlobal> FileDrive<'a, R> {
     }
 }
 
-fn told<T: Drop>(answer: io::Result<T>) -> Result<T, DriveError> {
+fn drive_result<T: Drop>(answer: io::Result<T>) -> Result<T, DriveError> {
     match answer {
         Ok(value) => Ok(value),
         Err(_) => Err(DriveError),
@@ -241,14 +241,14 @@ impl<'a, R: Files<File = File> + Eprint + AllocGlobal> Drive for FileDrive<'a, R
     }
 
     fn shorten(&mut self, len: u64) -> Result<(), DriveError> {
-        told(self.cut(len))
+        drive_result(self.cut(len))
     }
 
     fn save(&mut self, bytes: &[u8]) -> Result<(), DriveError> {
         if bytes.is_empty() {
             return Ok(());
         }
-        told(self.save_all(bytes))
+        drive_result(self.save_all(bytes))
     }
 
     fn write_some(&mut self, bytes: &[u8]) -> Result<usize, DriveError> {

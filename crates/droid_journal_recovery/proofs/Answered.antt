@@ -55,10 +55,10 @@ module _ (recovery : Recovery) (old new : Holdings) (frame : Frame) (reply : Rep
       (judged_as recovery.setting (world_of recovery.setting history) entry.frame.version kept.may.request (Accepted entry.reply kept.may.after) kept.may.accepted).no_refusal
 
   -- the record has the frame of its entry's reply
-  told_as : (history : History) (it : Record) (entry : Entry) → IsRecordOf recovery.setting recovery.bare history it entry → it.request ≡ frame_bytes frame → reply ≡ entry.reply → it.reply ≡ reply_frame frame.version frame.client frame.number reply
-  told_as history it entry is bytes told =
+  reply_as : (history : History) (it : Record) (entry : Entry) → IsRecordOf recovery.setting recovery.bare history it entry → it.request ≡ frame_bytes frame → reply ≡ entry.reply → it.reply ≡ reply_frame frame.version frame.client frame.number reply
+  reply_as history it entry is bytes reported =
       let header = shown_as recovery.setting recovery.bare history entry is.kept frame (the_frame history it entry is bytes) in
-      is.reply ∙ rw (header.0, header.1, header.2, told) refl
+      is.reply ∙ rw (header.0, header.1, header.2, reported) refl
 
   -- ---- one that came again
 
@@ -69,27 +69,27 @@ module _ (recovery : Recovery) (old new : Holdings) (frame : Frame) (reply : Rep
   again_here : (history : History) (it : Record) (entry : Entry) (is : IsRepeat history it entry) → it.request ≡ frame_bytes frame → CameAgain history frame entry
   again_here history it entry is bytes = subst (λ (f : Frame). CameAgain history f entry) (came_again history it entry is bytes) is.again
 
-  told_again : (history : History) (it : Record) (entry : Entry) (is : IsRepeat history it entry) → it.request ≡ frame_bytes frame → reply ≡ entry.reply → it.reply ≡ reply_frame frame.version frame.client frame.number reply
-  told_again history it entry is bytes told =
+  reply_again : (history : History) (it : Record) (entry : Entry) (is : IsRepeat history it entry) → it.request ≡ frame_bytes frame → reply ≡ entry.reply → it.reply ≡ reply_frame frame.version frame.client frame.number reply
+  reply_again history it entry is bytes reported =
       is.reply
       ∙ ap (λ (f : Frame). reply_frame f.version f.client f.number entry.reply) (came_again history it entry is bytes)
-      ∙ ap (λ (r : Reply). reply_frame frame.version frame.client frame.number r) (sym told)
+      ∙ ap (λ (r : Reply). reply_frame frame.version frame.client frame.number r) (sym reported)
 
   -- ---- what is given
 
   accepted_as : (its : Reply) → reply ≡ its → is_refused its ≡ false → accepted ≡ true
-  accepted_as its told isnt = accepted_is ∙ ap (λ (r : Reply). not (is_refused r)) told ∙ ap not isnt
+  accepted_as its reported isnt = accepted_is ∙ ap (λ (r : Reply). not (is_refused r)) reported ∙ ap not isnt
 
   gives_by : (b : Bool) → is_out_of_memory reply ≡ b → (history after : History) (it : Record) → Recovers recovery.setting recovery.bare old history → IsAfter recovery.setting recovery.bare history it after
       → it.request ≡ frame_bytes frame → MatchBool b (accepted ≡ false) ((it.reply ≡ reply_frame frame.version frame.client frame.number reply) × (accepted ≡ true))
   gives_by true out history after it was is bytes = accepted_is ∙ ap not (refused_memory reply out)
   gives_by false out history after it was (inl is) bytes =
-      let told = (came history it is.0 was is.1 bytes out).0 in
-      (told_as history it is.0 is.1 bytes told, accepted_as is.0.reply told (unrefused history is.0 is.1.kept))
+      let reported = (came history it is.0 was is.1 bytes out).0 in
+      (reply_as history it is.0 is.1 bytes reported, accepted_as is.0.reply reported (unrefused history is.0 is.1.kept))
   gives_by false out history after it was (inr is) bytes =
       let here = again_here history it is.0 is.1 bytes in
-      let told = (takes.again recovery.setting recovery.bare history is.0 was here).0 out in
-      (told_again history it is.0 is.1 bytes told, accepted_as is.0.reply told (kept_unrefused recovery.setting history frame.client frame.number is.0 was.legal here.there))
+      let reported = (takes.again recovery.setting recovery.bare history is.0 was here).0 out in
+      (reply_again history it is.0 is.1 bytes reported, accepted_as is.0.reply reported (kept_unrefused recovery.setting history frame.client frame.number is.0 was.legal here.there))
 
   pub gives : (records : List Record) → Stood old records → GivesReply recovery records frame reply accepted
   gives records stood history after it have is bytes = gives_by (is_out_of_memory reply) refl history after it (stood history have) is bytes

@@ -1,4 +1,4 @@
--- The frames that a journal has of its entries, told apart by their kinds.
+-- The frames that a journal has of its entries, which differ in their kinds.
 use Rattle.std.proofs.Common.{◌≡◌, ℕ, ◌<◌, ◌+◌, if◌then◌else◌, Bool, true, false, List, [], ◌++◌, length, refl, sym, ap, subst, ◌∙◌, arith}
 use Rattle.droid_core_revival.specs.frame.Bodies.{SpellsRequest, request_kind}
 use Rattle.droid_core_revival.specs.frame.Fields.{IsU32, u32_bytes}
@@ -24,24 +24,24 @@ use Rattle.droid_journal_bare.specs.BareFrames.{bare_finish, bare_piece}
 use Rattle.droid_journal_recovery.specs.BareRecords.{MayBeKept, kept_frame}
 
 -- which of the three frames one is
-pub data Told (bare : Bare) (entry : Entry) (request : Request) (frame : Frame) : Type 0 where
-  Whole : (none : needs_bytes bare request ≡ false) (same : frame ≡ entry.frame) → Told bare entry request frame
-  Piece : (profile file index : ℕ) (bytes : List ℕ) (asked : request ≡ requests.Piece profile file index bytes) (is_bare : bare profile file ≡ true) (same : frame ≡ bare_piece entry.frame entry.reply) → Told bare entry request frame
-  Finish : (profile file : ℕ) (asked : request ≡ requests.Finish profile file) (is_bare : bare profile file ≡ true) (same : frame ≡ bare_finish entry.frame entry.reply) → Told bare entry request frame
+pub data FrameForm (bare : Bare) (entry : Entry) (request : Request) (frame : Frame) : Type 0 where
+  Whole : (none : needs_bytes bare request ≡ false) (same : frame ≡ entry.frame) → FrameForm bare entry request frame
+  Piece : (profile file index : ℕ) (bytes : List ℕ) (asked : request ≡ requests.Piece profile file index bytes) (is_bare : bare profile file ≡ true) (same : frame ≡ bare_piece entry.frame entry.reply) → FrameForm bare entry request frame
+  Finish : (profile file : ℕ) (asked : request ≡ requests.Finish profile file) (is_bare : bare profile file ≡ true) (same : frame ≡ bare_finish entry.frame entry.reply) → FrameForm bare entry request frame
 
 module _ (bare : Bare) (entry : Entry) (frame : Frame) where
-  piece_told : (profile file index : ℕ) (bytes : List ℕ) (b : Bool) → bare profile file ≡ b → frame ≡ (if b then bare_piece entry.frame entry.reply else entry.frame) → Told bare entry (requests.Piece profile file index bytes) frame
-  piece_told profile file index bytes true is same = Piece profile file index bytes refl is same
-  piece_told profile file index bytes false is same = Whole is same
+  piece_form : (profile file index : ℕ) (bytes : List ℕ) (b : Bool) → bare profile file ≡ b → frame ≡ (if b then bare_piece entry.frame entry.reply else entry.frame) → FrameForm bare entry (requests.Piece profile file index bytes) frame
+  piece_form profile file index bytes true is same = Piece profile file index bytes refl is same
+  piece_form profile file index bytes false is same = Whole is same
 
-  finish_told : (profile file : ℕ) (b : Bool) → bare profile file ≡ b → frame ≡ (if b then bare_finish entry.frame entry.reply else entry.frame) → Told bare entry (requests.Finish profile file) frame
-  finish_told profile file true is same = Finish profile file refl is same
-  finish_told profile file false is same = Whole is same
+  finish_form : (profile file : ℕ) (b : Bool) → bare profile file ≡ b → frame ≡ (if b then bare_finish entry.frame entry.reply else entry.frame) → FrameForm bare entry (requests.Finish profile file) frame
+  finish_form profile file true is same = Finish profile file refl is same
+  finish_form profile file false is same = Whole is same
 
-  pub told : (request : Request) → frame ≡ kept_frame bare request entry.frame entry.reply → Told bare entry request frame
-  told (requests.Piece profile file index bytes) same = piece_told profile file index bytes (bare profile file) refl same
-  told (requests.Finish profile file) same = finish_told profile file (bare profile file) refl same
-  told _ same = Whole refl same
+  pub form_of : (request : Request) → frame ≡ kept_frame bare request entry.frame entry.reply → FrameForm bare entry request frame
+  form_of (requests.Piece profile file index bytes) same = piece_form profile file index bytes (bare profile file) refl same
+  form_of (requests.Finish profile file) same = finish_form profile file (bare profile file) refl same
+  form_of _ same = Whole refl same
 
 pub small_kind : (request : Request) → request_kind request < 9
 small_kind (requests.CreateProfile scan_limit match_all hash) = omega arith
@@ -113,13 +113,13 @@ module _ (setting : Setting) (bare : Bare) (history : History) (entry : Entry) (
 
   -- ---- by the frame
 
-  readable_as : (frame : Frame) → Told bare entry kept.may.request frame → IsReadable frame
+  readable_as : (frame : Frame) → FrameForm bare entry kept.may.request frame → IsReadable frame
   readable_as frame (Whole none same) = subst IsReadable (sym same) kept.readable
   readable_as frame (Piece profile file index bytes asked is_bare same) = subst IsReadable (sym same) (piece_readable profile file index bytes asked is_bare)
   readable_as frame (Finish profile file asked is_bare same) = subst IsReadable (sym same) (finish_readable profile file asked is_bare)
 
   pub kept_readable : IsReadable (kept_frame bare kept.may.request entry.frame entry.reply)
-  kept_readable = readable_as _ (told bare entry (kept_frame bare kept.may.request entry.frame entry.reply) kept.may.request refl)
+  kept_readable = readable_as _ (form_of bare entry (kept_frame bare kept.may.request entry.frame entry.reply) kept.may.request refl)
 
   -- a frame with these bytes is the one
   pub frame_is : (frame : Frame) (bytes : List ℕ) → IsReadable frame → bytes ≡ frame_bytes (kept_frame bare kept.may.request entry.frame entry.reply) → bytes ≡ frame_bytes frame → frame ≡ kept_frame bare kept.may.request entry.frame entry.reply
@@ -127,20 +127,20 @@ module _ (setting : Setting) (bare : Bare) (history : History) (entry : Entry) (
       (reported_frame frame (kept_frame bare kept.may.request entry.frame entry.reply) [] [] readable.is_frame kept_readable.is_frame (ap (λ (t : List ℕ). t ++ []) (sym other ∙ its))).0
 
   -- it has the entry's version, client and number
-  header_by : (frame : Frame) → Told bare entry kept.may.request frame → (entry.frame.version ≡ frame.version) × (entry.frame.client ≡ frame.client) × (entry.frame.number ≡ frame.number)
+  header_by : (frame : Frame) → FrameForm bare entry kept.may.request frame → (entry.frame.version ≡ frame.version) × (entry.frame.client ≡ frame.client) × (entry.frame.number ≡ frame.number)
   header_by frame (Whole none same) = rw same (refl, refl, refl)
   header_by frame (Piece profile file index bytes asked is_bare same) = rw same (refl, refl, refl)
   header_by frame (Finish profile file asked is_bare same) = rw same (refl, refl, refl)
 
   pub shown_as : (frame : Frame) → frame ≡ kept_frame bare kept.may.request entry.frame entry.reply → (entry.frame.version ≡ frame.version) × (entry.frame.client ≡ frame.client) × (entry.frame.number ≡ frame.number)
-  shown_as frame same = header_by frame (told bare entry frame kept.may.request same)
+  shown_as frame same = header_by frame (form_of bare entry frame kept.may.request same)
 
   module _ (frame : Frame) (same : frame ≡ kept_frame bare kept.may.request entry.frame entry.reply) where
-    its : Told bare entry kept.may.request frame
-    its = told bare entry frame kept.may.request same
+    its : FrameForm bare entry kept.may.request frame
+    its = form_of bare entry frame kept.may.request same
 
     -- of another kind than the bare frames
-    whole_by : Told bare entry kept.may.request frame → (frame.kind ≡ 68 → ⊥) → (frame.kind ≡ 69 → ⊥) → (needs_bytes bare kept.may.request ≡ false) × (frame ≡ entry.frame)
+    whole_by : FrameForm bare entry kept.may.request frame → (frame.kind ≡ 68 → ⊥) → (frame.kind ≡ 69 → ⊥) → (needs_bytes bare kept.may.request ≡ false) × (frame ≡ entry.frame)
     whole_by (Whole none is) no_piece no_finish = (none, is)
     whole_by (Piece profile file index bytes asked is_bare is) no_piece no_finish = absurd (no_piece (ap (λ (f : Frame). f.kind) is))
     whole_by (Finish profile file asked is_bare is) no_piece no_finish = absurd (no_finish (ap (λ (f : Frame). f.kind) is))
@@ -162,7 +162,7 @@ module _ (setting : Setting) (bare : Bare) (history : History) (entry : Entry) (
       pub bare_is : frame ≡ bare_piece entry.frame entry.reply
       pub spelled : SpellsReply entry.frame.version 131 (reply_bytes entry.frame.version entry.reply) entry.reply
 
-    piece_by : Told bare entry kept.may.request frame → frame.kind ≡ 68 → PieceHere
+    piece_by : FrameForm bare entry kept.may.request frame → frame.kind ≡ 68 → PieceHere
     piece_by (Whole none is) kind = absurd (not_whole 4 kind is)
     piece_by (Piece profile file index bytes asked is_bare is) kind =
         record { here = piece_here profile file index bytes asked is_bare; bare_is = is; spelled = reply_spelled 131 (taken profile file index bytes asked is_bare) }
@@ -182,7 +182,7 @@ module _ (setting : Setting) (bare : Bare) (history : History) (entry : Entry) (
       pub numbers : IsU32 profile × IsU32 file
       pub spelled : SpellsReply entry.frame.version 132 (reply_bytes entry.frame.version entry.reply) entry.reply
 
-    finish_by : Told bare entry kept.may.request frame → frame.kind ≡ 69 → FinishHere
+    finish_by : FrameForm bare entry kept.may.request frame → frame.kind ≡ 69 → FinishHere
     finish_by (Whole none is) kind = absurd (not_whole 5 kind is)
     finish_by (Piece profile file index bytes asked is_bare is) kind = absurd (omega (arith, other_kind 69 68 kind (ap (λ (f : Frame). f.kind) is)))
     finish_by (Finish profile file asked is_bare is) kind = record {

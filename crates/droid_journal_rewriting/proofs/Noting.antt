@@ -15,17 +15,17 @@ module _ (files stamps : Numbers) (before : List Record) (noted : AreNoted files
 
   -- a request that came again
   pub noted_again : has_number stamps (stamp_in request) ≡ true → AreNoted files stamps (before ++ it ∷ [])
-  noted_again told =
-      let known : has_stamp before (stamp_in request) ≡ true = sym (noted.stamps_are (stamp_in request)) ∙ told in
+  noted_again reported =
+      let known : has_stamp before (stamp_in request) ≡ true = sym (noted.stamps_are (stamp_in request)) ∙ reported in
       record {
         files_are = λ file. noted.files_are file ∙ sym (ap (λ (xs : List Record). has_ended xs file) (once_as_before before it known));
         stamps_are = λ stamp. noted.stamps_are stamp ∙ sym (stamps_as_before before it stamp known);
       }
 
   -- a new one
-  module _ (more : Numbers) (told : has_number stamps (stamp_in request) ≡ false) (added : (stamp : ℕ) → has_number more stamp ≡ (eqb (stamp_in request) stamp || has_number stamps stamp)) where
+  module _ (more : Numbers) (reported : has_number stamps (stamp_in request) ≡ false) (added : (stamp : ℕ) → has_number more stamp ≡ (eqb (stamp_in request) stamp || has_number stamps stamp)) where
     one_more : once [] (before ++ it ∷ []) ≡ once [] before ++ it ∷ []
-    one_more = once_with before it (sym (noted.stamps_are (stamp_in request)) ∙ told)
+    one_more = once_with before it (sym (noted.stamps_are (stamp_in request)) ∙ reported)
 
     stamps_now : (stamp : ℕ) → has_number more stamp ≡ has_stamp (before ++ it ∷ []) stamp
     stamps_now stamp = added stamp ∙ ap (λ (b : Bool). eqb (stamp_in request) stamp || b) (noted.stamps_are stamp) ∙ sym (stamps_one_more before it stamp)

@@ -184,7 +184,7 @@ pub behind_header : (header s : List ℕ) (its : List Record) → IsWhole header
 behind_header header s its whole =
     ap (λ (t : List ℕ). drop (length header) t) whole.file_is ∙ drop_at header (chain_bytes (first_check header) (first_check header) its) (length header) refl
 
--- ---- what a front tells of its request
+-- ---- the fields of a request, from the front of its record
 
 pub end_same : (request reply : List ℕ) (front : Front) (size : ℕ) → IsFrontOf request front → size ≡ length reply → is_end request reply ≡ is_end_by front.kind front.request size
 end_same request reply front size is size_is =
@@ -196,12 +196,12 @@ end_long request front is long = omega (arith, long, is.request_is)
 -- ---- what was found, or nothing
 
 pub none_left : {A : Type 0} (P : A → Type 0) (seen : Option A) → seen ≡ None → MatchOption seen ⊥ P → ⊥
-none_left P None is told = told
-none_left P (Some x) is told = absurd cc
+none_left P None is shown = shown
+none_left P (Some x) is shown = absurd cc
 
 pub some_left : {A : Type 0} (P : A → Type 0) (seen : Option A) (x : A) → seen ≡ Some x → MatchOption seen ⊥ P → P x
-some_left P None x is told = absurd told
-some_left P (Some y) x is told = subst P (some_is y x is) told
+some_left P None x is shown = absurd shown
+some_left P (Some y) x is shown = subst P (some_is y x is) shown
 
 pub not_both : {A : Type 0} (seen : Option A) (x : A) → seen ≡ None → seen ≡ Some x → ⊥
 not_both seen x none some = cc

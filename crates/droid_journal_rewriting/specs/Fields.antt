@@ -1,4 +1,4 @@
--- What the bytes of a record's frames tell (this project's own). A frame's header has 18 bytes: the version, the kind, four
+-- The fields in the bytes of a record's frames (this project's own). A frame's header has 18 bytes: the version, the kind, four
 -- bytes of the client, eight of the number, and four of the body's length.
 use Rattle.std.specs.Prelude.{ℕ, ◌+◌, ◌*◌, ◌==◌, ◌||◌, if◌then◌else◌, Bool, false, nat_lt, List, length, take, drop, slice_index}
 use Rattle.std.specs.Int.{w32, w64, from_be_bytes}

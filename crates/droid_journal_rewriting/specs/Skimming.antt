@@ -1,4 +1,4 @@
--- For proofs: what the front of a record tells.
+-- For proofs: the fields at the front of a record.
 use Rattle.std.specs.Prelude.{◌≡◌, ◌≤◌, ℕ, List, length, slice_index}
 use Rattle.droid_journal_rewriting.specs.Fields.{file_in, stamp_in}
 use Rattle.droid_journal_rewriting.specs.declared.skim.Front.{Front}

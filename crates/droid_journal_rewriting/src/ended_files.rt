@@ -24,7 +24,7 @@ pub(crate) struct Ended {
 }
 
 impl Ended {
-    /// Notes the next record, by what its front tells and the length of its reply. A request that came again ends no file.
+    /// Notes the next record, by the fields at its front and the length of its reply. A request that came again ends no file.
     pub(crate) fn note(&mut self, front: Front, reply: u32) -> Result<(), RewriteFault>
         ensures noted { (before : List Record) (first : Bool) (request answer : List ℕ) → AreNoted self.old.files self.old.stamps before → IsFrontOf request front → reply ≡ length answer
             → OnOk result (AreNoted self.new.files self.new.stamps (before ++ made first request answer ∷ [])) }

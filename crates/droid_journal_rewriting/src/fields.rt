@@ -1,4 +1,4 @@
-//! What the bytes of a record's frames tell.
+//! The fields in the bytes of a record's frames.
 
 ghost use Rattle.std.specs.Prelude.{◌≡◌, ◌≤◌, length, true};
 ghost use Rattle.droid_journal_rewriting.specs.Fields as specs;

@@ -35,7 +35,7 @@ fn sync_folder_of<R: Files<File = File>>(runtime: &R, path: &str) -> io::Result<
     folder.sync_all()
 }
 
-fn told(answer: io::Result<()>) -> Result<(), FileError> {
+fn file_result(answer: io::Result<()>) -> Result<(), FileError> {
     match answer {
         Ok(()) => Ok(()),
         Err(_) => Err(FileError),
@@ -50,10 +50,10 @@ impl<'a, F: LogFile, R: Files<File = File>> Exchange<F> for Folder<'a, R> {
     ghost may_lead = { λ folder bytes. ⊥ };
 
     fn rename(&mut self, _new: &F) -> Result<(), FileError> {
-        told(fs::rename(self.runtime, self.beside, self.path))
+        file_result(fs::rename(self.runtime, self.beside, self.path))
     }
 
     fn sync_folder(&mut self) -> Result<(), FileError> {
-        told(sync_folder_of(self.runtime, self.path))
+        file_result(sync_folder_of(self.runtime, self.path))
     }
 }

@@ -106,7 +106,7 @@ fn rewrite_by<F: LogFile, N: LogFile + Drop>(
 /// Writes a journal anew into an empty file: a request that came again is left out, and the pieces and the Finish of a file
 /// that was finished or abandoned are bare. The old file is only read, 16 MiB at a time. Nothing is synced.
 ///
-/// A journal with anything behind its whole records is refused ([`RewriteFault::Behind`]): opening it tells a torn end from
+/// A journal with anything behind its whole records is refused ([`RewriteFault::Behind`]): opening it reports a torn end or
 /// damage, and saves what it cuts off.
 pub fn rewrite<F: LogFile, N: LogFile + Drop>(
     alloc: Global,
@@ -117,9 +117,9 @@ pub fn rewrite<F: LogFile, N: LogFile + Drop>(
     requires found { F.is_found old.now }
     ensures rewritten { (s : List ℕ) → F.has old.now s → N.has new [] → IfOk result (λ it. (bytes : List ℕ) × IsShortened header.now s bytes × N.has it.file bytes) }
     ensures sizes { (s : List ℕ) → F.has old.now s → N.has new [] → IfOk result (λ it. AreSizes header.now s it.before it.after) }
-    // Another header is told only where the file begins with another.
+    // Another header is reported only where the file begins with another.
     ensures other_header { IsErrOf result RewriteFault.Header → (s : List ℕ) → F.has old.now s → HasHeader header.now s → ⊥ }
-    // Bytes behind the records are told only where there are some, and behind how many.
+    // Bytes behind the records are reported only where there are some, and behind how many.
     ensures behind { (n : ℕ) → IsErrOf result (RewriteFault.Behind n) → (s : List ℕ) → F.has old.now s → HasBehind header.now s n }
 {
     let mut buffer = vec![in alloc; 0u8; WINDOW]?;

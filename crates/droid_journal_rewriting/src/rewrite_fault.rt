@@ -15,7 +15,7 @@ pub enum RewriteFault {
     Write,
     /// The old file begins with another header.
     Header,
-    /// Bytes stand behind this many whole records of the old file: a torn end, or damage. Opening the journal tells which.
+    /// Bytes stand behind this many whole records of the old file: a torn end, or damage. Opening the journal reports which.
     Behind(u64),
     /// The new file could not be synced, or did not get the name of the old one for sure. The name leads to one of them.
     Exchange,

@@ -1,4 +1,4 @@
-//! Reading of a journal only what tells which files have ended: of each record the lengths, and the front of its request.
+//! Which files have ended, by a few bytes of each record of a journal: its lengths, and the front of its request.
 
 ghost use Rattle.std.specs.Prelude.{◌≡◌, ◌≤◌, ◌<◌, ◌+◌, ◌^◌, ◌++◌, ◌∷◌, ℕ, [], None, Some, List, IfErr, IfOk, MatchOption, OnOk, drop, if◌then◌else◌, length, nat_lt, take, true};
 ghost use Rattle.std.specs.Int.{from_be_bytes, to_be_bytes, w32};
@@ -25,7 +25,7 @@ const LEAST_REQUEST: u32 = 18;
 /// The most bytes of a record.
 const LIMIT: u64 = 8_388_608;
 
-/// What the front of a record tells.
+/// The fields at the front of a record.
 #[derive(Clone, Copy)]
 pub(crate) struct Front {
     /// How many bytes the request has.
@@ -62,7 +62,7 @@ fn length_at<F: LogFile>(file: &F, at: u64) -> Result<Option<u32>, RewriteFault>
     }
 }
 
-/// Returns what the bytes at the front of a record tell. `None`: they are too few.
+/// Returns the fields in the bytes at the front of a record. `None`: they are too few.
 fn front_in(bytes: &[u8]) -> Option<Front>
     ensures there { (start check : List ℕ) (it : Record) (rest : List ℕ) → Fits it → bytes.now ≡ take 64 (record_bytes start check it ++ rest) → MatchOption result ⊥ (IsFrontOf it.request) }
     ensures none { bytes.now ≡ [] → result ≡ None }
@@ -82,7 +82,7 @@ fn front_in(bytes: &[u8]) -> Option<Front>
     })
 }
 
-/// Reads what the front of the record at a place tells. `None`: no record is there.
+/// Reads the fields at the front of the record at a place. `None`: no record is there.
 fn front_at<F: LogFile>(file: &F, at: u64) -> Result<Option<Front>, RewriteFault>
     requires found { F.is_found file.now }
     ensures there { (s start check : List ℕ) (it : Record) (rest : List ℕ) → F.has file.now s → Fits it → drop at s ≡ record_bytes start check it ++ rest → IfOk result (λ seen. MatchOption seen ⊥ (IsFrontOf it.request)) }

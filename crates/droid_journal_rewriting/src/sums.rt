@@ -73,7 +73,7 @@ fn last_of(bytes: &[u8], count: usize) -> &[u8]
     &bytes[bytes.len().saturating_sub(count)..]
 }
 
-/// Tells how many bytes are left behind the record that begins where so many are left, as far as its lengths tell; none if
+/// Returns how many bytes are left behind the record that begins where so many are left, as far as its lengths say; none if
 /// there is no whole request. Nothing depends on it but time: a checksum is taken where as many bytes are left, and no other.
 fn left_behind(bytes: &[u8], left: usize) -> usize {
     let rest = last_of(bytes, left);
@@ -92,12 +92,12 @@ fn left_behind(bytes: &[u8], left: usize) -> usize {
     left.saturating_sub(size)
 }
 
-/// Tells whether a whole request is at the front that is long.
+/// Returns whether a whole request is at the front that is long.
 pub(crate) fn is_long(bytes: &[u8]) -> bool {
     request_at(bytes).len() >= LONG
 }
 
-/// Tells how many bytes are left where the next record with a long request begins, or 0 if there is none.
+/// Returns how many bytes are left where the next record with a long request begins, or 0 if there is none.
 fn next_long(bytes: &[u8], left: usize) -> usize {
     let mut left = left;
     for _ in 0..bytes.len() {
@@ -109,7 +109,7 @@ fn next_long(bytes: &[u8], left: usize) -> usize {
     left
 }
 
-/// Tells how many bytes are left where each of the next eight records with a long request begins.
+/// Returns how many bytes are left where each of the next eight records with a long request begins.
 fn places_of(bytes: &[u8]) -> [usize; 8] {
     let first = next_long(bytes, bytes.len());
     let second = next_long(bytes, left_behind(bytes, first));

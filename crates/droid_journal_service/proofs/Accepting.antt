@@ -62,24 +62,24 @@ module _ (setting : Setting) (history : History) (frame : Frame) (reply : Reply)
 
   by_verdict : (request : Request) (verdict : Verdict) → command frame ≡ Some request → kept history frame.client frame.number ≡ None → MayCome (world_of setting history) request verdict → accepted ≡ false
       → reply ≡ reply_to (New verdict) → history_with history frame (New verdict) ≡ history
-  by_verdict request (Accepted its after) asked is_new may isnt told =
-      let carried : is_refused reply ≡ false = ap (λ (r : Reply). is_refused r) told ∙ may.no_refusal in
+  by_verdict request (Accepted its after) asked is_new may isnt reported =
+      let carried : is_refused reply ≡ false = ap (λ (r : Reply). is_refused r) reported ∙ may.no_refusal in
       let is : accepted ≡ true = taken (by_kind request asked may.command) (unknown known (kept history frame.client frame.number) known_is is_new) carried in
       absurd (contrary accepted is isnt)
-  by_verdict request (Answered its) asked is_new may isnt told = refl
-  by_verdict request (Refuses refusal) asked is_new may isnt told = refl
+  by_verdict request (Answered its) asked is_new may isnt reported = refl
+  by_verdict request (Refuses refusal) asked is_new may isnt reported = refl
 
   -- what does not go into the journal leaves the history as it is
   stays : accepted ≡ false → reply ≡ answer setting history frame → next setting history frame ≡ history
-  stays isnt told =
+  stays isnt reported =
       let met : Meeting = meeting setting history frame in
       next_by setting history frame met refl
       ∙ whatever_meets setting history frame (λ (m : Meeting). reply ≡ reply_to m → history_with history frame m ≡ history) (λ is. refl) (λ entry there is. refl) (λ is. refl)
-      (λ request asked is_new is. by_verdict request _ asked is_new (judged setting (world_of setting history) frame.version request) isnt is) (told ∙ answer_by setting history frame met refl)
+      (λ request asked is_new is. by_verdict request _ asked is_new (judged setting (world_of setting history) frame.version request) isnt is) (reported ∙ answer_by setting history frame met refl)
 
   then_is : (b : Bool) → accepted ≡ b → reply ≡ answer setting history frame → next setting history frame ≡ history_then setting history frame b
-  then_is true is told = refl
-  then_is false is told = stays is told
+  then_is true is reported = refl
+  then_is false is reported = stays is reported
 
   -- the request was handled, the service stands for what comes next, and what goes into the journal was answered
   abbrev pub Came : Bool → Type 0

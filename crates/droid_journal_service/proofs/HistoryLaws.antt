@@ -220,15 +220,15 @@ module _ (setting : Setting) (base : Base setting) where
       → IsHistoryBehind setting base (extended records first frame reply accepted) (history_then setting history frame accepted)
   records_then records first history frame reply false readable spelled its answered command unrefused = its
   records_then records first history frame reply true readable spelled its answered command unrefused =
-      let told : reply ≡ answer setting history frame = answered refl in
+      let reported : reply ≡ answer setting history frame = answered refl in
       history_more records history (record_of first frame reply) frame its
       (record {
         readable = readable;
         request = refl;
-        reply = ap (λ (r : Reply). reply_frame frame.version frame.client frame.number r) told;
+        reply = ap (λ (r : Reply). reply_frame frame.version frame.client frame.number r) reported;
         command = command refl;
-        unrefused = subst (λ (r : Reply). is_refused r ≡ false) told (unrefused refl);
-        spelled = subst (λ (r : Reply). HasReplySpelling frame.version r) told spelled;
+        unrefused = subst (λ (r : Reply). is_refused r ≡ false) reported (unrefused refl);
+        spelled = subst (λ (r : Reply). HasReplySpelling frame.version r) reported spelled;
       })
 
   rest_front : (xs ys : List Record) (history other : History) → IsFront xs ys → (a : IsHistoryBehind setting base xs history) → (b : IsHistoryBehind setting base ys other) → IsFront a.rest b.rest

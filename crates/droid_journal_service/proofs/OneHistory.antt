@@ -1,7 +1,7 @@
 -- Records whose requests are whole have one history, whichever files may lack their bytes.
 use Rattle.std.proofs.Common.{◌≡◌, ◌⊎◌, ℕ, List, [], ◌∷◌, ◌++◌, refl, sym, ap, subst, ◌∙◌, inl, inr}
 use Rattle.droid_journal_disk.specs.chain.Records.{Record}
-use Rattle.droid_journal_smaller.proofs.recovery.KeptFrames.{Told, Whole, Piece, Finish, frame_is, told}
+use Rattle.droid_journal_smaller.proofs.recovery.KeptFrames.{FrameForm, Whole, Piece, Finish, frame_is, form_of}
 use Rattle.droid_journal_smaller.proofs.core.Meetings.{next_kept, next_new}
 use Rattle.droid_journal_smaller.proofs.recovery.frame.FrameLaws.{reported_frame}
 use Rattle.droid_journal_smaller.specs.recovery.BareRecords.{HaveHistory, IsAfter, MayBeKept}
@@ -20,14 +20,14 @@ module _ (setting : Setting) (bare : Bare) where
       ∙ ap (λ (mark : List ℕ). history ++ record { frame = entry.frame; mark = mark; reply = entry.reply } ∷ []) (sym may.marked)
 
   module _ (history : History) (it : Record) (frame : Frame) (is : IsOf setting history it frame) where
-    by_told : (entry : Entry) (kept : MayBeKept setting history entry) → Told bare entry kept.may.request frame → next setting history frame ≡ history ++ entry ∷ []
-    by_told entry kept (Whole none same) = ap (λ (f : Frame). next setting history f) same ∙ next_is history entry kept.may
-    by_told entry kept (Piece profile file index bytes asked is_bare same) = absurd (bare_kind frame.kind (inl (ap (λ (f : Frame). f.kind) same)) is.command)
-    by_told entry kept (Finish profile file asked is_bare same) = absurd (bare_kind frame.kind (inr (ap (λ (f : Frame). f.kind) same)) is.command)
+    by_form : (entry : Entry) (kept : MayBeKept setting history entry) → FrameForm bare entry kept.may.request frame → next setting history frame ≡ history ++ entry ∷ []
+    by_form entry kept (Whole none same) = ap (λ (f : Frame). next setting history f) same ∙ next_is history entry kept.may
+    by_form entry kept (Piece profile file index bytes asked is_bare same) = absurd (bare_kind frame.kind (inl (ap (λ (f : Frame). f.kind) same)) is.command)
+    by_form entry kept (Finish profile file asked is_bare same) = absurd (bare_kind frame.kind (inr (ap (λ (f : Frame). f.kind) same)) is.command)
 
     one_after : (after : History) → IsAfter setting bare history it after → after ≡ next setting history frame
     one_after after (inl came) =
-        came.2 ∙ sym (by_told came.0 came.1.kept (told bare came.0 frame came.1.kept.may.request (frame_is setting bare history came.0 came.1.kept frame it.request is.readable came.1.request is.request)))
+        came.2 ∙ sym (by_form came.0 came.1.kept (form_of bare came.0 frame came.1.kept.may.request (frame_is setting bare history came.0 came.1.kept frame it.request is.readable came.1.request is.request)))
     one_after after (inr again) =
         let same : again.1.frame ≡ frame = (reported_frame again.1.frame frame [] [] again.1.readable.is_frame is.readable.is_frame (ap (λ (t : List ℕ). t ++ []) (sym again.1.request ∙ is.request))).0 in
         again.2 ∙ sym (ap (λ (f : Frame). next setting history f) (sym same) ∙ next_kept setting history again.1.frame again.1.again.request again.1.again.asked again.0 again.1.again.there)

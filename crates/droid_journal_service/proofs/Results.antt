@@ -31,4 +31,4 @@ each_there X Y (Ok None) P each = tt
 each_there X Y (Err e) P each = tt
 
 pub only_memory : {A : Type 0} (r : Result A Fault) (fault : Fault) → IfErr r (λ f. f ≡ Memory) → IsErrOf r fault → fault ≡ Memory
-only_memory r fault is told = subst (λ x. IfErr x (λ f. f ≡ Memory)) told is
+only_memory r fault is reported = subst (λ x. IfErr x (λ f. f ≡ Memory)) reported is

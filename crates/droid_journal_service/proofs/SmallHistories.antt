@@ -84,28 +84,28 @@ module _ (setting : Setting) (bare : Bare) (history : History) (it : Record) (fr
 
   by_verdict : (request : Request) (verdict : Verdict) → command frame ≡ Some request → kept history frame.client frame.number ≡ None → judge setting (world_of setting history) frame.version request ≡ verdict
       → answer setting history frame ≡ verdict_reply verdict → next setting history frame ≡ history_with history frame (New verdict) → After
-  by_verdict request (Accepted reply after) asked is_new accepted told after_is =
+  by_verdict request (Accepted reply after) asked is_new accepted reported after_is =
       inl (
         entry_of frame reply,
         record {
           kept = record {
             may = record { is_new = is_new; marked = refl; request = request; asked = asked; after = after; accepted = accepted };
             readable = is.readable;
-            spelled = subst (λ (r : Reply). HasReplySpelling frame.version r) told is.spelled;
+            spelled = subst (λ (r : Reply). HasReplySpelling frame.version r) reported is.spelled;
           };
           request = is.request ∙ ap frame_bytes (sym (whole request reply after accepted));
-          reply = is.reply ∙ ap (λ (r : Reply). reply_frame frame.version frame.client frame.number r) told;
+          reply = is.reply ∙ ap (λ (r : Reply). reply_frame frame.version frame.client frame.number r) reported;
         },
         after_is,
       )
-  by_verdict request (Answered reply) asked is_new answered told after_is =
+  by_verdict request (Answered reply) asked is_new answered reported after_is =
       let query : is_command request ≡ false = (judged_as setting (world_of setting history) frame.version request (Answered reply) answered).query in
       let commands : is_command request ≡ true = ap (λ (kind : ℕ). nat_lt kind 7) (sym (kind_asked frame request is.readable.is_frame.body_is_bytes asked)) ∙ is.command in
       absurd (contrary (is_command request) commands query)
-  by_verdict request (Refuses refusal) asked is_new refused told after_is = absurd (refused_is (answer setting history frame) refusal told is.unrefused)
+  by_verdict request (Refuses refusal) asked is_new refused reported after_is = absurd (refused_is (answer setting history frame) refusal reported is.unrefused)
 
   by_mark : (request : Request) (entry : Entry) (same : Bool) → command frame ≡ Some request → kept history frame.client frame.number ≡ Some entry → is_request_of entry frame ≡ same → answer setting history frame ≡ cond same entry.reply (Refused NumberReused) → After
-  by_mark request entry true asked there same told =
+  by_mark request entry true asked there same reported =
       inr (
         entry,
         record {
@@ -113,11 +113,11 @@ module _ (setting : Setting) (bare : Bare) (history : History) (it : Record) (fr
           readable = is.readable;
           again = record { request = request; asked = asked; there = there; same = same };
           request = is.request;
-          reply = is.reply ∙ ap (λ (r : Reply). reply_frame frame.version frame.client frame.number r) told;
+          reply = is.reply ∙ ap (λ (r : Reply). reply_frame frame.version frame.client frame.number r) reported;
         },
         next_kept setting history frame request asked entry there,
       )
-  by_mark request entry false asked there same told = absurd (refused_is (answer setting history frame) NumberReused told is.unrefused)
+  by_mark request entry false asked there same reported = absurd (refused_is (answer setting history frame) NumberReused reported is.unrefused)
 
   by_kept : (request : Request) (o : Option Entry) → command frame ≡ Some request → kept history frame.client frame.number ≡ o → After
   by_kept request None asked is_new =

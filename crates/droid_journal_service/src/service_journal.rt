@@ -69,9 +69,9 @@ impl<F: LogFile + Drop> ServiceJournal<F> {
         ensures kept { IfErr result (λ it. F.kept it.file ≡ F.kept file) }
         // Nor is a crash taken for damage.
         ensures lawful { (n : ℕ) (setting : Setting) (s : List ℕ) (synced all : History) → F.has file s → IsLeft setting header.now s synced all → IfErr result (λ it. it.fault ≢ Fault.Damage n) }
-        // Damage is told only where a record stands behind it that was written when all before it was on the disk.
+        // Damage is reported only where a record stands behind it that was written when all before it was on the disk.
         ensures damage { (n : ℕ) (s : List ℕ) → F.has file s → IfErr result (λ it. it.fault ≡ Fault.Damage n → WasDamaged header.now s n) }
-        // A record is told only if no service of this registry and these limits got its request behind those before it, or
+        // A record is refused only if no service of this registry and these limits got its request behind those before it, or
         // not with its reply.
         ensures refuted { (n : ℕ) (setting : Setting) (s : List ℕ) → StandsFor setting fresh [] → F.has file s
             → IfErr result (λ it. it.fault ≡ Fault.Record n → WasRefuted (GivesReply setting (no_base setting)) header.now s n) }
@@ -120,7 +120,7 @@ impl<F: LogFile + Drop> ServiceJournal<F> {
             → HasBare left.first → IfOk result (λ o. IsSome o) }
         ensures lawful { (n : ℕ) (setting : Setting) (s : List ℕ) (synced all : History) → F.has file s → IsLeft setting header.now s synced all → IsErrOf result (Fault.Damage n) → ⊥ }
         ensures damage { (n : ℕ) → IsErrOf result (Fault.Damage n) → (s : List ℕ) → F.has file s → WasDamaged header.now s n }
-        // A record is told only if it is none that goes on a history of those before it, whichever files have no bytes.
+        // A record is refused only if it is none that goes on a history of those before it, whichever files have no bytes.
         ensures refuted { (n : ℕ) → IsErrOf result (Fault.Record n) → (setting : Setting) (bare : Bare) (s : List ℕ) → setting.limits ≡ limits_given limits → IsOf registry setting → F.has file s
             → WasRefuted (GivesRecord (record { setting = setting; bare = bare })) header.now s n }
         ensures other_header { IsErrOf result Fault.Header → (s : List ℕ) → F.has file s → (HasHeader header.now s → ⊥) × ((count : ℕ) → IsBegun header.now s count → ⊥) }
@@ -204,7 +204,7 @@ impl<F: LogFile + Drop> ServiceJournal<F> {
             → OnOk result (StandsForHistory F.has F.kept setting header self.new.journal all all) }
         ensures kept { OnErr result (F.kept self.new.journal.file ≡ F.kept self.old.journal.file) }
         ensures closes { OnErr result (IsSome self.new.journal.fault) }
-        ensures told { IfErr result (λ fault. self.new.journal.fault ≡ Some fault) }
+        ensures reported { IfErr result (λ fault. self.new.journal.fault ≡ Some fault) }
         ensures writing { MayBeOfWriting self.old.journal.fault → MayBeOfWriting self.new.journal.fault }
         ensures closed { IsSome self.old.journal.fault → IsErr result }
     {

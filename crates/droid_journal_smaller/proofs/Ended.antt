@@ -15,7 +15,7 @@ use Rattle.droid_journal_recovery.proofs.core.spec.Legal.{GoesOn-push}
 use Rattle.droid_journal_recovery.specs.revival.BareWorlds.{Bare}
 use Rattle.droid_journal_recovery.specs.revival.Ending.{Ends, IsEnded}
 use Rattle.droid_journal_recovery.specs.chain.Records.{Record}
-use Rattle.droid_journal_recovery.proofs.KeptFrames.{Told, Whole, Piece, Finish, told}
+use Rattle.droid_journal_recovery.proofs.KeptFrames.{FrameForm, Whole, Piece, Finish, form_of}
 use Rattle.droid_journal_recovery.specs.BareRecords.{HaveHistory, IsRecordOf, MayBeKept, kept_frame}
 use Rattle.droid_journal_rewriting.specs.Fields.{file_in, is_about, is_end, stamp_in}
 use Rattle.droid_journal_rewriting.specs.Shortening.{ends, has_ended, has_stamp, once}
@@ -92,10 +92,10 @@ module _ (setting : Setting) (bare : Bare) where
     end_by all later number joined (requests.Status profile file) is kind number_is = elim kind [ inl a ↦ absurd (omega (arith, a)) | inr b ↦ absurd (omega (arith, b)) ]
     end_by all later number joined (requests.Export profile from max filter) is kind number_is = elim kind [ inl a ↦ absurd (omega (arith, a)) | inr b ↦ absurd (omega (arith, b)) ]
 
-    kind_told : (kind : ℕ) (frame : Frame) → frame.kind ≡ kind → (kind ≡ 5) ⊎ (kind ≡ 6) → Told bare entry kept.may.request frame → frame ≡ entry.frame
-    kind_told kind frame is one (Whole none same) = same
-    kind_told kind frame is one (Piece profile file index bytes asked is_bare same) = absurd (elim one [ inl a ↦ let it = sym is ∙ ap (λ (f : Frame). f.kind) same in omega (arith, it, a) | inr b ↦ let it = sym is ∙ ap (λ (f : Frame). f.kind) same in omega (arith, it, b) ])
-    kind_told kind frame is one (Finish profile file asked is_bare same) = absurd (elim one [ inl a ↦ let it = sym is ∙ ap (λ (f : Frame). f.kind) same in omega (arith, it, a) | inr b ↦ let it = sym is ∙ ap (λ (f : Frame). f.kind) same in omega (arith, it, b) ])
+    kind_form : (kind : ℕ) (frame : Frame) → frame.kind ≡ kind → (kind ≡ 5) ⊎ (kind ≡ 6) → FrameForm bare entry kept.may.request frame → frame ≡ entry.frame
+    kind_form kind frame is one (Whole none same) = same
+    kind_form kind frame is one (Piece profile file index bytes asked is_bare same) = absurd (elim one [ inl a ↦ let it = sym is ∙ ap (λ (f : Frame). f.kind) same in omega (arith, it, a) | inr b ↦ let it = sym is ∙ ap (λ (f : Frame). f.kind) same in omega (arith, it, b) ])
+    kind_form kind frame is one (Finish profile file asked is_bare same) = absurd (elim one [ inl a ↦ let it = sym is ∙ ap (λ (f : Frame). f.kind) same in omega (arith, it, a) | inr b ↦ let it = sym is ∙ ap (λ (f : Frame). f.kind) same in omega (arith, it, b) ])
 
   -- the kind of a record that ends a file
   end_kind : (request reply : List ℕ) → is_end request reply ≡ true → (slice_index request 1 ≡ 5) ⊎ (slice_index request 1 ≡ 6)
@@ -109,7 +109,7 @@ module _ (setting : Setting) (bare : Bare) where
       let frame = kept_frame bare is.kept.may.request entry.frame entry.reply in
       let parts = and_parts (is_end it.request it.reply) (file_in it.request == number) ends_it in
       let kind = subst (λ (r : List ℕ). (slice_index r 1 ≡ 5) ⊎ (slice_index r 1 ≡ 6)) is.request (end_kind it.request it.reply parts.0) in
-      let whole : frame ≡ entry.frame = kind_told history entry is.kept frame.kind frame refl kind (told bare entry frame is.kept.may.request refl) in
+      let whole : frame ≡ entry.frame = kind_form history entry is.kept frame.kind frame refl kind (form_of bare entry frame is.kept.may.request refl) in
       let kind_is = (spells setting bare (λ n. false) history entry is.kept is.kept.may.request refl).kind_is in
       let of_request = subst (λ (k : ℕ). (k ≡ 5) ⊎ (k ≡ 6)) (ap (λ (f : Frame). f.kind) whole ∙ kind_is) kind in
       end_by history entry is.kept all later number joined is.kept.may.request refl of_request

@@ -88,7 +88,7 @@ fn front_is_right(alloc: Global, len: usize) -> Result<bool, Fail> {
 
 // A journal that lost its end is refused, but for one that ends with a record.
 #[test]
-fn each_front_is_told(rt: HostRuntime) -> Result<(), Fail> {
+fn each_front_is_read(rt: HostRuntime) -> Result<(), Fail> {
     let alloc = rt.alloc();
     for len in [0usize, 9, 11, 300, 900] {
         assert!(rt; front_is_right(alloc, len)?);
@@ -99,17 +99,17 @@ fn each_front_is_told(rt: HostRuntime) -> Result<(), Fail> {
     Ok(())
 }
 
-// Whether it is told that bytes stand behind so many records.
+// Whether the fault says that bytes stand behind so many records.
 fn is_behind(fault: Option<RewriteFault>, records: u64) -> bool {
     match fault {
-        Some(RewriteFault::Behind(told)) => told == records,
+        Some(RewriteFault::Behind(count)) => count == records,
         _ => false,
     }
 }
 
 // A flipped bit in the fourth record.
 #[test]
-fn damage_is_told(rt: HostRuntime) -> Result<(), Fail> {
+fn damage_is_reported(rt: HostRuntime) -> Result<(), Fail> {
     let alloc = rt.alloc();
     let mut bytes = WHOLE.as_slice().to_vec(alloc)?;
     match bytes.get_mut(300) {

@@ -16,7 +16,7 @@ use Rattle.droid_wire_journal.specs.core.Verdicts.{is_of_judging, MayCome}
 use Rattle.droid_wire_journal.specs.core.World.{World}
 use Rattle.droid_wire_journal.proofs.core.Judged.{judged}
 use Rattle.droid_wire_journal.proofs.core.Meetings.{answer_malformed, next_malformed, answer_kept, next_kept, answer_new, next_new}
-use Rattle.droid_wire.specs.Desks.{Answering, Again, Accepts, Refuses, Tells, IsDesk, IsItsOwn, IsAccepted, desk_of, is_refused}
+use Rattle.droid_wire.specs.Desks.{Answering, Again, Accepts, Refuses, Queries, IsDesk, IsItsOwn, IsAccepted, desk_of, is_refused}
 use Rattle.droid_wire.proofs.RequestKinds.{kind_of_request}
 
 asked_kind : (frame : Frame) (request : Request) → command frame ≡ Some request → request_kind request ≡ frame.kind
@@ -57,7 +57,7 @@ by_verdict setting history frame world request (Accepted reply after) is_new kin
     Accepts is_new (of_kind frame request true kind may.command) (ap is_refused answered ∙ may.no_refusal)
     (goes ∙ ap (λ (reply : Reply). history ++ record { frame = frame; mark = frame_mark frame; reply = reply } ∷ []) (sym answered))
 by_verdict setting history frame world request (Answered reply) is_new kind may answered goes =
-    Tells (of_kind frame request false kind may.query) (ap is_refused answered ∙ may.no_refusal) goes
+    Queries (of_kind frame request false kind may.query) (ap is_refused answered ∙ may.no_refusal) goes
 by_verdict setting history frame world request (RefusesIt refusal) is_new kind may answered goes = Refuses refusal (other refusal may) answered goes
 
 anew : (setting : Setting) (history : History) (frame : Frame) (request : Request) → command frame ≡ Some request → kept history frame.client frame.number ≡ None → Answering (desk_of setting) history frame

@@ -17,7 +17,7 @@ use Rattle.droid_wire_client.specs.declared.slot.Slot.{Slot}
 use Rattle.droid_wire_client.specs.declared.slot.State.{State}
 use Rattle.droid_wire_client.specs.declared.slot.State.TheVariants.{Pending, Answered}
 use Rattle.droid_wire_client.specs.Cores.{Core, belongs_at, core_hearing, core_submitting, heard_at, heard_in, new_slot, next_frame, next_number, slot_after, slot_at, slot_hearing, slots_hearing}
-use Rattle.droid_wire.specs.Desks.{Desk, Answering, Again, Accepts, Refuses, Tells, IsDesk, IsItsOwn, entry_at, is_command, is_refused}
+use Rattle.droid_wire.specs.Desks.{Desk, Answering, Again, Accepts, Refuses, Queries, IsDesk, IsItsOwn, entry_at, is_command, is_refused}
 use Rattle.droid_wire.specs.Schedules.{AreOnes, Event, Submits, Arrives, FailsForMemory, Replies, Drops, Moment, Sent, Failure, OfMemory, OfStore, arrived, happens, refusal_for, replied, reply_to, submitted, wanted}
 use Rattle.droid_wire_client.proofs.Elements.{contains_got, count_push, found_in, none_there, push_cases, set_cases}
 use Rattle.droid_wire_client.proofs.Numbers.{slot_found}
@@ -144,7 +144,7 @@ arrives Was desk moment frame holds own there was (Refuses refusal other answere
     let reply = desk.answer moment.history frame in
     subst (λ (h : History). Holds Was desk (record { history = h; cores = moment.cores; frames = moment.frames; replies = moment.replies ++ reply_to frame reply ∷ [] })) (sym goes)
     (says Was desk moment frame reply holds there (Refusing refusal other answered))
-arrives Was desk moment frame holds own there was (Tells query reported goes) =
+arrives Was desk moment frame holds own there was (Queries query reported goes) =
     let reply = desk.answer moment.history frame in
     subst (λ (h : History). Holds Was desk (record { history = h; cores = moment.cores; frames = moment.frames; replies = moment.replies ++ reply_to frame reply ∷ [] })) (sym goes)
     (says Was desk moment frame reply holds there (Reported moment.history was query refl reported))

@@ -44,7 +44,7 @@ pub data Answering (desk : Desk) (history : History) (frame : Frame) : Type 0 wh
   Refuses : (refusal : Refusal) → refusal ≢ NumberReused → desk.answer history frame ≡ Refused refusal
       → desk.next history frame ≡ history → Answering desk history frame
   -- it is a query, and is answered
-  Tells : is_command frame ≡ false → is_refused (desk.answer history frame) ≡ false
+  Queries : is_command frame ≡ false → is_refused (desk.answer history frame) ≡ false
       → desk.next history frame ≡ history → Answering desk history frame
 
 -- what is kept under the number of this request is this very request

@@ -13,7 +13,7 @@ use Rattle.droid_wire_journal.specs.declared.journal_handler.JournalHandler.{Jou
 module _ {F : Type 0} (has : F → List ℕ → Type 0) (kept : F → List ℕ) where
   settled_so : (done : Bool) (old new : Journal F ServiceMachine) (was noted : Option Fault) → SettlesIn has kept old done new was noted → MayBeOfWriting old.fault → MayBeOfWriting was → MayBeOfWriting noted
   settled_so true old new was noted did its before = subst MayBeOfWriting (sym (did.still refl)) before
-  settled_so false old new was noted did its before = subst MayBeOfWriting (did.told refl) (did.writing its)
+  settled_so false old new was noted did its before = subst MayBeOfWriting (did.reported refl) (did.writing its)
 
   pub writing_stays : {C : Type 0} (does : C → Event → C → Type 0) (steps : List Step) (c later : C) (h after : JournalHandler F) → GoesOver (Does does (HandlesSo has kept) (SettlesSo has kept)) (c, h) steps (later, after)
       → MayBeOfWriting h.journal.journal.fault → MayBeOfWriting h.fault → MayBeOfWriting after.fault

@@ -30,7 +30,7 @@ pub record SettlesIn {F : Type 0} (has : F → List ℕ → Type 0) (kept : F �
       → done ≡ true → StandsForHistory has kept setting header new all all
   pub kept_is : done ≡ false → kept new.file ≡ kept old.file
   pub closes : done ≡ false → IsSome new.fault
-  pub told : done ≡ false → new.fault ≡ noted
+  pub reported : done ≡ false → new.fault ≡ noted
   pub still : done ≡ true → noted ≡ was
   pub writing : MayBeOfWriting old.fault → MayBeOfWriting new.fault
   pub closed : IsSome old.fault → done ≡ false

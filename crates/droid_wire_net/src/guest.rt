@@ -23,7 +23,7 @@ pub(crate) struct Guest {
     pub(crate) readable: bool,
     /// The same for a write.
     pub(crate) writable: bool,
-    /// Whether the system said that the input has ended or failed. Only a further read tells so.
+    /// Whether the system said that the input has ended or failed. Only a further read reports it.
     pub(crate) ending: bool,
     /// Whether it took bytes since the last turn began.
     pub(crate) answered: bool,

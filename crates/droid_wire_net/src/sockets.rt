@@ -196,7 +196,7 @@ impl<R: Clock + Eprint + Net> Connections for Sockets<'_, R> {
 
     fn wait(&mut self, limit: u64, frames: u64) -> Result<(), WaitFault> {
         self.print_minutely(frames);
-        // A connection that waits to be accepted is told of once alone.
+        // The system reports only once that a connection waits to be accepted.
         let limit = if self.is_knocking && self.has_left {
             0
         } else {

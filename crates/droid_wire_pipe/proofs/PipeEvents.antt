@@ -27,69 +27,69 @@ module _ {R W : Type 0} (remaining : R → Option (List ℕ)) (contents : W → 
 
   pub read_does : (old new : Pipe R W) (id : ℕ) (buffer : List ℕ) (came : Came) → id ≡ 0 → new.writer ≡ old.writer → new.departure ≡ old.departure → CameSo (remaining old.reader) (remaining new.reader) buffer came
       → ((start : ℕ) → Counts start (was_read old.reader) 0 → ReadsAs start (was_read new.reader) came) → PipeDoes remaining contents was_read was_written room old (read_event id buffer came) new
-  read_does old new id buffer (came_as.Bytes count) zero same left so told = record {
+  read_does old new id buffer (came_as.Bytes count) zero same left so reported = record {
     read = so;
     written = wrote_none old.writer new.writer same;
     one = inl zero;
     ends = tt;
     left = left;
-    reader = told;
+    reader = reported;
     writer = still_written old.writer new.writer same;
   }
-  read_does old new id buffer came_as.Nothing zero same left so told = record {
+  read_does old new id buffer came_as.Nothing zero same left so reported = record {
     read = so;
     written = wrote_none old.writer new.writer same;
     one = inl zero;
     ends = tt;
     left = left;
-    reader = told;
+    reader = reported;
     writer = still_written old.writer new.writer same;
   }
-  read_does old new id buffer came_as.End zero same left so told = record {
+  read_does old new id buffer came_as.End zero same left so reported = record {
     read = so.0;
     written = wrote_none old.writer new.writer same;
     one = tt;
     ends = so.1;
     left = left;
-    reader = told;
+    reader = reported;
     writer = still_written old.writer new.writer same;
   }
-  read_does old new id buffer came_as.Broken zero same left so told = record {
+  read_does old new id buffer came_as.Broken zero same left so reported = record {
     read = so;
     written = wrote_none old.writer new.writer same;
     one = tt;
     ends = tt;
     left = left;
-    reader = told;
+    reader = reported;
     writer = still_written old.writer new.writer same;
   }
 
   pub write_does : (old new : Pipe R W) (id : ℕ) (bytes : List ℕ) (took : Took) → id ≡ 0 → new.reader ≡ old.reader → new.departure ≡ old.departure → TookSo (contents old.writer) (contents new.writer) bytes took
       → ((start : ℕ) → Counts start (was_written old.writer) 0 → WritesAs start (was_written new.writer) (room new.writer) took) → PipeDoes remaining contents was_read was_written room old (write_event id bytes took) new
-  write_does old new id bytes (took_as.Bytes count) zero same left so told = record {
+  write_does old new id bytes (took_as.Bytes count) zero same left so reported = record {
     read = read_none old.reader new.reader same;
     written = so;
     one = inl zero;
     ends = tt;
     left = left;
     reader = still_read old.reader new.reader same;
-    writer = told;
+    writer = reported;
   }
-  write_does old new id bytes took_as.Nothing zero same left so told = record {
+  write_does old new id bytes took_as.Nothing zero same left so reported = record {
     read = read_none old.reader new.reader same;
     written = so;
     one = inl zero;
     ends = tt;
     left = left;
     reader = still_read old.reader new.reader same;
-    writer = told;
+    writer = reported;
   }
-  write_does old new id bytes took_as.Broken zero same left so told = record {
+  write_does old new id bytes took_as.Broken zero same left so reported = record {
     read = read_none old.reader new.reader same;
     written = so;
     one = tt;
     ends = tt;
     left = left;
     reader = still_read old.reader new.reader same;
-    writer = told;
+    writer = reported;
   }

@@ -109,7 +109,7 @@ fn leaving(before: Option<Departure>, id: u64, why: Departure) -> Option<Departu
 fn read_from<R: SteadyRead>(reader: &mut R, buffer: &mut [u8]) -> Came
     ensures bound { CameWithin result (length buffer.new) }
     ensures came { CameSo (R.remaining reader.old) (R.remaining reader.new) buffer.new result }
-    ensures told { (start : ℕ) → Counts start (R.seen reader.old) 0 → ReadsAs start (R.seen reader.new) result }
+    ensures reported { (start : ℕ) → Counts start (R.seen reader.old) 0 → ReadsAs start (R.seen reader.new) result }
 {
     if buffer.is_empty() {
         return Came::Nothing;
@@ -126,7 +126,7 @@ fn read_from<R: SteadyRead>(reader: &mut R, buffer: &mut [u8]) -> Came
 fn write_to<W: SteadyWrite>(writer: &mut W, bytes: &[u8]) -> Took
     ensures bound { TookWithin result (length bytes.now) }
     ensures took { TookSo (W.contents writer.old) (W.contents writer.new) bytes.now result }
-    ensures told { (start : ℕ) → Counts start (W.seen writer.old) 0 → WritesAs start (W.seen writer.new) (W.room writer.new) result }
+    ensures reported { (start : ℕ) → Counts start (W.seen writer.old) 0 → WritesAs start (W.seen writer.new) (W.room writer.new) result }
 {
     if bytes.is_empty() {
         return Took::Nothing;

@@ -6,7 +6,7 @@ use Rattle.std.proofs.lemmas.Bool.Decides.{eqb_tells}
 use Rattle.std.proofs.lemmas.List.{length-append}
 use Rattle.std.proofs.lemmas.List.Sums.{fold-append}
 use Rattle.droid_wire_turns.specs.Departures.{Explains, IsServed, Serves}
-use Rattle.droid_wire_turns.specs.Events.{Event, Opened, NoneOpened, Read, Ended, Unread, Wrote, Unwritten, Closed, Told, Waited, Unwaited}
+use Rattle.droid_wire_turns.specs.Events.{Event, Opened, NoneOpened, Read, Ended, Unread, Wrote, Unwritten, Closed, Timed, Waited, Unwaited}
 use Rattle.droid_wire_turns.specs.Halls.{IsCalm, IsWithin, Keeps, one_at}
 use Rattle.droid_wire_turns.specs.Turns.{HasLeft, IsFair, IsOpenAfter, IsSeated}
 use Rattle.droid_wire_turns.specs.Steps.{Always, AreOfOthers, Happened, Handles, Happens, IsOf, IsOfOther, IsTraffic, Settles, Step, bytes_read, bytes_written, came, closed, closed_by, handled, handled_in, numbers, opened, opened_by, turn_behind, turn_of}
@@ -126,7 +126,7 @@ other_traffic who id (Happens (Unread one)) is other own = other (sym is ∙ own
 other_traffic who id (Happens (Unwritten one)) is other own = other (sym is ∙ own)
 other_traffic who id (Happens (Waited limit)) is other own = absurd is
 other_traffic who id (Happens Unwaited) is other own = absurd is
-other_traffic who id (Happens (Told time)) is other own = absurd is
+other_traffic who id (Happens (Timed time)) is other own = absurd is
 other_traffic who id (Happens (Opened one)) is other own = absurd is
 other_traffic who id (Happens NoneOpened) is other own = absurd is
 other_traffic who id (Happens (Closed one why)) is other own = absurd is
@@ -151,7 +151,7 @@ none_traffic who (Happens (Unread one)) is = record { opens = refl; closes = ref
 none_traffic who (Happens (Unwritten one)) is = record { opens = refl; closes = refl; free = λ rules before. tt }
 none_traffic who (Happens (Waited limit)) is = absurd is
 none_traffic who (Happens Unwaited) is = absurd is
-none_traffic who (Happens (Told time)) is = absurd is
+none_traffic who (Happens (Timed time)) is = absurd is
 none_traffic who (Happens (Opened one)) is = absurd is
 none_traffic who (Happens NoneOpened) is = absurd is
 none_traffic who (Happens (Closed one why)) is = absurd is
@@ -210,7 +210,7 @@ keeps_traffic rules count open_as places who steps more keeps there own served w
       wanted = keeps.wanted;
     }
 
--- the same, told otherwise
+-- the same, in another form
 pub keeps_as : (rules : Rules) (count : ℕ) (open_as also : ℕ → ℕ) (places other : ℕ) (steps : List Step) → ((id : ℕ) → open_as id ≡ also id) → places ≡ other → Keeps rules count open_as places steps → Keeps rules count also other steps
 keeps_as rules count open_as also places other steps same is keeps = record {
   apart = λ id. omega (arith, keeps.apart id, same id);
@@ -259,8 +259,8 @@ keeps_nobody rules count open_as places steps step keeps nobody fair within =
       wanted = keeps.wanted;
     }
 
-nobody_told : (time : ℕ) → IsNobody (Happens (Told time))
-nobody_told time = record { away = λ id. (refl, refl, refl); of_none = λ id own. own; opens = refl; closes = refl }
+nobody_timed : (time : ℕ) → IsNobody (Happens (Timed time))
+nobody_timed time = record { away = λ id. (refl, refl, refl); of_none = λ id own. own; opens = refl; closes = refl }
 
 nobody_none : IsNobody (Happens NoneOpened)
 nobody_none = record { away = λ id. (refl, refl, refl); of_none = λ id own. own; opens = refl; closes = refl }
@@ -287,9 +287,9 @@ within_none id = record { frames = omega arith; bytes = omega arith }
 goes_on_turn : (steps : List Step) (step : Step) → ((turn : List Step) → turn_behind turn step ≡ turn ++ step ∷ []) → turn_of (steps ++ step ∷ []) ≡ turn_of steps ++ step ∷ []
 goes_on_turn steps step one = fold-append turn_behind [] steps (step ∷ []) ∙ one (turn_of steps)
 
-pub keeps_told : (rules : Rules) (count : ℕ) (open_as : ℕ → ℕ) (places time : ℕ) (steps : List Step) → Keeps rules count open_as places steps → Keeps rules count open_as places (steps ++ Happens (Told time) ∷ [])
-keeps_told rules count open_as places time steps keeps =
-    keeps_nobody rules count open_as places steps (Happens (Told time)) keeps (nobody_told time) tt (λ id. within_quiet id steps (Happens (Told time)) (goes_on_turn steps (Happens (Told time)) (λ turn. refl)) refl refl (keeps.within id))
+pub keeps_timed : (rules : Rules) (count : ℕ) (open_as : ℕ → ℕ) (places time : ℕ) (steps : List Step) → Keeps rules count open_as places steps → Keeps rules count open_as places (steps ++ Happens (Timed time) ∷ [])
+keeps_timed rules count open_as places time steps keeps =
+    keeps_nobody rules count open_as places steps (Happens (Timed time)) keeps (nobody_timed time) tt (λ id. within_quiet id steps (Happens (Timed time)) (goes_on_turn steps (Happens (Timed time)) (λ turn. refl)) refl refl (keeps.within id))
 
 pub keeps_none : (rules : Rules) (count : ℕ) (open_as : ℕ → ℕ) (places : ℕ) (steps : List Step) → Keeps rules count open_as places steps → Keeps rules count open_as places (steps ++ Happens NoneOpened ∷ [])
 keeps_none rules count open_as places steps keeps =
@@ -349,7 +349,7 @@ keeps_opened rules count open_as open_now places steps keeps seats wanted is =
       numbered = one_more opened_by steps step ∙ (ap (λ (l : List ℕ). l ++ count ∷ []) keeps.numbered ∙ sym (numbers_more count));
       fair = each_both (IsFair rules) [] steps (step ∷ []) keeps.fair (tt, tt);
       within = λ id. within_quiet id steps step (goes_on_turn steps step (λ turn. refl)) refl refl (keeps.within id);
-      wanted = λ total told. let less : count < total = wanted total told in omega (arith, less);
+      wanted = λ total reached. let less : count < total = wanted total reached in omega (arith, less);
     }
 
 -- ---- what a closed connection leaves
@@ -413,5 +413,5 @@ keeps_start rules = record {
   numbered = refl;
   fair = tt;
   within = λ id. within_none id;
-  wanted = λ total told. omega arith;
+  wanted = λ total reached. omega arith;
 }

@@ -10,8 +10,8 @@ use Rattle.droid_frame.specs.types.frame.Frame.{Frame}
 use Rattle.droid_frame.specs.types.reply.Reply.{Reply}
 use Rattle.std.proofs.lemmas.Bool.Decides.{eqb_tells}
 use Rattle.droid_wire_turns.specs.Departures.{Explains, IsServed, IsStopped, Serves, is_wait}
-use Rattle.droid_wire_turns.specs.Events.{Event, Opened, NoneOpened, Read, Ended, Unread, Wrote, Unwritten, Closed, Told, Waited, Unwaited}
-use Rattle.droid_wire_turns.specs.Halls.{Admits, ClosesSome, EndsFor, GivesUp, Heard, Holds, IsAtRest, IsCalm, IsClosing, IsPatient, IsTelling, IsWithin, Keeps, LeadsInTurn, LeadsOn, NoPeer, Served, Stops, TakesTurn, Unheard, one_at, times_among, times_in}
+use Rattle.droid_wire_turns.specs.Events.{Event, Opened, NoneOpened, Read, Ended, Unread, Wrote, Unwritten, Closed, Timed, Waited, Unwaited}
+use Rattle.droid_wire_turns.specs.Halls.{Admits, ClosesSome, EndsFor, GivesUp, Heard, Holds, IsAtRest, IsCalm, IsClosing, IsPatient, IsWithin, IsWriting, Keeps, LeadsInTurn, LeadsOn, NoPeer, Served, Stops, TakesTurn, Unheard, one_at, times_among, times_in}
 use Rattle.droid_wire_turns.specs.Peers.{Departs, Hears, IsHearing, IsNew, IsQuiet, Kept, Stands, Stays, is_hungry, keep, kept_of}
 use Rattle.droid_wire_turns.specs.Turns.{AreAll, EndsBy, HasAdmitted, HasBegun, HasEnough, HasLeft, IsAll, IsFair, IsOpenAfter, IsReady, IsSettled, ServesAll, SettledOnce, SettlesFirst, WereTaken}
 use Rattle.droid_wire_turns.specs.Steps.{AllSettled, AreOfOthers, AtEach, FailedToSettle, Goes, Happened, Handles, Happens, IsOf, IsOfOther, IsTraffic, Moves, Settles, Step, Times, bytes_read, bytes_written, came, clock_behind, clock_of, handled, handled_in, numbers, opened, opened_by, spelled_frames, spelled_replies, times_of, turn_behind, turn_of, went}
@@ -22,12 +22,12 @@ use Rattle.droid_wire_turns.specs.declared.peer.Peer.{Peer}
 use Rattle.droid_wire_turns.specs.declared.rules.Rules.{Rules}
 use Rattle.droid_wire_turns.specs.declared.service_end.Served.{Served as Ending}
 use Rattle.droid_wire_turns.specs.declared.service_end.Served.TheVariants as ways
-use Rattle.droid_wire_turns.proofs.OwnSteps.{Elsewhere, all_elsewhere, at_once, calm, clock_more, clock_told, closed_elsewhere, gathered, none_elsewhere, none_gathered, none_more, opened_elsewhere, settling_elsewhere, times_now, times_one, times_opened, turn_more}
-use Rattle.droid_wire_turns.proofs.AllConnections.{Leaves, cases_zero, keeps_as, keeps_closed, keeps_none, keeps_opened, keeps_settled, keeps_start, keeps_told, keeps_traffic, keeps_unwaited, keeps_waited, lt_self, numbers_size, one_here, one_other}
+use Rattle.droid_wire_turns.proofs.OwnSteps.{Elsewhere, all_elsewhere, at_once, calm, clock_more, clock_timed, closed_elsewhere, gathered, none_elsewhere, none_gathered, none_more, opened_elsewhere, settling_elsewhere, times_now, times_one, times_opened, turn_more}
+use Rattle.droid_wire_turns.proofs.AllConnections.{Leaves, cases_zero, keeps_as, keeps_closed, keeps_none, keeps_opened, keeps_settled, keeps_start, keeps_timed, keeps_traffic, keeps_unwaited, keeps_waited, lt_self, numbers_size, one_here, one_other}
 use Rattle.droid_wire_turns.proofs.Moments.{all_as, all_both, all_first, all_last, always_end, goes_both, goes_moving, goes_settling, moves_both, moves_event}
-use Rattle.droid_wire_turns.proofs.PeerSteps.{happened_here, happened_then, stands_told}
+use Rattle.droid_wire_turns.proofs.PeerSteps.{happened_here, happened_then, stands_timed}
 use Rattle.droid_wire_turns.proofs.ServesMore.{serves_as}
-use Rattle.droid_wire_turns.proofs.Settling.{IsOnce, IsOrdered, failed_there, once_turn, order_failed, ordered_none, ordered_on, ordered_turn, settled_last, settled_then, telling}
+use Rattle.droid_wire_turns.proofs.Settling.{IsOnce, IsOrdered, failed_there, once_turn, order_failed, ordered_none, ordered_on, ordered_turn, settled_last, settled_then, writing}
 use Rattle.droid_wire_turns.proofs.PeerTurns.{IsAsBefore, heard_by, heard_elsewhere, served_by, served_elsewhere, settled_as, unheard_elsewhere, unheard_waited}
 
 -- ---- which are open
@@ -99,10 +99,10 @@ hear_one rules now count rest served old new steps more holds same hears =
           (λ peer other it. heard_elsewhere now steps more peer (all_elsewhere old.id peer.id more own other) (calm old.id more own) it) holds.all_served) (heard, tt);
     }
 
--- ---- one is told
+-- ---- one is written to
 
-within_told : (id : ℕ) (steps more : List Step) → AllByRecursion (IsTraffic id) more → IsQuiet id more → IsWithin id (turn_of steps) → IsWithin id (turn_of (steps ++ more))
-within_told id steps more own quiet within =
+within_written : (id : ℕ) (steps more : List Step) → AllByRecursion (IsTraffic id) more → IsQuiet id more → IsWithin id (turn_of steps) → IsWithin id (turn_of (steps ++ more))
+within_written id steps more own quiet within =
     let turn = turn_more steps more (calm id more own) in
     record {
       frames = omega (arith, within.frames, ap (λ (t : List Step). length (handled id t)) turn, ap length (none_gathered (handled_in id) (turn_of steps) more quiet.nothing_handled));
@@ -110,11 +110,11 @@ within_told id steps more own quiet within =
     }
 
 -- it stays open
-pub tell_one : (rules : Rules) (now count : ℕ) (waiting rest : List Peer) (old new : Peer) (steps more : List Step) → Holds rules (Served rules.idle now) (Heard now) now count waiting (rest ++ old ∷ []) steps
+pub write_one : (rules : Rules) (now count : ℕ) (waiting rest : List Peer) (old new : Peer) (steps more : List Step) → Holds rules (Served rules.idle now) (Heard now) now count waiting (rest ++ old ∷ []) steps
     → IsAsBefore old new → Stays rules.idle now old new more → IsQuiet old.id more → Holds rules (Served rules.idle now) (Heard now) now count (waiting ++ new ∷ []) rest (steps ++ more)
-tell_one rules now count waiting rest old new steps more holds same stays quiet =
+write_one rules now count waiting rest old new steps more holds same stays quiet =
     let heard : Heard now steps old = (all_last (Heard now steps) rest (old ∷ []) holds.all_served).0 in
-    let told : Served rules.idle now (steps ++ more) new = served_by rules.idle now old new steps more heard same stays quiet in
+    let reached : Served rules.idle now (steps ++ more) new = served_by rules.idle now old new steps more heard same stays quiet in
     let own = stays.goes.own in
     let once : times_among waiting (rest ++ old ∷ []) old.id ≤ 1 = holds.keeps.apart old.id in
     let pushed = times_push old.id rest old in
@@ -127,10 +127,10 @@ tell_one rules now count waiting rest old new steps more holds same stays quiet 
     let there : 0 < times_among (waiting ++ new ∷ []) rest old.id = omega (arith, times_push old.id waiting new, ap (λ (i : ℕ). one_at i old.id) same.id, here) in
     record {
       keeps = keeps_traffic rules count (times_among (waiting ++ new ∷ []) rest) (length (waiting ++ new ∷ []) + length rest) old.id steps more moved there own
-          (stays.goes.stands steps heard.stands).0 (within_told old.id steps more own quiet (holds.keeps.within old.id));
+          (stays.goes.stands steps heard.stands).0 (within_written old.id steps more own quiet (holds.keeps.within old.id));
       clock = clock_more steps more (calm old.id more own) ∙ holds.clock;
       all_waiting = all_both (Served rules.idle now (steps ++ more)) waiting (new ∷ []) (others_stay (Served rules.idle now steps) (Served rules.idle now (steps ++ more)) old.id waiting none_waits
-          (λ peer other it. served_elsewhere rules.idle now steps more peer (all_elsewhere old.id peer.id more own other) (calm old.id more own) it) holds.all_waiting) (told, tt);
+          (λ peer other it. served_elsewhere rules.idle now steps more peer (all_elsewhere old.id peer.id more own other) (calm old.id more own) it) holds.all_waiting) (reached, tt);
       all_served = others_stay (Heard now steps) (Heard now (steps ++ more)) old.id rest none_rests
           (λ peer other it. heard_elsewhere now steps more peer (all_elsewhere old.id peer.id more own other) (calm old.id more own) it) (all_first (Heard now steps) rest (old ∷ []) holds.all_served);
     }
@@ -155,7 +155,7 @@ close_one rules now count waiting rest old new why steps more holds departs quie
     let still : AllByRecursion IsCalm (more ++ step ∷ []) = all_both IsCalm more (step ∷ []) (calm old.id more own) (closed_calm old.id why, tt) in
     let away : (id : ℕ) → (old.id ≡ id → ⊥) → AllByRecursion (Elsewhere id) (more ++ step ∷ []) = λ (id : ℕ) (other : old.id ≡ id → ⊥). all_both (Elsewhere id) more (step ∷ []) (all_elsewhere old.id id more own other) (closed_elsewhere old.id why id, tt) in
     let went_on : Keeps rules count (times_among waiting (rest ++ old ∷ [])) (length waiting + length (rest ++ old ∷ [])) (steps ++ more) =
-    keeps_traffic rules count (times_among waiting (rest ++ old ∷ [])) (length waiting + length (rest ++ old ∷ [])) old.id steps more holds.keeps there own left.0 (within_told old.id steps more own quiet (holds.keeps.within old.id)) in
+    keeps_traffic rules count (times_among waiting (rest ++ old ∷ [])) (length waiting + length (rest ++ old ∷ [])) old.id steps more holds.keeps there own left.0 (within_written old.id steps more own quiet (holds.keeps.within old.id)) in
     let gone : Keeps rules count (times_among waiting rest) (length waiting + length rest) ((steps ++ more) ++ step ∷ []) =
     keeps_closed rules count (times_among waiting (rest ++ old ∷ [])) (times_among waiting rest) (length waiting + length (rest ++ old ∷ [])) (length waiting + length rest) old.id why (steps ++ more) went_on
     (record { held = left.1.0; queued = left.1.1; serves = left.1.2; explained = left.1.3 })
@@ -185,7 +185,7 @@ nothing_of id (Happens (Unread one)) other = record { reads = refl; writes = ref
 nothing_of id (Happens (Unwritten one)) other = record { reads = refl; writes = refl; handles = refl }
 nothing_of id (Happens (Waited limit)) other = record { reads = refl; writes = refl; handles = refl }
 nothing_of id (Happens Unwaited) other = record { reads = refl; writes = refl; handles = refl }
-nothing_of id (Happens (Told time)) other = record { reads = refl; writes = refl; handles = refl }
+nothing_of id (Happens (Timed time)) other = record { reads = refl; writes = refl; handles = refl }
 nothing_of id (Happens (Opened one)) other = record { reads = refl; writes = refl; handles = refl }
 nothing_of id (Happens NoneOpened) other = record { reads = refl; writes = refl; handles = refl }
 nothing_of id (Happens (Closed one why)) other = record { reads = refl; writes = refl; handles = refl }
@@ -217,7 +217,7 @@ others_behind id turn (Happens (Ended one)) so_far other = all_both (IsOfOther i
 others_behind id turn (Happens (Unread one)) so_far other = all_both (IsOfOther id) turn (Happens (Unread one) ∷ []) so_far (other, tt)
 others_behind id turn (Happens (Unwritten one)) so_far other = all_both (IsOfOther id) turn (Happens (Unwritten one) ∷ []) so_far (other, tt)
 others_behind id turn (Happens Unwaited) so_far other = all_both (IsOfOther id) turn (Happens Unwaited ∷ []) so_far (other, tt)
-others_behind id turn (Happens (Told time)) so_far other = all_both (IsOfOther id) turn (Happens (Told time) ∷ []) so_far (other, tt)
+others_behind id turn (Happens (Timed time)) so_far other = all_both (IsOfOther id) turn (Happens (Timed time) ∷ []) so_far (other, tt)
 others_behind id turn (Happens (Opened one)) so_far other = all_both (IsOfOther id) turn (Happens (Opened one) ∷ []) so_far (other, tt)
 others_behind id turn (Happens NoneOpened) so_far other = all_both (IsOfOther id) turn (Happens NoneOpened ∷ []) so_far (other, tt)
 others_behind id turn (Happens (Closed one why)) so_far other = all_both (IsOfOther id) turn (Happens (Closed one why) ∷ []) so_far (other, tt)
@@ -227,8 +227,8 @@ others_behind id turn (Settles done) so_far other = all_both (IsOfOther id) turn
 quiet_more : (id : ℕ) (turn : List Step) (step : Step) → bytes_read id step ≡ [] → handled_in id step ≡ [] → IsQuiet id turn → IsQuiet id (turn ++ step ∷ [])
 quiet_more id turn step no_bytes no_frame quiet = record { nothing_came = none_more (bytes_read id) turn step no_bytes ∙ quiet.nothing_came; nothing_handled = none_more (handled_in id) turn step no_frame ∙ quiet.nothing_handled }
 
-turn_told : (steps : List Step) (time : ℕ) → turn_of (steps ++ Happens (Told time) ∷ []) ≡ turn_of steps ++ Happens (Told time) ∷ []
-turn_told steps time = fold-append turn_behind [] steps (Happens (Told time) ∷ [])
+turn_timed : (steps : List Step) (time : ℕ) → turn_of (steps ++ Happens (Timed time) ∷ []) ≡ turn_of steps ++ Happens (Timed time) ∷ []
+turn_timed steps time = fold-append turn_behind [] steps (Happens (Timed time) ∷ [])
 
 clock_waited : (steps : List Step) (limit : ℕ) → clock_of (steps ++ Happens (Waited limit) ∷ []) ≡ clock_of steps
 clock_waited steps limit = fold-append clock_behind 0 steps (Happens (Waited limit) ∷ [])
@@ -264,15 +264,15 @@ pub no_peers : (steps : List Step) (peers : List Peer) → AllByRecursion (NoPee
 no_peers steps [] none = refl
 no_peers steps (peer ∷ peers) none = absurd none.0
 
-pub tell_clock : (rules : Rules) (now time count : ℕ) (waiting served : List Peer) (steps : List Step) → Holds rules (Unheard now) NoPeer now count waiting served steps → Holds rules (Unheard time) NoPeer time count waiting served (steps ++ Happens (Told time) ∷ [])
-tell_clock rules now time count waiting served steps holds =
-    let step : Step = Happens (Told time) in
-    let turn : turn_of (steps ++ step ∷ []) ≡ turn_of steps ++ step ∷ [] = turn_told steps time in
+pub read_clock : (rules : Rules) (now time count : ℕ) (waiting served : List Peer) (steps : List Step) → Holds rules (Unheard now) NoPeer now count waiting served steps → Holds rules (Unheard time) NoPeer time count waiting served (steps ++ Happens (Timed time) ∷ [])
+read_clock rules now time count waiting served steps holds =
+    let step : Step = Happens (Timed time) in
+    let turn : turn_of (steps ++ step ∷ []) ≡ turn_of steps ++ step ∷ [] = turn_timed steps time in
     record {
-      keeps = keeps_told rules count (times_among waiting served) (length waiting + length served) time steps holds.keeps;
-      clock = clock_told steps time;
+      keeps = keeps_timed rules count (times_among waiting served) (length waiting + length served) time steps holds.keeps;
+      clock = clock_timed steps time;
       all_waiting = all_as (Unheard now steps) (Unheard time (steps ++ step ∷ [])) waiting
-          (λ peer it. record { stands = stands_told peer.id (kept_of peer) now time steps it.stands; quiet = subst (IsQuiet peer.id) (sym turn) (quiet_more peer.id (turn_of steps) step refl refl it.quiet) }) holds.all_waiting;
+          (λ peer it. record { stands = stands_timed peer.id (kept_of peer) now time steps it.stands; quiet = subst (IsQuiet peer.id) (sym turn) (quiet_more peer.id (turn_of steps) step refl refl it.quiet) }) holds.all_waiting;
       all_served = holds.all_served;
     }
 
@@ -316,7 +316,7 @@ one_comes rules now count waiting served peer steps holds seats wanted new =
     let others : AreOfOthers count (turn_of steps) = others_in_turn count [] steps tt (holds.keeps.others count (omega arith)) in
     let away = others_elsewhere count (turn_of steps) others in
     let quiet : IsQuiet count (turn_of steps) = record { nothing_came = away.0; nothing_handled = away.2 } in
-    let told : Unheard now (steps ++ more) peer = record {
+    let reached : Unheard now (steps ++ more) peer = record {
       stands = stands;
       quiet = subst (λ (i : ℕ). IsQuiet i (turn_of (steps ++ more))) (sym new.id_is) (subst (IsQuiet count) (sym (turn_more steps more still)) (quiet_more count (turn_of steps) step refl refl quiet));
     } in
@@ -327,7 +327,7 @@ one_comes rules now count waiting served peer steps holds seats wanted new =
           (keeps_opened rules count (times_among waiting served) (λ id. times_among waiting served id + one_at count id) (length waiting + length served) steps holds.keeps seats wanted (λ id. refl));
       clock = clock_more steps more still ∙ holds.clock;
       all_waiting = all_both (Unheard now (steps ++ more)) waiting (peer ∷ []) (others_stay (Unheard now steps) (Unheard now (steps ++ more)) count waiting (omega (arith, none_waits))
-          (λ one other it. unheard_elsewhere now steps more one (opened_elsewhere count one.id other, tt) still it) holds.all_waiting) (told, tt);
+          (λ one other it. unheard_elsewhere now steps more one (opened_elsewhere count one.id other, tt) still it) holds.all_waiting) (reached, tt);
       all_served = holds.all_served;
     }
 
@@ -466,13 +466,13 @@ closes_more why start old rest peer first so was =
           (subst (EndsFor why) same closed.0, subst (Keeps rules count (λ id. times_in id rest + others id) (length rest + places)) same closed.1);
     }
 
-closing_told : (why : Departure) (step : Step) → IsClosing why step → IsTelling step
-closing_told why step is = subst IsTelling (sym is.1) tt
+closing_writing : (why : Departure) (step : Step) → IsClosing why step → IsWriting step
+closing_writing why step is = subst IsWriting (sym is.1) tt
 
 -- all are closed, since the loop could not wait any longer
 pub stops_all : (rules : Rules) (old new : Hall) (steps : List Step) → old.served.items ≡ [] → new.waiting.items ≡ [] → new.opened ≡ old.opened → ClosesSome departures.Stopped old.waiting.items new.waiting.items steps → Stops rules old new steps
 stops_all rules old new steps none is same closes = record {
-  telling = all_as (IsClosing departures.Stopped) IsTelling steps (closing_told departures.Stopped) closes.closing;
+  writing = all_as (IsClosing departures.Stopped) IsWriting steps (closing_writing departures.Stopped) closes.closing;
   keeps = λ before stopped rest.
       let here : Keeps rules old.opened (λ id. times_in id old.waiting.items + times_in id old.served.items) (length old.waiting.items + length old.served.items) before =
       keeps_as rules old.opened (times_among old.waiting.items old.served.items) (λ id. times_in id old.waiting.items + times_in id old.served.items) (length old.waiting.items + length old.served.items) (length old.waiting.items + length old.served.items) before (λ id. refl) refl rest.keeps in
@@ -530,16 +530,16 @@ leads_hearing rules now old new before_it it rest more same was waits serves tim
     hear_one rules now old.opened rest old.served.items before_it it before more start id (subst (λ (n : ℕ). Hears n before_it it more) (sym same) hears) in
     holds_as rules (Unheard now) (Heard now) now old.opened rest (old.served.items ++ it ∷ []) (before ++ more) new (time ∙ sym same) opened waits serves heard
 
--- one connection is told, and stays
-pub leads_telling : (rules : Rules) (now : ℕ) (old new : Hall) (before_it it : Peer) (rest : List Peer) (more : List Step) → now ≡ old.time → old.served.items ≡ rest ++ before_it ∷ [] → new.served.items ≡ rest → new.waiting.items ≡ old.waiting.items ++ it ∷ []
+-- one connection is written to, and stays
+pub leads_writing : (rules : Rules) (now : ℕ) (old new : Hall) (before_it it : Peer) (rest : List Peer) (more : List Step) → now ≡ old.time → old.served.items ≡ rest ++ before_it ∷ [] → new.served.items ≡ rest → new.waiting.items ≡ old.waiting.items ++ it ∷ []
     → new.time ≡ old.time → new.opened ≡ old.opened → IsAsBefore before_it it → Stays rules.idle old.time before_it it more → IsQuiet before_it.id more → LeadsOn rules (Served rules.idle now) (Heard now) (Served rules.idle now) (Heard now) old new more
-leads_telling rules now old new before_it it rest more same was serves waits time opened as_before stays quiet before holds =
+leads_writing rules now old new before_it it rest more same was serves waits time opened as_before stays quiet before holds =
     let start : Holds rules (Served rules.idle now) (Heard now) now old.opened old.waiting.items (rest ++ before_it ∷ []) before =
     subst (λ (n : ℕ). Holds rules (Served rules.idle now) (Heard now) n old.opened old.waiting.items (rest ++ before_it ∷ []) before) (sym same)
     (subst (λ (l : List Peer). Holds rules (Served rules.idle now) (Heard now) old.time old.opened old.waiting.items l before) was holds) in
-    let told : Holds rules (Served rules.idle now) (Heard now) now old.opened (old.waiting.items ++ it ∷ []) rest (before ++ more) =
-    tell_one rules now old.opened old.waiting.items rest before_it it before more start as_before (subst (λ (n : ℕ). Stays rules.idle n before_it it more) (sym same) stays) quiet in
-    holds_as rules (Served rules.idle now) (Heard now) now old.opened (old.waiting.items ++ it ∷ []) rest (before ++ more) new (time ∙ sym same) opened waits serves told
+    let reached : Holds rules (Served rules.idle now) (Heard now) now old.opened (old.waiting.items ++ it ∷ []) rest (before ++ more) =
+    write_one rules now old.opened old.waiting.items rest before_it it before more start as_before (subst (λ (n : ℕ). Stays rules.idle n before_it it more) (sym same) stays) quiet in
+    holds_as rules (Served rules.idle now) (Heard now) now old.opened (old.waiting.items ++ it ∷ []) rest (before ++ more) new (time ∙ sym same) opened waits serves reached
 
 -- one connection is over
 pub leads_closing : (rules : Rules) (now : ℕ) (old new : Hall) (before_it it : Peer) (why : Departure) (rest : List Peer) (more : List Step) → now ≡ old.time → old.served.items ≡ rest ++ before_it ∷ [] → new.served.items ≡ rest → new.waiting.items ≡ old.waiting.items
@@ -610,13 +610,13 @@ leads_failing rules now old new same seats wanted waits serves time opened befor
     holds_as rules (Unheard now) NoPeer now (old.opened + 1) old.waiting.items old.served.items (before ++ more) new (time ∙ sym same) opened waits serves left
 
 -- the clock was read
-pub leads_telling_time : (rules : Rules) (now : ℕ) (old new : Hall) → now ≡ old.time → new.waiting.items ≡ old.waiting.items → new.served.items ≡ old.served.items → new.opened ≡ old.opened
-    → LeadsOn rules (Unheard now) NoPeer (Unheard new.time) NoPeer old new (Happens (Told new.time) ∷ [])
-leads_telling_time rules now old new same waits serves opened before holds =
+pub leads_timed : (rules : Rules) (now : ℕ) (old new : Hall) → now ≡ old.time → new.waiting.items ≡ old.waiting.items → new.served.items ≡ old.served.items → new.opened ≡ old.opened
+    → LeadsOn rules (Unheard now) NoPeer (Unheard new.time) NoPeer old new (Happens (Timed new.time) ∷ [])
+leads_timed rules now old new same waits serves opened before holds =
     let start : Holds rules (Unheard now) NoPeer now old.opened old.waiting.items old.served.items before =
     subst (λ (n : ℕ). Holds rules (Unheard now) NoPeer n old.opened old.waiting.items old.served.items before) (sym same) holds in
-    holds_as rules (Unheard new.time) NoPeer new.time old.opened old.waiting.items old.served.items (before ++ Happens (Told new.time) ∷ []) new refl opened waits serves
-    (tell_clock rules now new.time old.opened old.waiting.items old.served.items before start)
+    holds_as rules (Unheard new.time) NoPeer new.time old.opened old.waiting.items old.served.items (before ++ Happens (Timed new.time) ∷ []) new refl opened waits serves
+    (read_clock rules now new.time old.opened old.waiting.items old.served.items before start)
 
 -- ---- those that waited were accepted
 
@@ -645,7 +645,7 @@ admitted_more rules steps turn more (inr (inr enough)) = inr (inr (enough_more r
 begun_more : (rules : Rules) (steps more : List Step) → AllByRecursion IsCalm more → HasBegun rules steps (turn_of steps) → HasBegun rules (steps ++ more) (turn_of (steps ++ more))
 begun_more rules steps more still begun =
     subst (HasBegun rules (steps ++ more)) (sym (turn_more steps more still))
-    (record { time = begun.time; told = happened_then (Told begun.time) (turn_of steps) more begun.told; admitted = admitted_more rules steps (turn_of steps) more begun.admitted })
+    (record { time = begun.time; timed = happened_then (Timed begun.time) (turn_of steps) more begun.timed; admitted = admitted_more rules steps (turn_of steps) more begun.admitted })
 
 pub leads_in_turn : (rules : Rules) (K : Step → Type 0) (P Q R S T U : List Step → Peer → Type 0) (old middle new : Hall) (first later : List Step) → LeadsInTurn rules K P Q R S old middle first → LeadsInTurn rules K R S T U middle new later
     → LeadsInTurn rules K P Q T U old new (first ++ later)
@@ -723,19 +723,19 @@ began_on rules R S T U old middle new first later began leads still = record {
 }
 
 -- the clock was read, and those that waited were accepted
-began_by : (rules : Rules) (old one two : Hall) (later : List Step) → LeadsOn rules (Unheard old.time) NoPeer (Unheard one.time) NoPeer old one (Happens (Told one.time) ∷ []) → Admits rules one two later
-    → Began rules (Unheard one.time) NoPeer old two (Happens (Told one.time) ∷ later)
-began_by rules old one two later told admits =
-    let step : List Step = Happens (Told one.time) ∷ [] in
+began_by : (rules : Rules) (old one two : Hall) (later : List Step) → LeadsOn rules (Unheard old.time) NoPeer (Unheard one.time) NoPeer old one (Happens (Timed one.time) ∷ []) → Admits rules one two later
+    → Began rules (Unheard one.time) NoPeer old two (Happens (Timed one.time) ∷ later)
+began_by rules old one two later timed admits =
+    let step : List Step = Happens (Timed one.time) ∷ [] in
     record {
-      leads = leads_both rules (Unheard old.time) NoPeer (Unheard one.time) NoPeer (Unheard one.time) NoPeer old one two step later told admits.leads;
+      leads = leads_both rules (Unheard old.time) NoPeer (Unheard one.time) NoPeer (Unheard one.time) NoPeer old one two step later timed admits.leads;
       begins = λ before holds.
-          let there = admits.leads (before ++ step) (told before holds) in
-          let so_far : Happened (Told one.time) (turn_of (before ++ step)) = subst (Happened (Told one.time)) (sym (turn_told before one.time)) (happened_here (Told one.time) (turn_of before)) in
-          let now : Happened (Told one.time) (turn_of ((before ++ step) ++ later)) =
-          subst (Happened (Told one.time)) (sym (turn_more (before ++ step) later admits.calm)) (happened_then (Told one.time) (turn_of (before ++ step)) later so_far) in
+          let there = admits.leads (before ++ step) (timed before holds) in
+          let so_far : Happened (Timed one.time) (turn_of (before ++ step)) = subst (Happened (Timed one.time)) (sym (turn_timed before one.time)) (happened_here (Timed one.time) (turn_of before)) in
+          let now : Happened (Timed one.time) (turn_of ((before ++ step) ++ later)) =
+          subst (Happened (Timed one.time)) (sym (turn_more (before ++ step) later admits.calm)) (happened_then (Timed one.time) (turn_of (before ++ step)) later so_far) in
           subst (λ (l : List Step). HasBegun rules l (turn_of l)) (append_assoc before step later)
-          (record { time = one.time; told = now; admitted = admits.admitted (before ++ step) there });
+          (record { time = one.time; timed = now; admitted = admits.admitted (before ++ step) there });
     }
 
 -- each connection was heard, and nothing was written
@@ -744,18 +744,18 @@ pub record HasHeard (rules : Rules) (now : ℕ) (old new : Hall) (steps : List S
   pub hearing : AllByRecursion IsHearing steps
 
 pub heard_turn : {C H : Type 0} (does : C → Event → C → Type 0) (handles : H → Frame → Reply → H → Type 0) (settles : H → Bool → H → Type 0) (rules : Rules) (old one two three : Hall) (c c1 c2 c3 : C) (h h1 : H)
-    → Moves does c c1 (λ (steps : List Step). steps ≡ Happens (Told one.time) ∷ []) → LeadsOn rules (Unheard old.time) NoPeer (Unheard one.time) NoPeer old one (Happens (Told one.time) ∷ [])
+    → Moves does c c1 (λ (steps : List Step). steps ≡ Happens (Timed one.time) ∷ []) → LeadsOn rules (Unheard old.time) NoPeer (Unheard one.time) NoPeer old one (Happens (Timed one.time) ∷ [])
     → Moves does c1 c2 (Admits rules one two)
     → Goes does handles settles c2 h c3 h1 (LeadsInTurn rules IsHearing (Unheard two.time) (Heard two.time) NoPeer (Heard two.time) two three)
     → two.time ≡ one.time
     → Goes does handles settles c h c3 h1 (HasHeard rules one.time old three)
-heard_turn does handles settles rules old one two three c c1 c2 c3 h h1 read told admitted heard second =
+heard_turn does handles settles rules old one two three c c1 c2 c3 h h1 read timed admitted heard second =
     let now : ℕ = one.time in
     let hearing : Goes does handles settles c2 h c3 h1 (LeadsInTurn rules IsHearing (Unheard now) (Heard now) NoPeer (Heard now) two three) =
     subst (λ (n : ℕ). Goes does handles settles c2 h c3 h1 (LeadsInTurn rules IsHearing (Unheard n) (Heard n) NoPeer (Heard n) two three)) second heard in
     let begins : Moves does c c2 (λ (steps : List Step). Began rules (Unheard now) NoPeer old two steps × AllByRecursion IsHearing steps) =
-    moves_both does c c1 c2 (λ (steps : List Step). steps ≡ Happens (Told now) ∷ []) (Admits rules one two) (λ (steps : List Step). Began rules (Unheard now) NoPeer old two steps × AllByRecursion IsHearing steps)
-    (λ first later is admits. subst (λ (l : List Step). Began rules (Unheard now) NoPeer old two (l ++ later) × AllByRecursion IsHearing (l ++ later)) (sym is) (began_by rules old one two later told admits, (tt, admits.hearing))) read admitted in
+    moves_both does c c1 c2 (λ (steps : List Step). steps ≡ Happens (Timed now) ∷ []) (Admits rules one two) (λ (steps : List Step). Began rules (Unheard now) NoPeer old two steps × AllByRecursion IsHearing steps)
+    (λ first later is admits. subst (λ (l : List Step). Began rules (Unheard now) NoPeer old two (l ++ later) × AllByRecursion IsHearing (l ++ later)) (sym is) (began_by rules old one two later timed admits, (tt, admits.hearing))) read admitted in
     goes_both does handles settles c c2 c3 h h h1 (λ (steps : List Step). Began rules (Unheard now) NoPeer old two steps × AllByRecursion IsHearing steps) (LeadsInTurn rules IsHearing (Unheard now) (Heard now) NoPeer (Heard now) two three) (HasHeard rules now old three)
     (λ first later so more. record {
       began = began_on rules (Unheard now) NoPeer NoPeer (Heard now) old two three first later so.0
@@ -806,12 +806,12 @@ asked_turn does handles settles rules done now old three c c3 h h1 h2 last heard
 -- it settled, and what waited was written
 pub settled_turn : {C H : Type 0} (does : C → Event → C → Type 0) (handles : H → Frame → Reply → H → Type 0) (settles : H → Bool → H → Type 0) (rules : Rules) (now : ℕ) (old three four : Hall) (c c3 c4 : C) (h h1 h2 : H)
     → three.time ≡ now → four.time ≡ three.time → Goes does handles settles c h c3 h1 (HasHeard rules now old three) → settles h1 true h2
-    → Moves does c3 c4 (LeadsInTurn rules IsTelling (Served rules.idle three.time) (Heard three.time) (Served rules.idle three.time) NoPeer three four)
+    → Moves does c3 c4 (LeadsInTurn rules IsWriting (Served rules.idle three.time) (Heard three.time) (Served rules.idle three.time) NoPeer three four)
     → Goes does handles settles c h c4 h2 (TakesTurn rules old four)
 settled_turn does handles settles rules now old three four c c3 c4 h h1 h2 last fourth heard settled written =
-    let told : Moves does c3 c4 (LeadsInTurn rules IsTelling (Served rules.idle now) (Heard now) (Served rules.idle now) NoPeer three four) =
-    subst (λ (n : ℕ). Moves does c3 c4 (LeadsInTurn rules IsTelling (Served rules.idle n) (Heard n) (Served rules.idle n) NoPeer three four)) last written in
-    goes_both does handles settles c c3 c4 h h2 h2 (HasAsked rules true now old three) (LeadsInTurn rules IsTelling (Served rules.idle now) (Heard now) (Served rules.idle now) NoPeer three four) (TakesTurn rules old four)
+    let reached : Moves does c3 c4 (LeadsInTurn rules IsWriting (Served rules.idle now) (Heard now) (Served rules.idle now) NoPeer three four) =
+    subst (λ (n : ℕ). Moves does c3 c4 (LeadsInTurn rules IsWriting (Served rules.idle n) (Heard n) (Served rules.idle n) NoPeer three four)) last written in
+    goes_both does handles settles c c3 c4 h h2 h2 (HasAsked rules true now old three) (LeadsInTurn rules IsWriting (Served rules.idle now) (Heard now) (Served rules.idle now) NoPeer three four) (TakesTurn rules old four)
     (λ first later so more.
     let all : Began rules (Served rules.idle now) NoPeer old four (first ++ later) =
     began_on rules NoPeer (Heard now) (Served rules.idle now) NoPeer old three four first later so.began
@@ -822,7 +822,7 @@ settled_turn does handles settles rules now old three four c c3 c4 h h1 h2 last 
       settles = record { first = so.first; later = later; parts = ap (λ (l : List Step). l ++ later) so.parts ∙ append_assoc so.first (Settles true ∷ []) later; hearing = so.hearing; rest = more.2 };
     })
     (asked_turn does handles settles rules true now old three c c3 h h1 h2 last heard settled)
-    (goes_moving does handles settles c3 c4 h2 (LeadsInTurn rules IsTelling (Served rules.idle now) (Heard now) (Served rules.idle now) NoPeer three four) told)
+    (goes_moving does handles settles c3 c4 h2 (LeadsInTurn rules IsWriting (Served rules.idle now) (Heard now) (Served rules.idle now) NoPeer three four) reached)
 
 -- it failed to, and all connections were closed
 closed_all : (rules : Rules) (now opened : ℕ) (three : Hall) (served : List Peer) (steps later : List Step) → Holds rules NoPeer (Heard now) three.time three.opened three.waiting.items three.served.items steps → FailedToSettle steps
@@ -853,21 +853,21 @@ failed_turn does handles settles rules now old three four c c3 c4 h h1 h2 last n
     (asked_turn does handles settles rules false now old three c c3 h h1 h2 last heard failed)
     (goes_moving does handles settles c3 c4 h2 (ClosesSome departures.Unsettled three.served.items four.served.items) closed)
 
--- one connection is told, and then closed
+-- one connection is written to, and then closed
 pub closing_moves : {C : Type 0} (does : C → Event → C → Type 0) (rules : Rules) (now : ℕ) (start old new : Hall) (before_it it : Peer) (why : Departure) (rest : List Peer) (c c1 c2 c3 : C)
-    → Moves does c c1 (LeadsInTurn rules IsTelling (Served rules.idle now) (Heard now) (Served rules.idle now) (Heard now) start old) → Moves does c1 c2 (λ (steps : List Step). Departs rules.idle old.time before_it it why steps × IsQuiet before_it.id steps)
+    → Moves does c c1 (LeadsInTurn rules IsWriting (Served rules.idle now) (Heard now) (Served rules.idle now) (Heard now) start old) → Moves does c1 c2 (λ (steps : List Step). Departs rules.idle old.time before_it it why steps × IsQuiet before_it.id steps)
     → does c2 (Closed before_it.id why) c3 → now ≡ old.time → old.served.items ≡ rest ++ before_it ∷ [] → new.served.items ≡ rest → new.waiting.items ≡ old.waiting.items → new.time ≡ old.time → new.opened ≡ old.opened
-    → Moves does c c3 (LeadsInTurn rules IsTelling (Served rules.idle now) (Heard now) (Served rules.idle now) (Heard now) start new)
-closing_moves does rules now start old new before_it it why rest c c1 c2 c3 so_far tells done same was serves waits time opened =
+    → Moves does c c3 (LeadsInTurn rules IsWriting (Served rules.idle now) (Heard now) (Served rules.idle now) (Heard now) start new)
+closing_moves does rules now start old new before_it it why rest c c1 c2 c3 so_far wrote done same was serves waits time opened =
     let P : List Step → Peer → Type 0 = Served rules.idle now in
-    moves_both does c c1 c3 (LeadsInTurn rules IsTelling P (Heard now) P (Heard now) start old) (LeadsInTurn rules IsTelling P (Heard now) P (Heard now) old new) (LeadsInTurn rules IsTelling P (Heard now) P (Heard now) start new)
-    (λ first later one other. leads_in_turn rules IsTelling P (Heard now) P (Heard now) P (Heard now) start old new first later one other) so_far
-    (moves_event does c1 c2 c3 (Closed before_it.id why) (λ (steps : List Step). Departs rules.idle old.time before_it it why steps × IsQuiet before_it.id steps) (LeadsInTurn rules IsTelling P (Heard now) P (Heard now) old new)
+    moves_both does c c1 c3 (LeadsInTurn rules IsWriting P (Heard now) P (Heard now) start old) (LeadsInTurn rules IsWriting P (Heard now) P (Heard now) old new) (LeadsInTurn rules IsWriting P (Heard now) P (Heard now) start new)
+    (λ first later one other. leads_in_turn rules IsWriting P (Heard now) P (Heard now) P (Heard now) start old new first later one other) so_far
+    (moves_event does c1 c2 c3 (Closed before_it.id why) (λ (steps : List Step). Departs rules.idle old.time before_it it why steps × IsQuiet before_it.id steps) (LeadsInTurn rules IsWriting P (Heard now) P (Heard now) old new)
     (λ later both. (
       leads_closing rules now old new before_it it why rest later same was serves waits time opened both.0 both.1,
       all_both IsCalm later (Happens (Closed before_it.id why) ∷ []) (calm before_it.id later both.0.own) (closed_calm before_it.id why, tt),
-      all_both IsTelling later (Happens (Closed before_it.id why) ∷ []) (telling before_it.id later both.0.own both.1.nothing_handled) (tt, tt),
-    )) tells done)
+      all_both IsWriting later (Happens (Closed before_it.id why) ∷ []) (writing before_it.id later both.0.own both.1.nothing_handled) (tt, tt),
+    )) wrote done)
 
 -- ---- the loop
 
@@ -935,7 +935,7 @@ ended_all rules hall steps rest so none enough =
 pub ended_stopped : (rules : Rules) (old new : Hall) (first later : List Step) → IsStopped first → IsAtRest rules old first → IsOrdered first → Stops rules old new later → ServesAll rules ways.Stopped (first ++ later)
 ended_stopped rules old new first later stopped rest so stops =
     let both = stops.keeps first stopped rest in
-    let ordered = ordered_on first later stops.telling so in
+    let ordered = ordered_on first later stops.writing so in
     serves_all rules new.opened ways.Stopped (first ++ later) both.1 ordered.order (λ other. ordered.settled) both.0
 
 pub ended_at_once : (rules : Rules) → ServesAll rules ways.Memory []

@@ -6,7 +6,7 @@ use Rattle.std.proofs.lemmas.List.{append-nil}
 use Rattle.std.proofs.lemmas.List.Sums.{fold-append}
 use Rattle.droid_frame.specs.types.frame.Frame.{Frame}
 use Rattle.droid_frame.specs.types.reply.Reply.{Reply}
-use Rattle.droid_wire_turns.specs.Events.{Opened, NoneOpened, Read, Ended, Unread, Wrote, Unwritten, Closed, Told, Waited, Unwaited}
+use Rattle.droid_wire_turns.specs.Events.{Opened, NoneOpened, Read, Ended, Unread, Wrote, Unwritten, Closed, Timed, Waited, Unwaited}
 use Rattle.droid_wire_turns.specs.Halls.{IsCalm}
 use Rattle.droid_wire_turns.specs.Steps.{Handles, Happens, IsTraffic, Settles, Step, Times, bytes_read, bytes_written, came, clock_behind, clock_of, handled, handled_in, moves, times_behind, times_of, turn_behind, turn_of, went}
 use Rattle.droid_wire_turns.specs.declared.departure.Departure.{Departure}
@@ -77,7 +77,7 @@ traffic_elsewhere who id (Happens (Unread one)) is other = record { reads = refl
 traffic_elsewhere who id (Happens (Unwritten one)) is other = record { reads = refl; writes = refl; handles = refl; times = λ times. refl }
 traffic_elsewhere who id (Happens (Waited limit)) is other = absurd is
 traffic_elsewhere who id (Happens Unwaited) is other = absurd is
-traffic_elsewhere who id (Happens (Told time)) is other = absurd is
+traffic_elsewhere who id (Happens (Timed time)) is other = absurd is
 traffic_elsewhere who id (Happens (Opened one)) is other = absurd is
 traffic_elsewhere who id (Happens NoneOpened) is other = absurd is
 traffic_elsewhere who id (Happens (Closed one why)) is other = absurd is
@@ -147,8 +147,8 @@ clock_go now (step ∷ more) all = ap (λ (n : ℕ). fold clock_behind n more) (
 pub clock_more : (steps more : List Step) → AllByRecursion IsCalm more → clock_of (steps ++ more) ≡ clock_of steps
 clock_more steps more all = fold-append clock_behind 0 steps more ∙ clock_go (clock_of steps) more all
 
-pub clock_told : (steps : List Step) (time : ℕ) → clock_of (steps ++ Happens (Told time) ∷ []) ≡ time
-clock_told steps time = fold-append clock_behind 0 steps (Happens (Told time) ∷ [])
+pub clock_timed : (steps : List Step) (time : ℕ) → clock_of (steps ++ Happens (Timed time) ∷ []) ≡ time
+clock_timed steps time = fold-append clock_behind 0 steps (Happens (Timed time) ∷ [])
 
 moves_now : (times : Times) (bytes : List ℕ) → (moves times bytes).now ≡ times.now
 moves_now times [] = refl
@@ -162,7 +162,7 @@ now_behind : (id : ℕ) (times : Times) (step : Step) → (times_behind id times
 now_behind id times (Happens (Read who bytes)) = now_if (eqb who id) (moves times bytes) times times.now (moves_now times bytes) refl
 now_behind id times (Happens (Wrote who bytes)) = now_if (eqb who id) (moves times bytes) times times.now (moves_now times bytes) refl
 now_behind id times (Happens (Opened who)) = now_if (eqb who id) (record { now = times.now; active = times.now }) times times.now refl refl
-now_behind id times (Happens (Told time)) = refl
+now_behind id times (Happens (Timed time)) = refl
 now_behind id times (Happens (Waited limit)) = refl
 now_behind id times (Happens Unwaited) = refl
 now_behind id times (Happens NoneOpened) = refl
@@ -189,7 +189,7 @@ calm_traffic id (Happens (Unread one)) is = record { turn = λ turn. refl; clock
 calm_traffic id (Happens (Unwritten one)) is = record { turn = λ turn. refl; clock = λ now. refl }
 calm_traffic id (Happens (Waited limit)) is = absurd is
 calm_traffic id (Happens Unwaited) is = absurd is
-calm_traffic id (Happens (Told time)) is = absurd is
+calm_traffic id (Happens (Timed time)) is = absurd is
 calm_traffic id (Happens (Opened one)) is = absurd is
 calm_traffic id (Happens NoneOpened) is = absurd is
 calm_traffic id (Happens (Closed one why)) is = absurd is

@@ -11,7 +11,7 @@ use Rattle.droid_frame.specs.types.frame.Frame.{Frame}
 use Rattle.droid_frame.specs.types.reply.Reply.{Reply}
 use Rattle.droid_frame_feed.specs.Feeding.{Fails, IsOfBytes, Refuses}
 use Rattle.droid_wire_turns.specs.Departures.{IsRefused, IsServed, Serves, StopsBy, held_bound}
-use Rattle.droid_wire_turns.specs.Events.{Event, Ended, Read, Told, Unread, Unwritten, Waited, Wrote}
+use Rattle.droid_wire_turns.specs.Events.{Event, Ended, Read, Timed, Unread, Unwritten, Waited, Wrote}
 use Rattle.droid_wire_turns.specs.Peers.{EndsAs, IsLeft, Kept, Lends, Stands, keep}
 use Rattle.droid_wire_turns.specs.Steps.{Handles, Happened, Happens, Step, Times, bytes_read, bytes_written, handled_in, moves, times_behind}
 use Rattle.droid_wire_turns.specs.declared.departure.Departure.{Departure}
@@ -268,9 +268,9 @@ stands_elsewhere id kept now steps more all stands = record {
 }
 
 -- the clock was read
-pub stands_told : (id : ℕ) (kept : Kept) (now time : ℕ) (steps : List Step) → Stands id kept now steps → Stands id kept time (steps ++ Happens (Told time) ∷ [])
-stands_told id kept now time steps stands =
-    let step : Step = Happens (Told time) in
+pub stands_timed : (id : ℕ) (kept : Kept) (now time : ℕ) (steps : List Step) → Stands id kept now steps → Stands id kept time (steps ++ Happens (Timed time) ∷ [])
+stands_timed id kept now time steps stands =
+    let step : Step = Happens (Timed time) in
     record {
       held = stands.held;
       queued = stands.queued;

@@ -98,7 +98,7 @@ settled_more goes_on id steps turn more all settled = record {
   ];
 }
 
--- told by another reason to go on
+-- the same, by another reason to go on
 pub settled_as : (goes_on also : Type 0) (id : ℕ) (steps turn : List Step) → (goes_on → also) → IsSettled goes_on id steps turn → IsSettled also id steps turn
 settled_as goes_on also id steps turn f settled = record {
   held = settled.held;
@@ -181,7 +181,7 @@ heard_by now old new steps more unheard same hears =
       rested = rested_by new now hears.count (steps ++ more) stands hears.rests;
     }
 
--- ---- it is told
+-- ---- it is written to
 
 -- what was written, by what is left
 written_by : (id : ℕ) (steps turn : List Step) (kept : Kept) (queued : List ℕ) → queued ≡ kept.queued → (kept.queued ≡ []) ⊎ Happened (Wrote id []) turn → (queued ≡ []) ⊎ Happened (Wrote id []) turn

@@ -3,8 +3,8 @@ use Rattle.std.proofs.Common.{◌≡◌, ℕ, ◌+◌, Bool, true, false, cond, 
 use Rattle.std.specs.List.{AllByRecursion}
 use Rattle.std.proofs.lemmas.List.{append-nil, length-append, nil_from_length}
 use Rattle.std.proofs.lemmas.List.Sums.{fold-append, sum_by-append}
-use Rattle.droid_wire_turns.specs.Events.{Opened, NoneOpened, Read, Ended, Unread, Wrote, Unwritten, Closed, Told, Waited, Unwaited}
-use Rattle.droid_wire_turns.specs.Halls.{IsClosing, IsTelling, SettlesBetween}
+use Rattle.droid_wire_turns.specs.Events.{Opened, NoneOpened, Read, Ended, Unread, Wrote, Unwritten, Closed, Timed, Waited, Unwaited}
+use Rattle.droid_wire_turns.specs.Halls.{IsClosing, IsWriting, SettlesBetween}
 use Rattle.droid_wire_turns.specs.Peers.{IsHearing}
 use Rattle.droid_wire_turns.specs.Turns.{SettledOnce, SettlesFirst}
 use Rattle.droid_wire_turns.specs.Steps.{AllSettled, AtEach, EachSettled, FailedToSettle, Handles, Happens, IsTraffic, NeverFailed, SettledSo, Settles, Step, handled, handled_in, is_settling, turn_behind, turn_of}
@@ -44,8 +44,8 @@ never_more K no_settling steps more all never = λ there. elim (settled_either f
 none_heard : Excludes IsHearing
 none_heard done is = is
 
-none_told : Excludes IsTelling
-none_told done is = is
+none_writing : Excludes IsWriting
+none_writing done is = is
 
 -- ---- the law, at one step
 
@@ -64,7 +64,7 @@ heard_first before (Happens (Wrote id bytes)) is never = absurd is
 heard_first before (Happens (Unwritten id)) is never = absurd is
 heard_first before (Happens (Closed id why)) is never = closed_first before id why never
 heard_first before (Happens Unwaited) is never = never
-heard_first before (Happens (Told time)) is never = never
+heard_first before (Happens (Timed time)) is never = never
 heard_first before (Happens (Opened id)) is never = never
 heard_first before (Happens NoneOpened) is never = never
 heard_first before (Happens (Read id bytes)) is never = never
@@ -73,37 +73,37 @@ heard_first before (Happens (Unread id)) is never = never
 heard_first before (Handles id frame reply) is never = never
 heard_first before (Settles done) is never = absurd is
 
-told_first : (before : List Step) (step : Step) → IsTelling step → AllSettled before → SettlesFirst before step
-told_first before (Happens (Waited limit)) is so = absurd is
-told_first before (Happens (Wrote id bytes)) is so = so
-told_first before (Happens (Unwritten id)) is so = so
-told_first before (Happens (Closed id why)) is so = closed_first before id why so.never_failed
-told_first before (Happens Unwaited) is so = so.never_failed
-told_first before (Happens (Told time)) is so = so.never_failed
-told_first before (Happens (Opened id)) is so = so.never_failed
-told_first before (Happens NoneOpened) is so = so.never_failed
-told_first before (Happens (Read id bytes)) is so = so.never_failed
-told_first before (Happens (Ended id)) is so = so.never_failed
-told_first before (Happens (Unread id)) is so = so.never_failed
-told_first before (Handles id frame reply) is so = absurd is
-told_first before (Settles done) is so = absurd is
+writing_first : (before : List Step) (step : Step) → IsWriting step → AllSettled before → SettlesFirst before step
+writing_first before (Happens (Waited limit)) is so = absurd is
+writing_first before (Happens (Wrote id bytes)) is so = so
+writing_first before (Happens (Unwritten id)) is so = so
+writing_first before (Happens (Closed id why)) is so = closed_first before id why so.never_failed
+writing_first before (Happens Unwaited) is so = so.never_failed
+writing_first before (Happens (Timed time)) is so = so.never_failed
+writing_first before (Happens (Opened id)) is so = so.never_failed
+writing_first before (Happens NoneOpened) is so = so.never_failed
+writing_first before (Happens (Read id bytes)) is so = so.never_failed
+writing_first before (Happens (Ended id)) is so = so.never_failed
+writing_first before (Happens (Unread id)) is so = so.never_failed
+writing_first before (Handles id frame reply) is so = absurd is
+writing_first before (Settles done) is so = absurd is
 
 -- ---- what is settled stays so while nothing is handled
 
-each_none : (more : List Step) → AllByRecursion IsTelling more → EachSettled more
+each_none : (more : List Step) → AllByRecursion IsWriting more → EachSettled more
 each_none [] all = tt
 each_none (Happens event ∷ more) all = each_none more all.1
 each_none (Handles id frame reply ∷ more) all = absurd all.0
 each_none (Settles done ∷ more) all = absurd all.0
 
-each_more : (steps more : List Step) → AllByRecursion IsTelling more → EachSettled steps → EachSettled (steps ++ more)
+each_more : (steps more : List Step) → AllByRecursion IsWriting more → EachSettled steps → EachSettled (steps ++ more)
 each_more [] more all each = each_none more all
 each_more (Happens event ∷ steps) more all each = each_more steps more all each
 each_more (Handles id frame reply ∷ steps) more all each = (settled_then true steps more each.0, each_more steps more all each.1)
 each_more (Settles done ∷ steps) more all each = each_more steps more all each
 
-settled_more : (steps more : List Step) → AllByRecursion IsTelling more → AllSettled steps → AllSettled (steps ++ more)
-settled_more steps more all so = record { each = each_more steps more all so.each; never_failed = never_more IsTelling none_told steps more all so.never_failed }
+settled_more : (steps more : List Step) → AllByRecursion IsWriting more → AllSettled steps → AllSettled (steps ++ more)
+settled_more steps more all so = record { each = each_more steps more all so.each; never_failed = never_more IsWriting none_writing steps more all so.never_failed }
 
 -- ---- the handler settles
 
@@ -134,9 +134,9 @@ heard_each before [] all never = tt
 heard_each before (step ∷ steps) all never =
     (heard_first before step all.0 never, heard_each (before ++ step ∷ []) steps all.1 (never_more IsHearing none_heard before (step ∷ []) (all.0, tt) never))
 
-told_each : (before steps : List Step) → AllByRecursion IsTelling steps → AllSettled before → AtEach SettlesFirst before steps
-told_each before [] all so = tt
-told_each before (step ∷ steps) all so = (told_first before step all.0 so, told_each (before ++ step ∷ []) steps all.1 (settled_more before (step ∷ []) (all.0, tt) so))
+writing_each : (before steps : List Step) → AllByRecursion IsWriting steps → AllSettled before → AtEach SettlesFirst before steps
+writing_each before [] all so = tt
+writing_each before (step ∷ steps) all so = (writing_first before step all.0 so, writing_each (before ++ step ∷ []) steps all.1 (settled_more before (step ∷ []) (all.0, tt) so))
 
 closed_each : (before steps : List Step) → AllByRecursion (IsClosing departures.Unsettled) steps → AtEach SettlesFirst before steps
 closed_each before [] all = tt
@@ -153,10 +153,10 @@ pub ordered_none : IsOrdered []
 ordered_none = record { order = tt; settled = record { each = tt; never_failed = λ there. there } }
 
 -- nothing more was handled
-pub ordered_on : (first later : List Step) → AllByRecursion IsTelling later → IsOrdered first → IsOrdered (first ++ later)
-ordered_on first later telling so = record {
-  order = each_both SettlesFirst [] first later so.order (told_each first later telling so.settled);
-  settled = settled_more first later telling so.settled;
+pub ordered_on : (first later : List Step) → AllByRecursion IsWriting later → IsOrdered first → IsOrdered (first ++ later)
+ordered_on first later writing so = record {
+  order = each_both SettlesFirst [] first later so.order (writing_each first later writing so.settled);
+  settled = settled_more first later writing so.settled;
 }
 
 -- the loop has not begun, or the handler settled once since the wait before
@@ -189,13 +189,13 @@ turn_parts first heard later limit done =
     append_assoc (waited ++ heard) (Settles done ∷ []) later ∙ (append_assoc waited heard (Settles done ∷ later) ∙ append_assoc first (Happens (Waited limit) ∷ []) (heard ++ Settles done ∷ later))
 
 -- the handler settled, and then what waited was written
-pub ordered_turn : (first more : List Step) (limit : ℕ) → IsOrdered first → IsOnce first → SettlesBetween true IsTelling more → IsOrdered (first ++ Happens (Waited limit) ∷ more)
+pub ordered_turn : (first more : List Step) (limit : ℕ) → IsOrdered first → IsOnce first → SettlesBetween true IsWriting more → IsOrdered (first ++ Happens (Waited limit) ∷ more)
 ordered_turn first more limit so once between =
     let heard : List Step = (first ++ Happens (Waited limit) ∷ []) ++ between.first in
     let never : NeverFailed heard = never_heard first between.first limit between.hearing so.settled.never_failed in
     let now : AllSettled (heard ++ Settles true ∷ []) = settled_now heard never in
     let order : AtEach SettlesFirst [] (first ++ Happens (Waited limit) ∷ (between.first ++ Settles true ∷ between.later)) =
-    heard_order first between.first (Settles true ∷ between.later) limit so once between.hearing (never, told_each (heard ++ Settles true ∷ []) between.later between.rest now) in
+    heard_order first between.first (Settles true ∷ between.later) limit so once between.hearing (never, writing_each (heard ++ Settles true ∷ []) between.later between.rest now) in
     let settled : AllSettled ((heard ++ Settles true ∷ []) ++ between.later) = settled_more (heard ++ Settles true ∷ []) between.later between.rest now in
     subst (λ (l : List Step). IsOrdered (first ++ Happens (Waited limit) ∷ l)) (sym between.parts)
     (record { order = order; settled = subst AllSettled (turn_parts first between.first between.later limit true) settled })
@@ -224,7 +224,7 @@ heard_goes_on (Happens (Wrote id bytes)) is = λ turn. refl
 heard_goes_on (Happens (Unwritten id)) is = λ turn. refl
 heard_goes_on (Happens (Closed id why)) is = λ turn. refl
 heard_goes_on (Happens Unwaited) is = λ turn. refl
-heard_goes_on (Happens (Told time)) is = λ turn. refl
+heard_goes_on (Happens (Timed time)) is = λ turn. refl
 heard_goes_on (Happens (Opened id)) is = λ turn. refl
 heard_goes_on (Happens NoneOpened) is = λ turn. refl
 heard_goes_on (Happens (Read id bytes)) is = λ turn. refl
@@ -233,20 +233,20 @@ heard_goes_on (Happens (Unread id)) is = λ turn. refl
 heard_goes_on (Handles id frame reply) is = λ turn. refl
 heard_goes_on (Settles done) is = λ turn. refl
 
-told_goes_on : (step : Step) → IsTelling step → GoesOn step
-told_goes_on (Happens (Waited limit)) is = absurd is
-told_goes_on (Happens (Wrote id bytes)) is = λ turn. refl
-told_goes_on (Happens (Unwritten id)) is = λ turn. refl
-told_goes_on (Happens (Closed id why)) is = λ turn. refl
-told_goes_on (Happens Unwaited) is = λ turn. refl
-told_goes_on (Happens (Told time)) is = λ turn. refl
-told_goes_on (Happens (Opened id)) is = λ turn. refl
-told_goes_on (Happens NoneOpened) is = λ turn. refl
-told_goes_on (Happens (Read id bytes)) is = λ turn. refl
-told_goes_on (Happens (Ended id)) is = λ turn. refl
-told_goes_on (Happens (Unread id)) is = λ turn. refl
-told_goes_on (Handles id frame reply) is = λ turn. refl
-told_goes_on (Settles done) is = λ turn. refl
+writing_goes_on : (step : Step) → IsWriting step → GoesOn step
+writing_goes_on (Happens (Waited limit)) is = absurd is
+writing_goes_on (Happens (Wrote id bytes)) is = λ turn. refl
+writing_goes_on (Happens (Unwritten id)) is = λ turn. refl
+writing_goes_on (Happens (Closed id why)) is = λ turn. refl
+writing_goes_on (Happens Unwaited) is = λ turn. refl
+writing_goes_on (Happens (Timed time)) is = λ turn. refl
+writing_goes_on (Happens (Opened id)) is = λ turn. refl
+writing_goes_on (Happens NoneOpened) is = λ turn. refl
+writing_goes_on (Happens (Read id bytes)) is = λ turn. refl
+writing_goes_on (Happens (Ended id)) is = λ turn. refl
+writing_goes_on (Happens (Unread id)) is = λ turn. refl
+writing_goes_on (Handles id frame reply) is = λ turn. refl
+writing_goes_on (Settles done) is = λ turn. refl
 
 turn_still : (turn more : List Step) → AllByRecursion GoesOn more → fold turn_behind turn more ≡ turn ++ more
 turn_still turn [] all = sym (append-nil turn)
@@ -261,14 +261,14 @@ count_none K no_settling (Happens event ∷ steps) all = omega (arith, count_non
 count_none K no_settling (Handles id frame reply ∷ steps) all = omega (arith, count_none K no_settling steps all.1)
 count_none K no_settling (Settles done ∷ steps) all = absurd (no_settling done all.0)
 
-pub once_turn : (first more : List Step) (limit : ℕ) → SettlesBetween true IsTelling more → SettledOnce (turn_of (first ++ Happens (Waited limit) ∷ more))
+pub once_turn : (first more : List Step) (limit : ℕ) → SettlesBetween true IsWriting more → SettledOnce (turn_of (first ++ Happens (Waited limit) ∷ more))
 once_turn first more limit between =
     let still : AllByRecursion GoesOn (between.first ++ Settles true ∷ between.later) =
-    all_both GoesOn between.first (Settles true ∷ between.later) (all_as IsHearing GoesOn between.first heard_goes_on between.hearing) ((λ turn. refl), all_as IsTelling GoesOn between.later told_goes_on between.rest) in
+    all_both GoesOn between.first (Settles true ∷ between.later) (all_as IsHearing GoesOn between.first heard_goes_on between.hearing) ((λ turn. refl), all_as IsWriting GoesOn between.later writing_goes_on between.rest) in
     let turn : turn_of (first ++ Happens (Waited limit) ∷ more) ≡ more =
     fold-append turn_behind [] first (Happens (Waited limit) ∷ more) ∙ turn_still [] more (subst (AllByRecursion GoesOn) (sym between.parts) still) in
     let none_before : count_by is_settling between.first ≡ 0 = count_none IsHearing none_heard between.first between.hearing in
-    let none_behind : count_by is_settling between.later ≡ 0 = count_none IsTelling none_told between.later between.rest in
+    let none_behind : count_by is_settling between.later ≡ 0 = count_none IsWriting none_writing between.later between.rest in
     let joined : count_by is_settling (Settles true ∷ between.later) ≡ count_by is_settling (Settles true ∷ []) + count_by is_settling between.later = count_sum (Settles true ∷ []) between.later in
     let single : count_by is_settling (Settles true ∷ []) ≡ 1 = refl in
     let one : count_by is_settling (Settles true ∷ between.later) ≡ 1 = omega (arith, joined, single, none_behind) in
@@ -277,17 +277,17 @@ once_turn first more limit between =
 
 -- ---- what is written to a connection
 
-traffic_told : (id : ℕ) (step : Step) → IsTraffic id step → length (handled_in id step) ≡ 0 → IsTelling step
-traffic_told id (Happens (Waited limit)) is none = absurd is
-traffic_told id (Happens event) is none = tt
-traffic_told id (Handles who frame reply) is none =
+traffic_writing : (id : ℕ) (step : Step) → IsTraffic id step → length (handled_in id step) ≡ 0 → IsWriting step
+traffic_writing id (Happens (Waited limit)) is none = absurd is
+traffic_writing id (Happens event) is none = tt
+traffic_writing id (Handles who frame reply) is none =
     let here : length (handled_in id (Handles id frame reply)) ≡ 0 = subst (λ (w : ℕ). length (handled_in id (Handles w frame reply)) ≡ 0) is none in
     absurd (omega (arith, here, ap length (handled_here id frame reply)))
-traffic_told id (Settles done) is none = absurd is
+traffic_writing id (Settles done) is none = absurd is
 
 -- traffic of a connection of which no frame is handled
-pub telling : (id : ℕ) (more : List Step) → AllByRecursion (IsTraffic id) more → handled id more ≡ [] → AllByRecursion IsTelling more
-telling id [] own none = tt
-telling id (step ∷ more) own none =
+pub writing : (id : ℕ) (more : List Step) → AllByRecursion (IsTraffic id) more → handled id more ≡ [] → AllByRecursion IsWriting more
+writing id [] own none = tt
+writing id (step ∷ more) own none =
     let size : length (handled_in id step) + length (handled id more) ≡ 0 = omega (arith, length-append (handled_in id step) (handled id more), ap length none) in
-    (traffic_told id step own.0 (omega (arith, size)), telling id more own.1 (nil_from_length (handled id more) (omega (arith, size))))
+    (traffic_writing id step own.0 (omega (arith, size)), writing id more own.1 (nil_from_length (handled id more) (omega (arith, size))))

@@ -4,7 +4,7 @@ use Rattle.std.proofs.lemmas.Bool.{eqb-true, false≢true}
 use Rattle.std.proofs.lemmas.List.{length-take, nil_from_length, take-append-drop}
 use Rattle.droid_wire_turns.specs.Departures.{Explains}
 use Rattle.droid_wire_turns.specs.Events.{Unwritten, Wrote}
-use Rattle.droid_wire_turns.specs.Peers.{Advances, Departs, IsLeft, IsQuiet, Kept, Sends, Stands, Tells, is_over, is_over_for, keep, kept_of, unread}
+use Rattle.droid_wire_turns.specs.Peers.{Advances, Departs, IsLeft, IsQuiet, Kept, Sends, Stands, WritesOut, is_over, is_over_for, keep, kept_of, unread}
 use Rattle.droid_wire_turns.specs.Steps.{Happened, Happens, Step, Times}
 use Rattle.droid_wire_turns.specs.declared.departure.Departure.{Departure}
 use Rattle.droid_wire_turns.specs.declared.departure.Departure.TheVariants as departures
@@ -100,12 +100,12 @@ over_explains idle id now kept steps leaving held queued departures.Idle is over
 over_explains idle id now kept steps leaving held queued departures.Stopped is over left = absurd left
 over_explains idle id now kept steps leaving held queued departures.Unsettled is over left = absurd left
 
-tells_over : (idle now : ℕ) (old new : Peer) (leaving : Option Departure) (steps : List Step) → new.leaving ≡ leaving → Advances old.id now (kept_of old) (kept_of new) steps → is_over_for (length new.queue.bytes) leaving ≡ true → Tells idle now old new leaving steps
-tells_over idle now old new None steps is goes over = absurd (false≢true over)
-tells_over idle now old new (Some why) steps is goes over =
+writes_over : (idle now : ℕ) (old new : Peer) (leaving : Option Departure) (steps : List Step) → new.leaving ≡ leaving → Advances old.id now (kept_of old) (kept_of new) steps → is_over_for (length new.queue.bytes) leaving ≡ true → WritesOut idle now old new leaving steps
+writes_over idle now old new None steps is goes over = absurd (false≢true over)
+writes_over idle now old new (Some why) steps is goes over =
     departs_by idle now old new why steps goes (λ before stands.
     over_explains idle old.id now (kept_of new) (before ++ steps) new.leaving stands.held stands.queued why is over
     (subst (IsLeft old.id (before ++ steps) (kept_of new) stands.held stands.queued) is stands.is_left))
 
-pub tells_leaving : (idle now : ℕ) (old new : Peer) (steps : List Step) → Advances old.id now (kept_of old) (kept_of new) steps → is_over new ≡ true → Tells idle now old new new.leaving steps
-tells_leaving idle now old new steps goes over = tells_over idle now old new new.leaving steps refl goes over
+pub writes_leaving : (idle now : ℕ) (old new : Peer) (steps : List Step) → Advances old.id now (kept_of old) (kept_of new) steps → is_over new ≡ true → WritesOut idle now old new new.leaving steps
+writes_leaving idle now old new steps goes over = writes_over idle now old new new.leaving steps refl goes over

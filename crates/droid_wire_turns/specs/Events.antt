@@ -13,7 +13,7 @@ pub data Event : Type 0 where
   -- waiting failed
   Unwaited : Event
   -- the clock was read, in milliseconds
-  Told : (time : ℕ) → Event
+  Timed : (time : ℕ) → Event
   -- a connection was accepted
   Opened : (id : ℕ) → Event
   -- no connection waits to be accepted

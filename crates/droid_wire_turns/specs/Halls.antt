@@ -34,11 +34,11 @@ pub record IsCalm (step : Step) : Type 0 where
   pub clock : (now : ℕ) → clock_behind now step ≡ now
 
 -- no frame is handled, the handler does not settle, and the loop does not wait
-abbrev pub IsTelling : Step → Type 0
-IsTelling (Happens (Waited limit)) = ⊥
-IsTelling (Happens event) = Unit {0}
-IsTelling (Handles id frame reply) = ⊥
-IsTelling (Settles done) = ⊥
+abbrev pub IsWriting : Step → Type 0
+IsWriting (Happens (Waited limit)) = ⊥
+IsWriting (Happens event) = Unit {0}
+IsWriting (Handles id frame reply) = ⊥
+IsWriting (Settles done) = ⊥
 
 -- a connection is closed for this reason
 abbrev pub IsClosing : Departure → Step → Type 0
@@ -141,7 +141,7 @@ pub record Admits (rules : Rules) (old new : Hall) (steps : List Step) : Type 0 
 pub record TakesTurn (rules : Rules) (old new : Hall) (steps : List Step) : Type 0 where
   pub leads : LeadsOn rules (Unheard old.time) NoPeer (Served rules.idle new.time) NoPeer old new steps
   pub begins : (before : List Step) → Holds rules (Unheard old.time) NoPeer old.time old.opened old.waiting.items old.served.items before → HasBegun rules (before ++ steps) (turn_of (before ++ steps))
-  pub settles : SettlesBetween true IsTelling steps
+  pub settles : SettlesBetween true IsWriting steps
 
 -- a turn in which it failed to: every connection was closed
 pub record GivesUp (rules : Rules) (old new : Hall) (steps : List Step) : Type 0 where
@@ -170,7 +170,7 @@ pub record ClosesSome (why : Departure) (old new : List Peer) (steps : List Step
 
 -- every connection was closed, since the loop could not wait any longer
 pub record Stops (rules : Rules) (old new : Hall) (steps : List Step) : Type 0 where
-  pub telling : AllByRecursion IsTelling steps
+  pub writing : AllByRecursion IsWriting steps
   pub keeps : (before : List Step) → IsStopped before → IsAtRest rules old before → IsStopped (before ++ steps) × Keeps rules new.opened (λ _. 0) 0 (before ++ steps)
 
 -- ---- the seats

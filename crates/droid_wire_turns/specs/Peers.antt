@@ -176,9 +176,9 @@ pub record Departs (idle now : ℕ) (old new : Peer) (why : Departure) (steps : 
       × ((held : List ℕ) × (queued : List ℕ) × Serves old.id (before ++ steps) held queued × Explains idle old.id (before ++ steps) held queued why)
 
 -- what writing to it leaves
-abbrev pub Tells : ℕ → ℕ → Peer → Peer → Option Departure → List Step → Type 0
-Tells idle now old new None steps = Stays idle now old new steps
-Tells idle now old new (Some why) steps = Departs idle now old new why steps
+abbrev pub WritesOut : ℕ → ℕ → Peer → Peer → Option Departure → List Step → Type 0
+WritesOut idle now old new None steps = Stays idle now old new steps
+WritesOut idle now old new (Some why) steps = Departs idle now old new why steps
 
 -- nothing of it is read, and no frame handled
 pub record IsQuiet (id : ℕ) (steps : List Step) : Type 0 where

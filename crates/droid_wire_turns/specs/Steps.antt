@@ -6,7 +6,7 @@ use Rattle.droid_frame.specs.ReplyFrames.{reply_frame}
 use Rattle.droid_frame.specs.types.frame.Frame.{Frame}
 use Rattle.droid_frame.specs.types.reply.Reply.{Reply}
 use Rattle.droid_wire_turns.specs.Chains.{GoesOver}
-use Rattle.droid_wire_turns.specs.Events.{Event, Waited, Told, Opened, Read, Ended, Unread, Wrote, Unwritten, Closed}
+use Rattle.droid_wire_turns.specs.Events.{Event, Waited, Timed, Opened, Read, Ended, Unread, Wrote, Unwritten, Closed}
 
 -- a step is an event on the connections; or the handler handled a frame of this connection, with this reply; or it was to
 -- settle what it had handled, and did so or failed to
@@ -142,7 +142,7 @@ moves times [] = times
 moves times (byte ∷ bytes) = record { now = times.now; active = times.now }
 
 abbrev pub times_behind : ℕ → Times → Step → Times
-times_behind id times (Happens (Told time)) = record { now = time; active = times.active }
+times_behind id times (Happens (Timed time)) = record { now = time; active = times.active }
 times_behind id times (Happens (Opened who)) = if who == id then record { now = times.now; active = times.now } else times
 times_behind id times (Happens (Read who bytes)) = if who == id then moves times bytes else times
 times_behind id times (Happens (Wrote who bytes)) = if who == id then moves times bytes else times
@@ -154,7 +154,7 @@ times_of id steps = fold (times_behind id) (record { now = 0; active = 0 }) step
 
 -- what a clock said last
 abbrev pub clock_behind : ℕ → Step → ℕ
-clock_behind now (Happens (Told time)) = time
+clock_behind now (Happens (Timed time)) = time
 clock_behind now _ = now
 
 abbrev pub clock_of : List Step → ℕ

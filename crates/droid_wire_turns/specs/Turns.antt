@@ -3,7 +3,7 @@ use Rattle.std.specs.Prelude.{◌≡◌, ◌≢◌, ℕ, ◌+◌, ◌-◌, ◌<�
 use Rattle.droid_frame.specs.Streams.{BeginsNoFrame}
 use Rattle.droid_frame.specs.declared.stream.fault.FrameFault.{FrameFault}
 use Rattle.droid_wire_turns.specs.Departures.{Explains, IsServed, IsStopped, Serves, StopsBy}
-use Rattle.droid_wire_turns.specs.Events.{Opened, NoneOpened, Closed, Ended, Read, Told, Unwritten, Waited, Wrote}
+use Rattle.droid_wire_turns.specs.Events.{Opened, NoneOpened, Closed, Ended, Read, Timed, Unwritten, Waited, Wrote}
 use Rattle.droid_wire_turns.specs.Steps.{AllSettled, Always, AreOfOthers, AtEach, FailedToSettle, Happened, Happens, NeverFailed, Step, came, closed, handled, is_settling, numbers, opened, times_of, turn_of}
 use Rattle.droid_wire_turns.specs.declared.departure.Departure.{Departure}
 use Rattle.droid_wire_turns.specs.declared.departure.Departure.TheVariants as departures
@@ -89,7 +89,7 @@ HasAdmitted rules steps turn = Happened NoneOpened turn ⊎ (WereTaken rules.sea
 -- in this turn the clock was read, and those that waited were accepted
 pub record HasBegun (rules : Rules) (steps turn : List Step) : Type 0 where
   pub time : ℕ
-  pub told : Happened (Told time) turn
+  pub timed : Happened (Timed time) turn
   pub admitted : HasAdmitted rules steps turn
 
 -- ---- what each connection gets in a turn

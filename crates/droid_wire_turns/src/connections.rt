@@ -1,7 +1,7 @@
 //! The trait for many connections at once.
 
 ghost use Rattle.std.specs.Prelude.{OnErr, OnOk, length, if◌then◌else◌};
-ghost use Rattle.droid_wire_turns.specs.Events.{CameWithin, Closed, Event, NoneOpened, Opened, Told, TookWithin, Unwaited, Waited, read_event, write_event};
+ghost use Rattle.droid_wire_turns.specs.Events.{CameWithin, Closed, Event, NoneOpened, Opened, Timed, TookWithin, Unwaited, Waited, read_event, write_event};
 
 use crate::departure::Departure;
 use thiserror::Error;
@@ -48,7 +48,7 @@ pub trait Connections {
 
     /// Reads a clock, in milliseconds since some moment.
     fn now(&mut self) -> u64
-        ensures { does self.old (Told result) self.new };
+        ensures { does self.old (Timed result) self.new };
 
     /// Accepts the next connection under this number. Returns false if none waits.
     fn accept(&mut self, id: u64) -> bool

@@ -2,7 +2,7 @@
 
 ghost use Rattle.std.specs.Prelude.{◌≡◌, ◌+◌, ◌-◌, ◌<◌, ◌≤◌, ◌⊎◌, ℕ, [], true, false, IfOk, Some, length, vec_capacity};
 ghost use Rattle.std.specs.List.{AllByRecursion};
-ghost use Rattle.droid_wire_turns.specs.Halls.{Admits, ClosesSome, HasRooms, Heard, IsAtRest, IsPatient, IsTelling, LeadsInTurn, NoPeer, Served as HadTurn, Stops, Turned, Unheard};
+ghost use Rattle.droid_wire_turns.specs.Halls.{Admits, ClosesSome, HasRooms, Heard, IsAtRest, IsPatient, IsWriting, LeadsInTurn, NoPeer, Served as HadTurn, Stops, Turned, Unheard};
 ghost use Rattle.droid_wire_turns.specs.Peers.{IsHearing};
 ghost use Rattle.droid_wire_turns.specs.Turns.{HasEnough};
 ghost use Rattle.droid_wire_turns.specs.Steps.{Goes, Moves};
@@ -105,7 +105,7 @@ impl Hall {
             close_all(&mut self.served, connections, Departure::Unsettled);
             return false;
         }
-        self.tell_all(connections, rules.seats, rules.idle);
+        self.write_out_all(connections, rules.seats, rules.idle);
         true
     }
 
@@ -169,16 +169,16 @@ impl Hall {
     }
 
     /// Writes what waits for each connection, and closes those that are over.
-    fn tell_all<C: Connections>(&mut self, connections: &mut C, seats: usize, idle: u64)
+    fn write_out_all<C: Connections>(&mut self, connections: &mut C, seats: usize, idle: u64)
         requires rooms { HasRooms seats self.old }
         ensures rooms { HasRooms seats self.new }
         ensures now { self.new.time ≡ self.old.time }
         ensures all { self.new.served.items ≡ [] }
         ensures moves { (rules : RulesValue) → rules.idle ≡ idle → Moves C.does connections.old connections.new
-            (LeadsInTurn rules IsTelling (HadTurn rules.idle self.old.time) (Heard self.old.time) (HadTurn rules.idle self.old.time) NoPeer self.old self.new) }
+            (LeadsInTurn rules IsWriting (HadTurn rules.idle self.old.time) (Heard self.old.time) (HadTurn rules.idle self.old.time) NoPeer self.old self.new) }
     {
         while let Some(mut peer) = self.served.pop() {
-            match peer.tell(connections, self.time, idle) {
+            match peer.write_out(connections, self.time, idle) {
                 None => self.waiting.push_reserved(peer),
                 Some(why) => connections.close(peer.id, why, peer.frames),
             }

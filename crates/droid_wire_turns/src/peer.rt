@@ -6,7 +6,7 @@ ghost use Rattle.droid_frame.specs.types.reply.Reply.{Reply};
 ghost use Rattle.droid_frame.specs.types.frame.Frame.{Frame};
 ghost use Rattle.droid_frame.specs.Versions.{IsVersion};
 ghost use Rattle.droid_wire_turns.specs.Events.{CameWithin, read_event};
-ghost use Rattle.droid_wire_turns.specs.Peers.{Advances, EndsAs, Hears, IsNew, IsQuiet, IsWhole, Kept, Lends, RanDry, Rests, Sends, Stands, Taking, Tells, Turns, is_hungry, is_over, kept_of, unread};
+ghost use Rattle.droid_wire_turns.specs.Peers.{Advances, EndsAs, Hears, IsNew, IsQuiet, IsWhole, Kept, Lends, RanDry, Rests, Sends, Stands, Taking, Turns, WritesOut, is_hungry, is_over, kept_of, unread};
 ghost use Rattle.droid_wire_turns.specs.Steps.{Goes, Handles, IsTraffic, Moves, Step};
 
 use crate::connections::{Came, Connections, Took};
@@ -274,7 +274,7 @@ impl Peer {
     }
 
     /// Writes what waits, as far as the connection takes it. Returns why the connection is over, if it is.
-    pub(crate) fn tell<C: Connections>(
+    pub(crate) fn write_out<C: Connections>(
         &mut self,
         connections: &mut C,
         now: u64,
@@ -287,7 +287,7 @@ impl Peer {
         ensures leaving { self.new.leaving ≡ self.old.leaving }
         ensures room { self.new.room ≡ self.old.room }
         ensures held { self.new.feed.bytes ++ unread self.new ≡ self.old.feed.bytes ++ unread self.old }
-        ensures tells { Moves C.does connections.old connections.new (λ steps. Tells idle now self.old self.new result steps × IsQuiet self.old.id steps) }
+        ensures writes { Moves C.does connections.old connections.new (λ steps. WritesOut idle now self.old self.new result steps × IsQuiet self.old.id steps) }
     {
         if !self.send(connections, now) {
             return Some(Departure::Write);

@@ -146,16 +146,16 @@ fn is_reply(bytes: &[u8], client: u64, place: u8, count: u32) -> bool {
     if bytes.len() != 22 {
         return false;
     }
-    let told = count.to_be_bytes();
+    let spelled = count.to_be_bytes();
     bytes[0] == version_at(place)
         && bytes[1] == 130
         && u64::from(bytes[5]) == client
         && bytes[13] == place
         && bytes[17] == 4
-        && bytes[18] == told[0]
-        && bytes[19] == told[1]
-        && bytes[20] == told[2]
-        && bytes[21] == told[3]
+        && bytes[18] == spelled[0]
+        && bytes[19] == spelled[1]
+        && bytes[20] == spelled[2]
+        && bytes[21] == spelled[3]
 }
 
 /// Whether each of the four digits to base 4 stands three times among the twelve of this number.

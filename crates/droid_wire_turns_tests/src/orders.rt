@@ -31,7 +31,7 @@ fn digit(number: u32, place: u32) -> u32 {
     rest % 3
 }
 
-/// Whether the bytes are two replies to this client, and the places that they tell are its own in the order.
+/// Whether the bytes are two replies to this client, and the places in them are its own in the order.
 fn are_its_own(alloc: Global, bytes: &[u8], client: u32, order: u32) -> bool {
     let mut input = bytes;
     let mut least = 0u32;
@@ -78,7 +78,7 @@ fn is_served(alloc: Global, order: u32) -> bool {
     true
 }
 
-// The handler counts frames from 0 on: so a reply tells at which place of the order its frame was handled.
+// The handler counts frames from 0 on: so a reply has the place of its frame in that order.
 #[test]
 fn every_order(rt: HostRuntime) {
     let mut orders = 0u32;

@@ -13,4 +13,4 @@ returns-in-Err-put g c =
 pub returns : goal.returns
 returns g c =
     All c.put.new.self c.put-2.new.self (rw c.as_slice.ensures.value at c.in-Ok.ensures.put) (rw c.as_bytes.ensures.value at c.in-Ok-put.ensures.put)
-    (rw c.as_str.ensures.value at c.tell.ensures) c.ending_of.ensures
+    (rw c.as_str.ensures.value at c.report.ensures) c.ending_of.ensures

@@ -61,33 +61,33 @@ returns-in-Record-clause-reopened g c = λ setting s header synced all stands na
     (c.open_small.ensures.reopened setting s synced all named there (subst (λ (h : List ℕ). IsLeft setting h s synced all) (sym same) left))
 
 pub returns-in-Record-clause-lawful : goal.returns-in-Record-clause-lawful
-returns-in-Record-clause-lawful g c = λ n setting s header synced all here is_of left told.
+returns-in-Record-clause-lawful g c = λ n setting s header synced all here is_of left reported.
     let full : length c.args.random.now ≡ 16 = search rules in
     let same : c.deref-in-Record.result.now ≡ header =
     same_header c.args.registry.now c.deref.result.now c.args.random.now s c.deref-in-Record.result.now (c.deref.ensures.value ∙ c.in_ok-text.ensures.text) full (c.deref-in-Record.ensures.value ∙ c.in-Ok.ensures.text s here) header is_of (left_header setting header s synced all left) in
     let file = c.in-Err-open.ensures.unchanged (no_write c.in-Err-open.unopened.fault c.in-Record.number c.in-Record.is) in
     let there : g.F.LogFile.has c.in-Err-open.unopened.file s = subst (λ (f : g.row.F.Denot). g.F.LogFile.has f s) (sym file) here in
-    c.open_small.ensures.lawful n setting s synced all there (subst (λ (h : List ℕ). IsLeft setting h s synced all) (sym same) left) told
+    c.open_small.ensures.lawful n setting s synced all there (subst (λ (h : List ℕ). IsLeft setting h s synced all) (sym same) left) reported
 
 pub returns-in-Record-clause-other_header : goal.returns-in-Record-clause-other_header
-returns-in-Record-clause-other_header g c = λ told s header here is_of has.
+returns-in-Record-clause-other_header g c = λ reported s header here is_of has.
     let full : length c.args.random.now ≡ 16 = search rules in
     let same : c.deref-in-Record.result.now ≡ header =
     same_header c.args.registry.now c.deref.result.now c.args.random.now s c.deref-in-Record.result.now (c.deref.ensures.value ∙ c.in_ok-text.ensures.text) full (c.deref-in-Record.ensures.value ∙ c.in-Ok.ensures.text s here) header is_of has in
     let file = c.in-Err-open.ensures.unchanged (no_write c.in-Err-open.unopened.fault c.in-Record.number c.in-Record.is) in
     let there : g.F.LogFile.has c.in-Err-open.unopened.file s = subst (λ (f : g.row.F.Denot). g.F.LogFile.has f s) (sym file) here in
-    (c.open_small.ensures.other_header told s there).0 (subst (λ (h : List ℕ). HasHeader h s) (sym same) has)
+    (c.open_small.ensures.other_header reported s there).0 (subst (λ (h : List ℕ). HasHeader h s) (sym same) has)
 
 pub returns-in-Record-clause-damage : goal.returns-in-Record-clause-damage
-returns-in-Record-clause-damage g c = λ n told s here.
+returns-in-Record-clause-damage g c = λ n reported s here.
     let full : length c.args.random.now ≡ 16 = search rules in
     let its = is_header c.args.registry.now c.deref.result.now c.args.random.now s c.deref-in-Record.result.now (c.deref.ensures.value ∙ c.in_ok-text.ensures.text) full (c.deref-in-Record.ensures.value ∙ c.in-Ok.ensures.text s here) in
     let file = c.in-Err-open.ensures.unchanged (no_write c.in-Err-open.unopened.fault c.in-Record.number c.in-Record.is) in
     let there : g.F.LogFile.has c.in-Err-open.unopened.file s = subst (λ (f : g.row.F.Denot). g.F.LogFile.has f s) (sym file) here in
-    record { header = c.deref-in-Record.result.now; is_of = its; damaged = c.open_small.ensures.damage n told s there }
+    record { header = c.deref-in-Record.result.now; is_of = its; damaged = c.open_small.ensures.damage n reported s there }
 
 pub returns-in-Record-clause-refuted : goal.returns-in-Record-clause-refuted
-returns-in-Record-clause-refuted g c = λ n told setting s stands named here.
+returns-in-Record-clause-refuted g c = λ n reported setting s stands named here.
     let full : length c.args.random.now ≡ 16 = search rules in
     let its = is_header c.args.registry.now c.deref.result.now c.args.random.now s c.deref-in-Record.result.now (c.deref.ensures.value ∙ c.in_ok-text.ensures.text) full (c.deref-in-Record.ensures.value ∙ c.in-Ok.ensures.text s here) in
     let file = c.in-Err-open.ensures.unchanged (no_write c.in-Err-open.unopened.fault c.in-Record.number c.in-Record.is) in
@@ -95,14 +95,14 @@ returns-in-Record-clause-refuted g c = λ n told setting s stands named here.
     record {
       header = c.deref-in-Record.result.now;
       is_of = its;
-      refuted = elim (c.open_small.ensures.refuted n told setting s named there) [
+      refuted = elim (c.open_small.ensures.refuted n reported setting s named there) [
         | inl number ↦ inl (subst (λ (h : List ℕ). WasRefuted (GivesReply setting (no_base setting)) h s n) (c.deref-2.ensures.value ∙ sym c.deref-in-Record.ensures.value) (c.in-Err-open.ensures.refuted n setting s stands here (c.in-Record.is ∙ ap (λ (m : ℕ). faults.Record m) (sym number))))
         | inr small ↦ inr small
       ];
     }
 
 pub returns-clause-lawful : goal.returns-clause-lawful
-returns-clause-lawful g c = λ n setting s header synced all here is_of left told.
+returns-clause-lawful g c = λ n setting s header synced all here is_of left reported.
     let full : length c.args.random.now ≡ 16 = search rules in
     let same : c.deref-2.result.now ≡ header =
     same_header c.args.registry.now c.deref.result.now c.args.random.now s c.deref-2.result.now (c.deref.ensures.value ∙ c.in_ok-text.ensures.text) full (c.deref-2.ensures.value ∙ c.in-Ok.ensures.text s here) header is_of (left_header setting header s synced all left) in
@@ -110,7 +110,7 @@ returns-clause-lawful g c = λ n setting s header synced all here is_of left tol
     c.in-Err-open.ensures.lawful n setting s synced all here (subst (λ (h : List ℕ). IsLeft setting h s synced all) (sym same) left) is
 
 pub returns-clause-other_header : goal.returns-clause-other_header
-returns-clause-other_header g c = λ told s header here is_of has.
+returns-clause-other_header g c = λ reported s header here is_of has.
     let full : length c.args.random.now ≡ 16 = search rules in
     let same : c.deref-2.result.now ≡ header =
     same_header c.args.registry.now c.deref.result.now c.args.random.now s c.deref-2.result.now (c.deref.ensures.value ∙ c.in_ok-text.ensures.text) full (c.deref-2.ensures.value ∙ c.in-Ok.ensures.text s here) header is_of has in
@@ -118,35 +118,35 @@ returns-clause-other_header g c = λ told s header here is_of has.
     (c.in-Err-open.ensures.other_header s here is).0 (subst (λ (h : List ℕ). HasHeader h s) (sym same) has)
 
 pub returns-clause-damage : goal.returns-clause-damage
-returns-clause-damage g c = λ n told s here.
+returns-clause-damage g c = λ n reported s here.
     let full : length c.args.random.now ≡ 16 = search rules in
     let its = is_header c.args.registry.now c.deref.result.now c.args.random.now s c.deref-2.result.now (c.deref.ensures.value ∙ c.in_ok-text.ensures.text) full (c.deref-2.ensures.value ∙ c.in-Ok.ensures.text s here) in
     let is : c.in-Err-open.unopened.fault ≡ faults.Damage n = cc in
     record { header = c.deref-2.result.now; is_of = its; damaged = c.in-Err-open.ensures.damage n s here is }
 
 pub returns-clause-refuted : goal.returns-clause-refuted
-returns-clause-refuted g c = λ n told setting s stands named here.
+returns-clause-refuted g c = λ n reported setting s stands named here.
     let full : length c.args.random.now ≡ 16 = search rules in
     let its = is_header c.args.registry.now c.deref.result.now c.args.random.now s c.deref-2.result.now (c.deref.ensures.value ∙ c.in_ok-text.ensures.text) full (c.deref-2.ensures.value ∙ c.in-Ok.ensures.text s here) in
     let is : c.in-Err-open.unopened.fault ≡ faults.Record n = cc in
     record { header = c.deref-2.result.now; is_of = its; refuted = inl (c.in-Err-open.ensures.refuted n setting s stands here is) }
 
 pub returns-in-Err-clause-lawful : goal.returns-in-Err-clause-lawful
-returns-in-Err-clause-lawful g c = λ n setting s header synced all here is_of left told.
+returns-in-Err-clause-lawful g c = λ n setting s header synced all here is_of left reported.
     let same : c.in-Err.fault ≡ faults.Damage n = cc in
     no_damage c.in-Err.fault n c.in-Err.ensures.fault same
 
 pub returns-in-Err-clause-other_header : goal.returns-in-Err-clause-other_header
-returns-in-Err-clause-other_header g c = λ told s header here is_of has.
+returns-in-Err-clause-other_header g c = λ reported s header here is_of has.
     let same : c.in-Err.fault ≡ faults.Header = cc in
     no_header c.in-Err.fault c.in-Err.ensures.fault same
 
 pub returns-in-Err-clause-damage : goal.returns-in-Err-clause-damage
-returns-in-Err-clause-damage g c = λ n told s here.
+returns-in-Err-clause-damage g c = λ n reported s here.
     let same : c.in-Err.fault ≡ faults.Damage n = cc in
     absurd (no_damage c.in-Err.fault n c.in-Err.ensures.fault same)
 
 pub returns-in-Err-clause-refuted : goal.returns-in-Err-clause-refuted
-returns-in-Err-clause-refuted g c = λ n told setting s stands named here.
+returns-in-Err-clause-refuted g c = λ n reported setting s stands named here.
     let same : c.in-Err.fault ≡ faults.Record n = cc in
     absurd (no_record c.in-Err.fault n c.in-Err.ensures.fault same)

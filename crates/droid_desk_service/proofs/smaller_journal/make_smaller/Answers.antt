@@ -28,11 +28,11 @@ returns-clause-sizes g c = λ s here empty.
     IfOk-weaker c.compact.result _ _ (λ it sizes. record { header = c.deref.result.now; is_of = its; sizes = sizes }) (c.compact.ensures.sizes s here empty)
 
 pub returns-clause-other_header : goal.returns-clause-other_header
-returns-clause-other_header g c = λ told s header here is_of has.
+returns-clause-other_header g c = λ reported s header here is_of has.
     let same : c.deref.result.now ≡ header = c.deref.ensures.value ∙ c.in-Ok.ensures.same s header here is_of has in
-    c.compact.ensures.other_header told s here (subst (λ (h : List ℕ). HasHeader h s) (sym same) has)
+    c.compact.ensures.other_header reported s here (subst (λ (h : List ℕ). HasHeader h s) (sym same) has)
 
 pub returns-clause-behind : goal.returns-clause-behind
-returns-clause-behind g c = λ n told s here.
+returns-clause-behind g c = λ n reported s here.
     let its : IsHeaderOf c.args.registry.now c.deref.result.now = subst (λ (h : List ℕ). IsHeaderOf c.args.registry.now h) (sym c.deref.ensures.value) (c.in-Ok.ensures.is_of s here) in
-    record { header = c.deref.result.now; is_of = its; behind = c.compact.ensures.behind n told s here }
+    record { header = c.deref.result.now; is_of = its; behind = c.compact.ensures.behind n reported s here }

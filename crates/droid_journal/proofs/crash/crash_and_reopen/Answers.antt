@@ -13,7 +13,7 @@ returns-clause-reopened g c = λ setting synced written fresh keeps chance.
     (o.0, c.new.ensures.settled setting c.args.header.now o.0 o.1, o.2, o.3)
 
 pub returns-in-Err-clause-lawful : goal.returns-in-Err-clause-lawful
-returns-in-Err-clause-lawful g c = λ synced written n keeps none told.
+returns-in-Err-clause-lawful g c = λ synced written n keeps none reported.
     let tail = c.args.tail.now in
     let file : List ℕ = g.F.LogFile.kept c.args.journal.file ++ tail in
     let same : c.in-Err.fault ≡ faults.Damage n = cc in

@@ -15,7 +15,7 @@ hand_some-requires-clause-count g c =
     omega (arith, p.1.at_is, p.1.count, chain_long c.args.start.now c.args.from.check p.0, c.requires.count)
 
 pub returns-in-Err-clause-refuted : goal.returns-in-Err-clause-refuted
-returns-in-Err-clause-refuted g c = λ number told s here.
+returns-in-Err-clause-refuted g c = λ number reported s here.
     let same : c.in-Err.fault ≡ faults.Record number = cc in
     let p = c.loop.invariant.so_far in
     fails_on g.M.Machine.stands g.M.Machine.gives c.args.start.now s c.args.machine.now c.loop.machine c.args.from c.loop.place p.0 number p.1 (p.2 s here) (c.in-Err.ensures.refuted number (ap Err same) s here)

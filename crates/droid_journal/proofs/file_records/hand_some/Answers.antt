@@ -5,7 +5,7 @@ use Rattle.droid_journal.proofs.Handing.{ends_there, fails_in, handed, stand_in}
 use Rattle.droid_journal.proofs.file_records.hand_some.Goals as goal
 
 pub returns-in-Err-clause-refuted : goal.returns-in-Err-clause-refuted
-returns-in-Err-clause-refuted g c = λ number told s here.
+returns-in-Err-clause-refuted g c = λ number reported s here.
     let same : c.in-Err.fault ≡ faults.Record number = cc in
     fails_in g.M.Machine.stands g.M.Machine.gives c.args.start.now (drop c.args.from.at s) _ c.args.from.check c.args.from.records number c.args.machine.now
     (c.in-Ok.ensures.read s here ∙ ap (λ (n : ℕ). take n (drop c.args.from.at s)) c.requires.window) (c.in-Err.ensures.refuted number (ap Err same))

@@ -9,14 +9,14 @@ loop-init g c = record { window = c.requires.window; above = omega arith; none =
 
 pub returns-then-later-clause-later : goal.returns-then-later-clause-later
 returns-then-later-clause-later g c = λ s here. (
-  λ told. some_there c.args.start.now s (take 16777216 (drop c.loop.at s)) c.args.from c.loop.at c.loop.invariant.above refl ((c.in_ok-later.ensures.later s here).0 c.if-later.true),
+  λ reported. some_there c.args.start.now s (take 16777216 (drop c.loop.at s)) c.args.from c.loop.at c.loop.invariant.above refl ((c.in_ok-later.ensures.later s here).0 c.if-later.true),
   λ later. refl,
 )
 
 pub returns-then-ended-clause-later : goal.returns-then-ended-clause-later
 returns-then-ended-clause-later g c = λ s here.
     let none : HasLater c.args.start.now (take 16777216 (drop c.loop.at s)) → ⊥ = λ later. let is : IsTrue c.in_ok-later.later = (c.in_ok-later.ensures.later s here).1 later in let isnt : c.in_ok-later.later ≡ false = c.if-later.false in absurd cc in (
-      λ told. absurd cc,
+      λ reported. absurd cc,
       λ later. absurd (none_there c.args.start.now s (take 16777216 (drop c.loop.at s)) c.args.from c.loop.at _ refl refl (c.in_ok-later.ensures.ends s here c.if-ended.true) (c.loop.invariant.none s here) none later),
     )
 

@@ -24,7 +24,7 @@ loop-found-preserved g c =
     (λ setting before st. c.in-Ok.ensures.stands setting before found.first st) (λ setting before st. c.in-Ok.ensures.gave setting before found.first st)
 
 pub returns-in-Err-clause-refuted : goal.returns-in-Err-clause-refuted
-returns-in-Err-clause-refuted g c = λ number told.
+returns-in-Err-clause-refuted g c = λ number reported.
     let found = c.in-Some.found in
     let same : c.in-Err.fault ≡ faults.Record number = cc in
     fails g.M.Machine.stands g.M.Machine.gives c.args.start.now c.args.check c.args.bytes.now c.args.records c.args.machine.now c.loop-found.rest.now c.loop-found.check found.check found.rest.now c.loop-found.records number c.loop-found.machine

@@ -12,16 +12,16 @@ handle-handled-requires g c =
     record { readable = found.0; mark = c.requires ∙ ap checksum found.1 ∙ sum_is c.in-Ok-Some.frame }
 
 pub returns-in-Ok-None-clause-number : goal.returns-in-Ok-None-clause-number
-returns-in-Ok-None-clause-number g c = λ other told. cc
+returns-in-Ok-None-clause-number g c = λ other shown. cc
 
 pub returns-in-Ok-None-clause-refuted : goal.returns-in-Ok-None-clause-refuted
-returns-in-Ok-None-clause-refuted g c = λ other told setting before st. inl (rw c.in-Ok-None.field-0-is at c.in-Ok-None.ensures.none)
+returns-in-Ok-None-clause-refuted g c = λ other shown setting before st. inl (rw c.in-Ok-None.field-0-is at c.in-Ok-None.ensures.none)
 
 pub returns-then-not-handled-clause-number : goal.returns-then-not-handled-clause-number
-returns-then-not-handled-clause-number g c = λ other told. cc
+returns-then-not-handled-clause-number g c = λ other shown. cc
 
 pub returns-then-not-handled-clause-refuted : goal.returns-then-not-handled-clause-refuted
-returns-then-not-handled-clause-refuted g c = λ other told setting before st.
+returns-then-not-handled-clause-refuted g c = λ other shown setting before st.
     let off : c.handle-handled.result.accepted ≡ false = search rules in
     let found = (rw c.in-Ok-Some.field-0-is at c.in-Ok-Some.ensures.found) in
     inr (record {
@@ -35,10 +35,10 @@ returns-then-not-handled-clause-refuted g c = λ other told setting before st.
     })
 
 pub returns-then-not-is_same-clause-number : goal.returns-then-not-is_same-clause-number
-returns-then-not-is_same-clause-number g c = λ other told. cc
+returns-then-not-is_same-clause-number g c = λ other shown. cc
 
 pub returns-then-not-is_same-clause-refuted : goal.returns-then-not-is_same-clause-refuted
-returns-then-not-is_same-clause-refuted g c = λ other told setting before st.
+returns-then-not-is_same-clause-refuted g c = λ other shown setting before st.
     let isnt : c.is_same.result ≡ false = search rules in
     let found = (rw c.in-Ok-Some.field-0-is at c.in-Ok-Some.ensures.found) in
     inr (record {
@@ -57,8 +57,8 @@ returns-clause-stands g c = λ setting before first st.
     let frame = c.in-Ok-Some.frame in
     let found = (rw c.in-Ok-Some.field-0-is at c.in-Ok-Some.ensures.found) in
     let was : handled.accepted ≡ true = search rules in
-    let told : IsTrue c.is_same.result = search rules in
-    let reply_is : reply_frame frame.version frame.client frame.number handled.reply ≡ c.args.reply.now = sym (c.deref.ensures.value ∙ c.in_ok-spelled.ensures.bytes) ∙ c.is_same.ensures.0 told in
+    let shown : IsTrue c.is_same.result = search rules in
+    let reply_is : reply_frame frame.version frame.client frame.number handled.reply ≡ c.args.reply.now = sym (c.deref.ensures.value ∙ c.in_ok-spelled.ensures.bytes) ∙ c.is_same.ensures.0 shown in
     let same : record_of first frame handled.reply ≡ made first c.args.request.now c.args.reply.now = ap₂ (λ (q r : List ℕ). made first q r) (sym found.1) reply_is in
     subst (λ (it : Record). g.M.Machine.stands setting c.handle-handled.new.self (before ++ it ∷ [])) same
     (subst (λ (b : Bool). g.M.Machine.stands setting c.handle-handled.new.self (extended before first frame handled.reply b)) was (c.handle-handled.ensures.stands setting before first st))
@@ -69,8 +69,8 @@ returns-clause-gave g c = λ setting before first st.
     let frame = c.in-Ok-Some.frame in
     let found = (rw c.in-Ok-Some.field-0-is at c.in-Ok-Some.ensures.found) in
     let was : handled.accepted ≡ true = search rules in
-    let told : IsTrue c.is_same.result = search rules in
-    let reply_is : reply_frame frame.version frame.client frame.number handled.reply ≡ c.args.reply.now = sym (c.deref.ensures.value ∙ c.in_ok-spelled.ensures.bytes) ∙ c.is_same.ensures.0 told in
+    let shown : IsTrue c.is_same.result = search rules in
+    let reply_is : reply_frame frame.version frame.client frame.number handled.reply ≡ c.args.reply.now = sym (c.deref.ensures.value ∙ c.in_ok-spelled.ensures.bytes) ∙ c.is_same.ensures.0 shown in
     let same : record_of first frame handled.reply ≡ made first c.args.request.now c.args.reply.now = ap₂ (λ (q r : List ℕ). made first q r) (sym found.1) reply_is in
     record {
       frame = frame;

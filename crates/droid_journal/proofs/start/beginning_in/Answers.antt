@@ -3,7 +3,7 @@ use Rattle.droid_journal.proofs.Openings.{begun_seen, begun_short, has_header, h
 use Rattle.droid_journal.proofs.start.beginning_in.Goals as goal
 
 pub returns-then-not-is_same-clause-other : goal.returns-then-not-is_same-clause-other
-returns-then-not-is_same-clause-other c = λ told s is.
+returns-then-not-is_same-clause-other c = λ reported s is.
     let header = c.args.header.now in
     let seen = c.args.seen.now in
     let isnt : c.is_same.result ≡ false = search rules in (
@@ -17,7 +17,7 @@ returns-then-seen-header-clause-begins c = λ s is.
     has_header c.args.header.now s c.args.seen.now is c.requires (c.is_same.ensures.0 same)
 
 pub returns-then-not-is_same-2-clause-other : goal.returns-then-not-is_same-2-clause-other
-returns-then-not-is_same-2-clause-other c = λ told s is.
+returns-then-not-is_same-2-clause-other c = λ reported s is.
     let header = c.args.header.now in
     let seen = c.args.seen.now in
     let isnt : c.is_same-2.result ≡ false = search rules in (

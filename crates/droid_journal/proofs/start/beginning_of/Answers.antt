@@ -5,4 +5,4 @@ pub returns-clause-begins : goal.returns-clause-begins
 returns-clause-begins g c = λ s here. c.beginning_in.ensures.begins s (c.in-Ok.ensures.read s here ∙ ap (λ (n : ℕ). take n s) c.requires.window)
 
 pub returns-clause-other : goal.returns-clause-other
-returns-clause-other g c = λ told s here. c.beginning_in.ensures.other told s (c.in-Ok.ensures.read s here ∙ ap (λ (n : ℕ). take n s) c.requires.window)
+returns-clause-other g c = λ reported s here. c.beginning_in.ensures.other reported s (c.in-Ok.ensures.read s here ∙ ap (λ (n : ℕ). take n s) c.requires.window)

@@ -10,6 +10,6 @@ returns-clause-reopened g c = λ setting s synced written here fresh fits front 
     (found.0, (found.2 setting fresh).0, between.0, between.1)) (c.open_by.ensures.opened s here)
 
 pub returns-clause-lawful : goal.returns-clause-lawful
-returns-clause-lawful g c = λ s synced written n here fits front turn none told.
-    let damaged = c.open_by.ensures.damage n told s here in
+returns-clause-lawful g c = λ s synced written n here fits front turn none reported.
+    let damaged = c.open_by.ensures.damage n reported s here in
     lawful c.args.header.now s synced written damaged.its damaged.rest fits front turn none damaged.chain damaged.later

@@ -15,19 +15,19 @@ pub open_begun-requires-clause-count : goal.open_begun-requires-clause-count
 open_begun-requires-clause-count g c = rw c.in-Part.is at c.in-Ok.ensures.part
 
 pub returns-in-Err-clause-damage : goal.returns-in-Err-clause-damage
-returns-in-Err-clause-damage g c = λ n told s here.
+returns-in-Err-clause-damage g c = λ n reported s here.
     let same : c.in-Err.fault ≡ faults.Damage n = cc in
     absurd ((c.in-Err.ensures.others n).0 (ap Err same))
 
 pub returns-in-Err-clause-refuted : goal.returns-in-Err-clause-refuted
-returns-in-Err-clause-refuted g c = λ n told setting s here st.
+returns-in-Err-clause-refuted g c = λ n reported setting s here st.
     let same : c.in-Err.fault ≡ faults.Record n = cc in
     absurd ((c.in-Err.ensures.others n).1 (ap Err same))
 
 pub returns-in-Err-clause-other_header : goal.returns-in-Err-clause-other_header
-returns-in-Err-clause-other_header g c = λ told s here.
+returns-in-Err-clause-other_header g c = λ reported s here.
     let same : c.in-Err.fault ≡ faults.Header = cc in
     c.in-Err.ensures.other (ap Err same) s here
 
 pub returns-in-Whole-clause-other_header : goal.returns-in-Whole-clause-other_header
-returns-in-Whole-clause-other_header g c = λ told s here. absurd (c.open_whole.ensures.others told)
+returns-in-Whole-clause-other_header g c = λ reported s here. absurd (c.open_whole.ensures.others reported)

@@ -24,11 +24,11 @@ returns-clause-opened g c = λ s here.
     )
 
 pub returns-in-Err-clause-damage : goal.returns-in-Err-clause-damage
-returns-in-Err-clause-damage g c = λ n told s here.
+returns-in-Err-clause-damage g c = λ n reported s here.
     let same : c.in-Err.fault ≡ faults.Damage n = cc in
     c.in-Err.ensures.damage n (ap Err same) s here (c.requires.begins s here)
 
 pub returns-in-Err-clause-refuted : goal.returns-in-Err-clause-refuted
-returns-in-Err-clause-refuted g c = λ n told setting s here st.
+returns-in-Err-clause-refuted g c = λ n reported setting s here st.
     let same : c.in-Err.fault ≡ faults.Record n = cc in
     c.in-Err.ensures.refuted n (ap Err same) setting s here (c.requires.begins s here) st

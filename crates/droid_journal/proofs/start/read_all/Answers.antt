@@ -9,17 +9,17 @@ use Rattle.droid_journal.proofs.Openings.{chain_read, counts, no_damage, no_head
 use Rattle.droid_journal.proofs.start.read_all.Goals as goal
 
 pub returns-in-Err-clause-damage : goal.returns-in-Err-clause-damage
-returns-in-Err-clause-damage g c = λ n told s here has.
+returns-in-Err-clause-damage g c = λ n reported s here has.
     let same : c.in-Err.fault ≡ faults.Damage n = cc in
     absurd (no_damage c.in-Err.fault n c.in-Err.ensures.fault same)
 
 pub returns-in-Err-clause-others : goal.returns-in-Err-clause-others
-returns-in-Err-clause-others g c = λ told.
+returns-in-Err-clause-others g c = λ reported.
     let same : c.in-Err.fault ≡ faults.Header = cc in
     no_header c.in-Err.fault c.in-Err.ensures.fault same
 
 pub returns-in-Err-clause-refuted : goal.returns-in-Err-clause-refuted
-returns-in-Err-clause-refuted g c = λ n told setting s here has st.
+returns-in-Err-clause-refuted g c = λ n reported setting s here has st.
     let header = c.args.header.now in
     let same : c.in-Err.fault ≡ faults.Record n = cc in
     let start_is : c.start_of-start.result ≡ first_check header = c.start_of-start.ensures in
@@ -28,7 +28,7 @@ returns-in-Err-clause-refuted g c = λ n told setting s here has st.
     refuted_read g.M.Machine.stands g.M.Machine.gives header s c.args.machine.now from n setting has refl start_is refl failed st
 
 pub returns-then-later-clause-damage : goal.returns-then-later-clause-damage
-returns-then-later-clause-damage g c = λ n told s here has.
+returns-then-later-clause-damage g c = λ n reported s here has.
     let header = c.args.header.now in
     let to = c.in-Ok.to in
     let start_is : c.start_of-start.result ≡ first_check header = c.start_of-start.ensures in

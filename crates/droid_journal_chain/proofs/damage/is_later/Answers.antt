@@ -19,7 +19,7 @@ returns-then-not-is_sealed c = (
   λ is. absurd cc,
   λ later.
       let was = later_sealed c.args.start.now c.args.bytes.now later in
-      let told : IsTrue c.is_sealed.result = c.is_sealed.ensures.1 (subst (λ (t : List ℕ). t ≡ sealed c.args.start.now (take 12 t)) (sym c.split_at.ensures.front) was) in
+      let shown : IsTrue c.is_sealed.result = c.is_sealed.ensures.1 (subst (λ (t : List ℕ). t ≡ sealed c.args.start.now (take 12 t)) (sym c.split_at.ensures.front) was) in
       absurd cc,
 )
 
@@ -29,9 +29,9 @@ returns-in-Some c =
     let x : Answer = (made c.in-Some.found.first c.in-Some.found.request.now c.in-Some.found.reply.now, c.in-Some.found.check, c.in-Some.found.rest.now) in
     let read : record_at c.args.start.now (take 16 bytes) (drop 16 bytes) ≡ Some x =
     ap₂ (λ front behind. record_at c.args.start.now front behind) (sym c.split_at.ensures.front) (sym c.split_at.ensures.back) ∙ c.in-Some.ensures.read in
-    let told : IsTrue c.is_sealed.result = search rules in
+    let shown : IsTrue c.is_sealed.result = search rules in
     let is_sealed : take 16 bytes ≡ sealed c.args.start.now (take 12 (take 16 bytes)) =
-    subst (λ (t : List ℕ). t ≡ sealed c.args.start.now (take 12 t)) c.split_at.ensures.front (c.is_sealed.ensures.0 told) in (
+    subst (λ (t : List ℕ). t ≡ sealed c.args.start.now (take 12 t)) c.split_at.ensures.front (c.is_sealed.ensures.0 shown) in (
       λ first. later_found c.args.start.now bytes x (λ i. omega (arith, c.type_inv.bytes i)) (omega arith) is_sealed read first,
       λ later. later_first c.args.start.now bytes x read later,
     )

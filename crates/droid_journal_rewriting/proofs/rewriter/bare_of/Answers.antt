@@ -5,14 +5,14 @@ use Rattle.droid_journal_rewriting.proofs.rewriter.bare_of.Goals as goal
 
 pub returns-then-is_about-clause-most : goal.returns-then-is_about-clause-most
 returns-then-is_about-clause-most c =
-    let told : c.is_about.result ≡ true = search rules in
+    let shown : c.is_about.result ≡ true = search rules in
     let request = c.args.request.now in
     let reply = c.args.reply.now in
-    omega (arith, ap length c.in_ok-bare.ensures.bytes, bare_piece_long request reply c.requires.header, length-drop 18 reply, c.is_about.ensures.reply told)
+    omega (arith, ap length c.in_ok-bare.ensures.bytes, bare_piece_long request reply c.requires.header, length-drop 18 reply, c.is_about.ensures.reply shown)
 
 pub returns-clause-most : goal.returns-clause-most
 returns-clause-most c =
-    let told : c.is_about-2.result ≡ true = search rules in
+    let shown : c.is_about-2.result ≡ true = search rules in
     let request = c.args.request.now in
     let reply = c.args.reply.now in
-    omega (arith, ap length c.in_ok-bare-2.ensures.bytes, bare_finish_long request reply c.requires.header, length-drop 18 reply, c.is_about-2.ensures.request told, c.is_about-2.ensures.reply told)
+    omega (arith, ap length c.in_ok-bare-2.ensures.bytes, bare_finish_long request reply c.requires.header, length-drop 18 reply, c.is_about-2.ensures.request shown, c.is_about-2.ensures.reply shown)

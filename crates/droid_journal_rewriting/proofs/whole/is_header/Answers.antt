@@ -5,6 +5,6 @@ use Rattle.droid_journal_rewriting.proofs.whole.is_header.Goals as goal
 pub returns-clause-header : goal.returns-clause-header
 returns-clause-header g c = λ s here.
     let seen = c.in-Ok.ensures.read s here ∙ ap (λ (n : ℕ). take n (drop 0 s)) c.requires.room in (
-      λ told. header_there c.args.header.now s _ seen (c.is_same.ensures.0 told),
+      λ reported. header_there c.args.header.now s _ seen (c.is_same.ensures.0 reported),
       λ has. c.is_same.ensures.1 (header_seen c.args.header.now s _ seen has),
     )

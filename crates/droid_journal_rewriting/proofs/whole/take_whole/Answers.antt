@@ -8,8 +8,8 @@ use Rattle.droid_journal_rewriting.proofs.whole.take_whole.Goals as goal
 
 pub returns-clause-whole : goal.returns-clause-whole
 returns-clause-whole g c = λ s here.
-    let told : IsTrue c.in-Ok.has = search rules in
-    let has : HasHeader c.args.header.now s = (c.in-Ok.ensures.header s here).0 told in
+    let shown : IsTrue c.in-Ok.has = search rules in
+    let has : HasHeader c.args.header.now s = (c.in-Ok.ensures.header s here).0 shown in
     let from : Place = record { at = length c.args.header.now; check = c.start_of-start.result; records = 0 } in
     let p = c.in-Ok-take_all.ensures.passes in
     let none : c.in-Ok-count_at.more ≡ 0 = omega arith in (
@@ -20,7 +20,7 @@ returns-clause-whole g c = λ s here.
     )
 
 pub returns-then-more-gt0-clause-behind : goal.returns-then-more-gt0-clause-behind
-returns-then-more-gt0-clause-behind g c = λ n told s here.
+returns-then-more-gt0-clause-behind g c = λ n shown s here.
     let same : c.in-Ok-take_all.to.records ≡ n = cc in
     let yes_has : IsTrue c.in-Ok.has = search rules in
     let has : HasHeader c.args.header.now s = (c.in-Ok.ensures.header s here).0 yes_has in

@@ -19,7 +19,7 @@ returns-then-not-is_carried-clause-taken g c = λ setting header synced all st. 
 
 pub handle-handled-requires : goal.handle-handled-requires
 handle-handled-requires g c =
-    let told : c.is_carried.result ≡ true = search rules in
+    let shown : c.is_carried.result ≡ true = search rules in
     record {
       readable = record {
         is_frame = record {
@@ -27,10 +27,10 @@ handle-handled-requires g c =
           kind_fits = omega arith;
           client_fits = omega arith;
           number_fits = omega arith;
-          body_fits = c.is_carried.ensures.body told;
+          body_fits = c.is_carried.ensures.body shown;
           body_is_bytes = c.is_carried.ensures.bytes;
         };
-        version_is = c.is_carried.ensures.version told;
+        version_is = c.is_carried.ensures.version shown;
       };
       mark = c.mark-mark.ensures ∙ ap (mark_of c.args.frame.kind) c.as_slice.ensures.value;
     }

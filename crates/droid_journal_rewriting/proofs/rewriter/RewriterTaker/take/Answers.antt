@@ -8,17 +8,17 @@ use Rattle.droid_journal_rewriting.proofs.rewriter.RewriterTaker.take.Goals as g
 
 pub returns-then-has-clause-took : goal.returns-then-has-clause-took
 returns-then-has-clause-took g c = λ aim before first st.
-    let told : c.has.result ≡ true = search rules in
+    let shown : c.has.result ≡ true = search rules in
     again g.N.LogFile.has aim c.args.self.now before (made first c.args.request.now c.args.reply.now) st
-    (ap (has_number c.args.self.now.stamps) (sym c.stamp_of-stamp.ensures) ∙ sym c.has.ensures ∙ told)
+    (ap (has_number c.args.self.now.stamps) (sym c.stamp_of-stamp.ensures) ∙ sym c.has.ensures ∙ shown)
 
 pub returns-then-len-lt-COLLECTED-clause-took : goal.returns-then-len-lt-COLLECTED-clause-took
 returns-then-len-lt-COLLECTED-clause-took g c = λ aim before first st.
     let self = c.args.self.now in
-    let told : c.has.result ≡ false = search rules in
+    let shown : c.has.result ≡ false = search rules in
     let one : List ℕ = record_bytes self.start self.check (made true (smaller_request (has_number self.ended) c.args.request.now c.args.reply.now) c.args.reply.now) in
     wrote g.N.LogFile.has aim self _ before first c.args.request.now c.args.reply.now st
-    (ap (has_number self.stamps) (sym c.stamp_of-stamp.ensures) ∙ sym c.has.ensures ∙ told)
+    (ap (has_number self.stamps) (sym c.stamp_of-stamp.ensures) ∙ sym c.has.ensures ∙ shown)
     (λ n. c.in-Ok.ensures n ∙ ap (λ (k : ℕ). eqb k n || has_number self.stamps n) c.stamp_of-stamp.ensures)
     refl refl c.in-Ok-spell.ensures.check c.in-Ok-spell.ensures.fits st.written st.there (search rules) st.bytes_are
     (ap (λ (t : List ℕ). st.written ++ t) c.in-Ok-spell.ensures.bytes ∙ sym (append_assoc st.written self.out.items one))
@@ -26,11 +26,11 @@ returns-then-len-lt-COLLECTED-clause-took g c = λ aim before first st.
 pub returns-clause-took : goal.returns-clause-took
 returns-clause-took g c = λ aim before first st.
     let self = c.args.self.now in
-    let told : c.has.result ≡ false = search rules in
+    let shown : c.has.result ≡ false = search rules in
     let one : List ℕ = record_bytes self.start self.check (made true (smaller_request (has_number self.ended) c.args.request.now c.args.reply.now) c.args.reply.now) in
     let all : List ℕ = st.written ++ c.spell.new.out.items in
     wrote g.N.LogFile.has aim self _ before first c.args.request.now c.args.reply.now st
-    (ap (has_number self.stamps) (sym c.stamp_of-stamp.ensures) ∙ sym c.has.ensures ∙ told)
+    (ap (has_number self.stamps) (sym c.stamp_of-stamp.ensures) ∙ sym c.has.ensures ∙ shown)
     (λ n. c.in-Ok.ensures n ∙ ap (λ (k : ℕ). eqb k n || has_number self.stamps n) c.stamp_of-stamp.ensures)
     refl refl c.in-Ok-spell.ensures.check c.in-Ok-spell.ensures.fits all (c.in-Ok-flush.ensures.written st.written st.there) (search rules)
     (omega (arith, c.in-Ok-flush.ensures.bytes, st.bytes_are, length-append st.written c.spell.new.out.items))

@@ -36,17 +36,17 @@ pub returns-in-Err-clause-kept : goal.returns-in-Err-clause-kept
 returns-in-Err-clause-kept g c = c.in-Err.ensures.kept
 
 pub returns-in-Err-clause-lawful : goal.returns-in-Err-clause-lawful
-returns-in-Err-clause-lawful g c = λ n setting s synced all here left told.
-    c.in-Err.ensures.lawful s left.first left.written n here left.fit left.front left.turn left.later (ap Err told)
+returns-in-Err-clause-lawful g c = λ n setting s synced all here left reported.
+    c.in-Err.ensures.lawful s left.first left.written n here left.fit left.front left.turn left.later (ap Err reported)
 
 pub returns-in-Err-clause-damage : goal.returns-in-Err-clause-damage
-returns-in-Err-clause-damage g c = λ n s here told. c.in-Err.ensures.damage n (ap Err told) s here
+returns-in-Err-clause-damage g c = λ n s here reported. c.in-Err.ensures.damage n (ap Err reported) s here
 
 pub returns-in-Err-clause-refuted : goal.returns-in-Err-clause-refuted
-returns-in-Err-clause-refuted g c = λ n setting s fresh here told.
+returns-in-Err-clause-refuted g c = λ n setting s fresh here reported.
     let start : Start = record { setting = setting; base = no_base setting } in
     let stands : StandsForRecords setting (no_base setting) c.args.fresh [] = record { history = []; its = no_history setting; stands = fresh } in
-    c.in-Err.ensures.refuted n (ap Err told) start s here stands
+    c.in-Err.ensures.refuted n (ap Err reported) start s here stands
 
 pub returns-in-Err-clause-other_header : goal.returns-in-Err-clause-other_header
-returns-in-Err-clause-other_header g c = λ s here told. c.in-Err.ensures.other_header (ap Err told) s here
+returns-in-Err-clause-other_header g c = λ s here reported. c.in-Err.ensures.other_header (ap Err reported) s here

@@ -60,34 +60,34 @@ returns-in-Ok-clause-small g c = λ setting s synced all limits of here left bar
     IfOk-weaker c.revived.result _ _ (λ o none. some_there o (λ is. none is (bare_front left.first opened.0 opened.2 bare))) (c.revived.ensures.whole recovery c.args.header.now opened.0 opened.1)
 
 pub returns-in-Ok-clause-lawful : goal.returns-in-Ok-clause-lawful
-returns-in-Ok-clause-lawful g c = λ n setting s synced all here left told. let is = only_memory c.revived.result (faults.Damage n) c.revived.ensures.fault told in absurd cc
+returns-in-Ok-clause-lawful g c = λ n setting s synced all here left reported. let is = only_memory c.revived.result (faults.Damage n) c.revived.ensures.fault reported in absurd cc
 
 pub returns-in-Ok-clause-damage : goal.returns-in-Ok-clause-damage
-returns-in-Ok-clause-damage g c = λ n told s here. let is = only_memory c.revived.result (faults.Damage n) c.revived.ensures.fault told in absurd cc
+returns-in-Ok-clause-damage g c = λ n reported s here. let is = only_memory c.revived.result (faults.Damage n) c.revived.ensures.fault reported in absurd cc
 
 pub returns-in-Ok-clause-refuted : goal.returns-in-Ok-clause-refuted
-returns-in-Ok-clause-refuted g c = λ n told setting bare s limits of here. let is = only_memory c.revived.result (faults.Record n) c.revived.ensures.fault told in absurd cc
+returns-in-Ok-clause-refuted g c = λ n reported setting bare s limits of here. let is = only_memory c.revived.result (faults.Record n) c.revived.ensures.fault reported in absurd cc
 
 pub returns-in-Ok-clause-other_header : goal.returns-in-Ok-clause-other_header
-returns-in-Ok-clause-other_header g c = λ told s here. let is = only_memory c.revived.result faults.Header c.revived.ensures.fault told in absurd cc
+returns-in-Ok-clause-other_header g c = λ reported s here. let is = only_memory c.revived.result faults.Header c.revived.ensures.fault reported in absurd cc
 
 pub returns-in-Err-clause-lawful : goal.returns-in-Err-clause-lawful
-returns-in-Err-clause-lawful g c = λ n setting s synced all here left told.
+returns-in-Err-clause-lawful g c = λ n setting s synced all here left reported.
     let same : c.in-Err.fault ≡ faults.Damage n = cc in
     c.in-Err.ensures.lawful s left.first left.written n here left.fit left.front left.turn left.later (ap Err same)
 
 pub returns-in-Err-clause-damage : goal.returns-in-Err-clause-damage
-returns-in-Err-clause-damage g c = λ n told s here.
+returns-in-Err-clause-damage g c = λ n reported s here.
     let same : c.in-Err.fault ≡ faults.Damage n = cc in
     c.in-Err.ensures.damage n (ap Err same) s here
 
 pub returns-in-Err-clause-refuted : goal.returns-in-Err-clause-refuted
-returns-in-Err-clause-refuted g c = λ n told setting bare s limits of here.
+returns-in-Err-clause-refuted g c = λ n reported setting bare s limits of here.
     let stands : ReadsRecords (record { setting = setting; bare = bare }) c.in_ok-reader.reader [] = c.in_ok-reader.ensures.empty (record { setting = setting; bare = bare }) limits of in
     let same : c.in-Err.fault ≡ faults.Record n = cc in
     c.in-Err.ensures.refuted n (ap Err same) (record { setting = setting; bare = bare }) s here stands
 
 pub returns-in-Err-clause-other_header : goal.returns-in-Err-clause-other_header
-returns-in-Err-clause-other_header g c = λ told s here.
+returns-in-Err-clause-other_header g c = λ reported s here.
     let same : c.in-Err.fault ≡ faults.Header = cc in
     c.in-Err.ensures.other_header (ap Err same) s here

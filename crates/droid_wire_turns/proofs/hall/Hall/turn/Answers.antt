@@ -1,8 +1,8 @@
 use Rattle.std.proofs.Common.{Bool, refl, ◌∙◌, subst}
 use Rattle.std.proofs.lemmas.Bool.{false≢true}
-use Rattle.droid_wire_turns.specs.Events.{Told}
+use Rattle.droid_wire_turns.specs.Events.{Timed}
 use Rattle.droid_wire_turns.proofs.Moments.{moves_one}
-use Rattle.droid_wire_turns.proofs.HallSteps.{failed_turn, heard_turn, leads_telling_time, settled_turn}
+use Rattle.droid_wire_turns.proofs.HallSteps.{failed_turn, heard_turn, leads_timed, settled_turn}
 use Rattle.droid_wire_turns.proofs.hall.Hall.turn.Goals as goal
 
 -- it failed to settle
@@ -23,7 +23,7 @@ returns-then-not-settled-clause-goes g c =
     failed_turn g.C.Connections.does g.H.Handler.handles g.H.Handler.settles rules one.time old three four c.args.connections.now c.hear_all.new.connections c.close_all.new.connections c.args.handler.now c.hear_all.new.handler c.settle-settled.new.self
     (c.hear_all.ensures.now ∙ c.admit.ensures.now) c.close_all.ensures.none refl
     (heard_turn g.C.Connections.does g.H.Handler.handles g.H.Handler.settles rules old one two three c.args.connections.now c.now-self.new.self c.admit.new.connections c.hear_all.new.connections c.args.handler.now c.hear_all.new.handler
-    (moves_one g.C.Connections.does c.args.connections.now c.now-self.new.self (Told c.now-self.result) _ c.now-self.ensures refl) (leads_telling_time rules old.time old one refl refl refl refl)
+    (moves_one g.C.Connections.does c.args.connections.now c.now-self.new.self (Timed c.now-self.result) _ c.now-self.ensures refl) (leads_timed rules old.time old one refl refl refl refl)
     c.admit.ensures.moves (c.hear_all.ensures.goes rules) c.admit.ensures.now)
     (subst (λ (b : Bool). g.H.Handler.settles c.hear_all.new.handler b c.settle-settled.new.self) c.if-not-settled.true c.settle-settled.ensures)
     c.close_all.ensures.moves
@@ -35,12 +35,12 @@ returns-clause-goes g c =
     let one = record old { time = c.now-self.result } in
     let two = c.admit.new.self in
     let three = c.hear_all.new.self in
-    let four = c.tell_all.new.self in
+    let four = c.write_out_all.new.self in
     let rules = c.args.rules in
-    settled_turn g.C.Connections.does g.H.Handler.handles g.H.Handler.settles rules one.time old three four c.args.connections.now c.hear_all.new.connections c.tell_all.new.connections c.args.handler.now c.hear_all.new.handler c.settle-settled.new.self
-    (c.hear_all.ensures.now ∙ c.admit.ensures.now) c.tell_all.ensures.now
+    settled_turn g.C.Connections.does g.H.Handler.handles g.H.Handler.settles rules one.time old three four c.args.connections.now c.hear_all.new.connections c.write_out_all.new.connections c.args.handler.now c.hear_all.new.handler c.settle-settled.new.self
+    (c.hear_all.ensures.now ∙ c.admit.ensures.now) c.write_out_all.ensures.now
     (heard_turn g.C.Connections.does g.H.Handler.handles g.H.Handler.settles rules old one two three c.args.connections.now c.now-self.new.self c.admit.new.connections c.hear_all.new.connections c.args.handler.now c.hear_all.new.handler
-    (moves_one g.C.Connections.does c.args.connections.now c.now-self.new.self (Told c.now-self.result) _ c.now-self.ensures refl) (leads_telling_time rules old.time old one refl refl refl refl)
+    (moves_one g.C.Connections.does c.args.connections.now c.now-self.new.self (Timed c.now-self.result) _ c.now-self.ensures refl) (leads_timed rules old.time old one refl refl refl refl)
     c.admit.ensures.moves (c.hear_all.ensures.goes rules) c.admit.ensures.now)
     (subst (λ (b : Bool). g.H.Handler.settles c.hear_all.new.handler b c.settle-settled.new.self) c.if-not-settled.false c.settle-settled.ensures)
-    (c.tell_all.ensures.moves rules refl)
+    (c.write_out_all.ensures.moves rules refl)

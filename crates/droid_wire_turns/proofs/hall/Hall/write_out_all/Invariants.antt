@@ -1,8 +1,8 @@
 use Rattle.std.specs.Prelude.{◌≡◌, length}
-use Rattle.droid_wire_turns.specs.Halls.{HasRooms, Heard, IsTelling, LeadsInTurn, Served}
+use Rattle.droid_wire_turns.specs.Halls.{HasRooms, Heard, IsWriting, LeadsInTurn, Served}
 use Rattle.droid_wire_turns.specs.Steps.{Moves}
 use Rattle.droid_wire_turns.specs.declared.rules.Rules.{Rules}
-use Rattle.droid_wire_turns.proofs.hall.Hall.tell_all.Given as goal
+use Rattle.droid_wire_turns.proofs.hall.Hall.write_out_all.Given as goal
 
 abbrev pub invariant-loop-peer : goal.invariant-loop-peer
 invariant-loop-peer g l = record {
@@ -10,7 +10,7 @@ invariant-loop-peer g l = record {
   time : l.self.time ≡ l.fn.self.time;
   opened : l.self.opened ≡ l.fn.self.opened;
   moves : (rules : Rules) → rules.idle ≡ l.idle → Moves g.C.Connections.does l.fn.connections l.connections
-      (LeadsInTurn rules IsTelling (Served rules.idle l.fn.self.time) (Heard l.fn.self.time) (Served rules.idle l.fn.self.time) (Heard l.fn.self.time) l.fn.self l.self);
+      (LeadsInTurn rules IsWriting (Served rules.idle l.fn.self.time) (Heard l.fn.self.time) (Served rules.idle l.fn.self.time) (Heard l.fn.self.time) l.fn.self l.self);
 }
 
 abbrev pub decreases-loop-peer : goal.decreases-loop-peer
