@@ -66,7 +66,7 @@ const NO_CHECKSUMS: &str =
 const ONE_AT_A_TIME: &str =
     "the options '--idle <SECONDS>', '--forever' and '--verbose' need '--at-once <N>'";
 
-/// The error for a number of connections beside no end.
+/// The error for `--connections` beside `--forever`.
 const NO_END: &str = "the options '--forever' and '--connections <K>' cannot be used together";
 
 /// The error for two registries.
@@ -90,7 +90,7 @@ pub enum Asked<'a> {
     Script {
         registry: RegistrySource<'a>,
     },
-    /// Answer the frames of standard input. What is accepted is kept in the file `journal`, if one is named.
+    /// Answer the frames of standard input. The file `journal`, if one is named, keeps what is accepted.
     Run {
         registry: RegistrySource<'a>,
         journal: Option<&'a str>,
@@ -115,7 +115,7 @@ pub enum Asked<'a> {
         client: u32,
         first: u64,
     },
-    /// Make the journal in this file smaller. With `quiet` nothing is printed of it.
+    /// Make the journal in this file smaller. With `quiet` nothing is printed.
     Compact {
         registry: RegistrySource<'a>,
         file: &'a str,
@@ -126,9 +126,9 @@ pub enum Asked<'a> {
 /// Reads the words of a command line, the program's own name first. The error has what to print, and the exit status.
 pub fn what_is_asked<'a>(alloc: Global, words: &'a [String]) -> Result<Asked<'a>, NoCommand>
     ensures asks { IfOk result (λ asked. WordsAsk (map string_bytes words.entry.now) asked) }
-    // The words have no fault: each option is known, and each number is in its range.
+    // The words are valid: each option is known, and each number is in its range.
     ensures taken { IfOk result (λ _. fault_of program (map string_bytes words.entry.now) ≡ []) }
-    // Such words that ask for something are not refused.
+    // Valid words that ask for something are not refused.
     ensures refused { IfErr result (RefusesWords (map string_bytes words.entry.now)) }
 {
     match asked_of_program(alloc, words) {

@@ -18,7 +18,7 @@ pub(crate) const FOREVER: &str = "forever";
 
 pub(crate) const VERBOSE: &str = "verbose";
 
-/// After how many seconds an idle connection is closed by default.
+/// The default number of seconds after which an idle connection is closed.
 const DEFAULT_IDLE: u32 = 60;
 
 /// How `serve` serves many connections at once.
@@ -26,9 +26,9 @@ const DEFAULT_IDLE: u32 = 60;
 pub struct ManyOptions {
     /// The most connections that are open at once.
     pub seats: u32,
-    /// How many connections are served. `None`: there is no end.
+    /// How many connections are served. `None`: no limit.
     pub connections: Option<u32>,
-    /// A connection is closed after this many seconds in which no byte of it came and it took none.
+    /// A connection is closed after this many seconds without a byte in either direction.
     pub idle: u32,
     /// Print a line for each connection that ended, and one a minute.
     pub verbose: bool,
@@ -62,7 +62,7 @@ fn none_given(seats: Option<&str>, forever: bool, idle: Option<&str>, verbose: b
     }
 }
 
-/// Reads the options. They are none without `--at-once`, or if both `--forever` and `--connections` are given.
+/// Reads the options. `None` without `--at-once`, or if both `--forever` and `--connections` are given.
 pub(crate) fn many_options(serve: &ArgMatches<'_>) -> Option<ManyOptions>
     ensures { Reads result (IsMany (rows_of (found_of serve.now))) }
 {
@@ -78,7 +78,7 @@ pub(crate) fn many_options(serve: &ArgMatches<'_>) -> Option<ManyOptions>
     })
 }
 
-/// Reads how many connections are served. `--forever` and `--connections` together say nothing.
+/// Reads how many connections are served. `None` if both `--forever` and `--connections` are given.
 fn count_of(serve: &ArgMatches<'_>) -> Option<Option<u32>>
     ensures { Reads result (IsCount (rows_of (found_of serve.now))) }
 {

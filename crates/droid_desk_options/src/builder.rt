@@ -7,7 +7,7 @@ ghost use Rattle.droid_desk_options.specs.Made.{Makes};
 use clap::{Arg, Command};
 use std::alloc::{AllocError, Global};
 
-/// A command that is being made, or that could not be: then memory ran out.
+/// A command that is being made. It is an error after memory ran out.
 #[derive(Drop)]
 pub struct Builder<'a> {
     /// The command so far.
@@ -23,7 +23,7 @@ impl<'a> Builder<'a> {
         Builder { made: Ok(command) }
     }
 
-    /// Adds an option or a word.
+    /// Adds an option or a positional argument.
     pub fn option(self, option: Arg<'a>) -> Builder<'a>
         ensures { (app : App) (rule : Rule) → Makes app self.entry.made → rule_of option.entry ≡ rule → option.entry.global ≡ false
             → Makes (with_rule app rule) result.made }
@@ -32,7 +32,7 @@ impl<'a> Builder<'a> {
         Builder { made }
     }
 
-    /// Adds a command below this one.
+    /// Adds a subcommand.
     pub fn command(self, below: Result<Command<'a>, AllocError>) -> Builder<'a>
         ensures { (app : App) (low : App) → Makes app self.entry.made → Makes low below.entry → Makes (with_subcommand app low.top) result.made }
     {

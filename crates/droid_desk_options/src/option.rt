@@ -50,7 +50,7 @@ pub fn client<'a>(alloc: Global, help: &'a str) -> Arg<'a>
     number(alloc, CLIENT, "C", help, 0, 4_294_967_295).required(true)
 }
 
-/// Makes the word for the folder.
+/// Makes the positional argument for the folder.
 pub fn folder<'a>(alloc: Global, help: &'a str) -> Arg<'a>
     ensures rule { rule_of result ≡ folder_word }
     ensures local { result.global ≡ false }
@@ -58,7 +58,7 @@ pub fn folder<'a>(alloc: Global, help: &'a str) -> Arg<'a>
     word(alloc, FOLDER, "DIR", help)
 }
 
-/// Makes a word that stands by itself, and must be there.
+/// Makes a required positional argument.
 pub fn word<'a>(alloc: Global, name: &'a str, value: &'a str, help: &'a str) -> Arg<'a>
     ensures rule { rule_of result ≡ word_named name.entry.now }
     ensures local { result.global ≡ false }

@@ -1,4 +1,4 @@
-//! What the bytes of a signature file become.
+//! Making a registry, its note and its report from the bytes of a signature file.
 
 ghost use Rattle.std.specs.Prelude.{◌≡◌, IfOk, string_bytes};
 ghost use Rattle.droid_desk_registry.specs.Conversions as spec;
@@ -13,7 +13,7 @@ use droid_signature::{
 use md5::{Digest, Md5};
 use std::alloc::{AllocError, Global};
 
-/// The registry of a signature file, and what is said of it.
+/// The registry of a signature file, and its note and report.
 #[derive(Drop)]
 pub struct Conversion {
     /// The registry file.
@@ -45,7 +45,7 @@ pub fn conversion_of(alloc: Global, quiet: bool, bytes: &[u8]) -> Result<Convers
     }
 }
 
-/// Adds what is said of a registry.
+/// Adds the note and the report of a registry.
 fn described(
     alloc: Global,
     quiet: bool,

@@ -1,4 +1,4 @@
-//! The command `registry`: makes a registry file of PRONOM's own signature file.
+//! The command `registry`: makes a registry file from PRONOM's own signature file.
 //!
 //! [`convert_file`] is the command over any [`Places`]; [`registry_command`] runs it on this machine.
 #![tactic(auto)]

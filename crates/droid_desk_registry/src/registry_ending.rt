@@ -21,9 +21,9 @@ pub enum RegistryEnding {
     LongRegistry,
     /// Out of memory, before anything was written.
     NoMemory,
-    /// The registry could not be put in its place.
+    /// The registry could not be written.
     NoRegistry(Unput),
-    /// The registry is in its place, and the note beside it is not.
+    /// The registry was written, but not the note beside it.
     NoNote(Unput),
 }
 

@@ -28,12 +28,12 @@ pub enum Unread {
     Memory,
 }
 
-/// Why a part could not be put in its place.
+/// Why a part could not be written.
 #[derive(Clone, Copy)]
 pub enum Unput {
     /// It would replace the signature file.
     SameFile,
-    /// No file could be created, or it could not be put in its place.
+    /// No file could be created, or it could not get its name.
     Refused,
     /// It could not be written.
     Unwritten,
@@ -51,8 +51,7 @@ pub trait Places {
         ensures got { IfOk result (λ bytes. does self.old (Got bytes.items) self.new) }
         ensures none { IfErr result (λ why. does self.old (GotNone why) self.new) };
 
-    /// Puts a part in its place, whole. If that fails, what was there before stays. The note has a place only beside a
-    /// file.
+    /// Writes a part whole. If that fails, what was there before stays. The note is written only beside a registry file.
     fn put(&mut self, part: Part, bytes: &[u8]) -> Result<(), Unput>
         ensures put { OnOk result (does self.old (Put part bytes.now) self.new) }
         ensures none { IfErr result (λ why. does self.old (PutNone part bytes.now why) self.new) };

@@ -1,4 +1,4 @@
-//! What standard error says of a registry.
+//! The report on a registry, for standard error.
 
 ghost use Rattle.std.specs.Prelude.{◌≡◌, Some, flat_map};
 ghost use Rattle.std.specs.Fmt.{WritesOnOk};
@@ -46,7 +46,7 @@ impl Display for NoteLine<'_> {
     }
 }
 
-/// What is printed of a registry.
+/// The report on a registry.
 #[derive(Clone, Copy)]
 pub(crate) struct RegistryReport<'a> {
     /// Whether the numbers alone are printed.
@@ -78,7 +78,7 @@ impl Display for RegistryReport<'_> {
     }
 }
 
-/// How much a registry has, how much it has not, and which it is.
+/// How much a registry has, how much was left out, and its MD5.
 #[derive(Clone, Copy)]
 struct Numbers<'a> {
     file: &'a SignatureFile,

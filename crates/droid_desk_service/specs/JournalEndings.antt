@@ -25,7 +25,7 @@ use Rattle.droid_wire.specs.turn_types.rules.Rules.{Rules}
 use Rattle.droid_wire.specs.turn_types.service_end.Served.{Served}
 use Rattle.droid_wire.specs.turn_types.service_end.Served.TheVariants as ways
 
--- connections one by one, so many of them, each for as long as it stays
+-- this many connections, one at a time, each for as long as it stays
 abbrev pub rules_one_by_one : ℕ → Rules
 rules_one_by_one count = record { seats = 1; total = Some count; idle = 18446744073709551615 }
 

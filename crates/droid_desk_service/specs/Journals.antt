@@ -48,7 +48,7 @@ pub record IsOpened {F : Type 0} (has : F → List ℕ → Type 0) (kept : F →
   pub found : WasFound header file its
   pub stands : StandsForWhole has kept setting header its journal ⊎ (HasBare its × StandsForSmall has kept setting header its journal)
 
--- behind so many records of the file a later one shows that it was damaged
+-- behind this many records of the file a later one shows that it was damaged
 pub record IsDamaged (registry file : List ℕ) (count : ℕ) : Type 0 where
   pub header : List ℕ
   pub is_of : IsHeaderOf registry header

@@ -32,7 +32,7 @@ pub record AreSizesOf (registry file : List ℕ) (before after : Size) : Type 0 
   pub is_of : IsHeaderOf registry header
   pub sizes : AreSizes header file before after
 
--- bytes stand behind so many whole records of the journal in the file
+-- there are bytes behind this many whole records of the journal in the file
 pub record HasBytesBehind (registry file : List ℕ) (count : ℕ) : Type 0 where
   pub header : List ℕ
   pub is_of : IsHeaderOf registry header

@@ -15,7 +15,7 @@ use droid_lines_send::{SendFault, send};
 use droid_wire::Client;
 use std::alloc::Global;
 
-/// Sends the requests of lines under numbers from `first` on, and returns how the program ends by that.
+/// Sends the requests of lines under numbers from `first` on, and returns how the program ends.
 pub fn send_lines<L: SteadyRead, R: SteadyRead, F: SteadyWrite, T: SteadyWrite>(
     alloc: Global,
     client: u32,

@@ -13,14 +13,14 @@ use droid_desk_arguments::RegistrySource;
 use droid_pronom::RegistryFault;
 use std::io::{self, ErrorKind};
 
-/// How a command ended, and what the sentence behind its fault speaks of.
+/// How a command ended, and what the sentence behind its fault names.
 #[derive(Drop)]
 pub struct Ended<'a> {
     /// How it ended.
     pub ending: Ending,
     /// What the command used.
     pub used: Used<'a>,
-    /// Why a file could not be opened, or a port not be used, if that ended the command.
+    /// The system's error for a file that could not be opened or a port that could not be used, if that ended the command.
     pub cause: Option<ErrorKind>,
 }
 

@@ -102,7 +102,7 @@ where
     }
 }
 
-/// Listens on a port, prints so, and serves this many connections.
+/// Listens on a port, prints `listening`, and serves this many connections.
 fn serve_port<'a, R>(rt: &R, service: &mut Service, port: u16, connections: u32) -> Ended<'a>
 where
     R: Print + AllocGlobal + Net<Listener = TcpListener, Stream = TcpStream>,
@@ -149,7 +149,7 @@ fn send_over<R: Input + Print + AllocGlobal>(
 ) -> Ending
     requires { first < 2 ^ 63 }
 {
-    // A request's frame is two writes, and its reply is waited for: don't delay the second.
+    // A request's frame is two writes, and the client waits for the reply: the system should not delay the second write.
     let _ = stream.set_nodelay(true);
     let Ok(replies) = BufReader::new(rt.alloc(), stream) else {
         return Ending::Send(SendFault::Memory);

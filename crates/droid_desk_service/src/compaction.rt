@@ -26,7 +26,7 @@ struct Sizes {
     after: Size,
 }
 
-/// Makes the journal at a path smaller. With `quiet` it is not printed how large it was and is.
+/// Makes the journal at a path smaller. Without `quiet` it prints the size before and after.
 pub fn compact_command<'a, R>(
     rt: &'a R,
     source: RegistrySource<'a>,
@@ -49,8 +49,8 @@ where
     }
 }
 
-/// Makes the journal at a path smaller. If there is none, none is made. By their check values its records are those that were
-/// written. What stands behind them is cut off, or reported as damage, by opening the journal as `serve` does.
+/// Makes the journal at a path smaller, if there is one. The check values show that its records are those that were written.
+/// Bytes behind them are cut off or reported as damage by opening the journal as `serve` does.
 fn compact_journal<'a, R>(
     rt: &'a R,
     source: RegistrySource<'a>,
@@ -102,8 +102,8 @@ where
     put_smaller(rt, path, journal.file(), registry)
 }
 
-/// Returns whether a journal has to be opened to find out what is wrong with it, or to mend it: it has no whole header, or bytes
-/// behind its records.
+/// Returns whether a journal has to be opened to report or mend what is wrong with it: it has no whole header, or bytes behind
+/// its records.
 fn needs_opening(fault: JournalFault) -> bool {
     matches!(
         fault,
@@ -111,8 +111,8 @@ fn needs_opening(fault: JournalFault) -> bool {
     )
 }
 
-/// Reads this registry, and opens the journal at a path over a new service with it. A large journal is made smaller before, if
-/// most of it is of files that have ended. Where that fails it is served as it is.
+/// Reads this registry, and opens the journal at a path over a new service with it. First makes a large journal smaller, if
+/// most of it is of files that have ended. If that fails, the journal is served as it is.
 pub(crate) fn light_journal_for<'a, R>(
     rt: &'a R,
     source: RegistrySource<'a>,
@@ -140,7 +140,7 @@ where
     journal_for(rt, source, path)
 }
 
-/// Makes a large journal smaller, if most of it is of files that have ended. Returns whether it is as it was.
+/// Makes a large journal smaller, if most of it is of files that have ended. Returns whether it is unchanged.
 fn is_as_it_was<R>(rt: &R, path: &str, journal: &MachineJournal<'_, R>, registry: &[u8]) -> bool
 where
     R: Files<File = File> + Eprint + AllocGlobal,
@@ -172,7 +172,7 @@ fn is_large<R: Files>(rt: &R, path: &str) -> bool {
     }
 }
 
-/// Writes the journal in an open file anew beside it, and gives the smaller one its name. If that fails no other file is left.
+/// Writes the smaller journal beside an open file, and gives it the name of that file. If that fails, no other file is left.
 fn put_smaller<R>(
     rt: &R,
     path: &str,

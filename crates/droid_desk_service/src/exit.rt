@@ -29,7 +29,7 @@ pub enum Ending {
     Send(SendFault),
     /// Listening on a port, connecting to one or accepting a connection failed.
     Socket,
-    /// The journal could not be opened, or answers nothing more.
+    /// The journal could not be opened, or handles no further request.
     Journal(JournalFault),
     /// Some line was bad.
     BadLine,
@@ -69,7 +69,7 @@ fn print_fault<R: Eprint>(rt: &R, name: &str) -> io::Result<()> {
     eprintln!(rt; "fault: {name}")
 }
 
-/// Says how the program ends once all lines were handled.
+/// Returns how the program ends after all lines were handled.
 pub fn after_lines(tally: Tally) -> Ending
     ensures { result ≡ after_lines tally }
 {

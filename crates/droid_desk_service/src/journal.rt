@@ -18,7 +18,7 @@ use md5::{Digest, Md5};
 use std::alloc::{AllocError, Global};
 use std::num::NonZeroUsize;
 
-/// How many replies a service caches that is made from a journal that was made small.
+/// How many replies a service caches, if it is made from a journal that was made small.
 const CACHED: usize = 256;
 
 /// The first lines of a journal: what it is, and the limits of the service that wrote it.
@@ -27,7 +27,7 @@ droid_desk journal 3
 64 profiles, 100000 nodes, 64 unfinished files
 ";
 
-/// Spells what the header of a journal begins with: its first lines, and the MD5 of the registry's bytes.
+/// Spells the fixed part of a journal's header: its first lines, and the MD5 of the registry's bytes.
 pub(crate) fn header_text(alloc: Global, registry: &[u8]) -> Result<Vec<u8>, AllocError>
     ensures text { IfOk result (λ text. text.items ≡ header_text registry.now) }
     ensures size { IfOk result (λ text. length text.items ≤ 4080) }
@@ -47,11 +47,11 @@ fn digest_of(bytes: &[u8]) -> [u8; 16]
     hasher.finalize()
 }
 
-/// Makes a service from the records of a journal's file, whose header has the MD5 of these bytes of a registry; `service`
-/// has that registry and has accepted nothing yet. An empty file is made a journal; `random` then ends its header. A journal
-/// that was made small is opened too.
+/// Makes a service from the records of a journal, whose header has the MD5 of these bytes of a registry. `service` has that
+/// registry, and has accepted nothing yet. An empty file gets a header, with the bytes of `random` at its end. Opens a journal
+/// that was made small, too.
 ///
-/// Nothing is written or cut before everything was read and found right.
+/// Nothing is written or cut off before the whole file was read and found right.
 pub fn open_journal<F: LogFile + Drop>(
     alloc: Global,
     file: F,
@@ -60,17 +60,17 @@ pub fn open_journal<F: LogFile + Drop>(
     service: Service,
 ) -> Result<ServiceJournal<F>, Fault>
     requires found { F.is_found file }
-    // What is kept of a file that has such a header was written by a journal.
+    // If the file has such a header, its bytes on the disk were written by a journal.
     requires kept { (s header : List ℕ) → F.has file s → IsHeaderOf registry.now header → HasHeader header s → IsKept header (F.kept file) }
     ensures fault { IfOk result (λ it. it.journal.fault ≡ None) }
-    // The service stands for the history of the records in the file, or for each history that they have, if some of them
-    // have no bytes.
+    // The service has the history of the records in the file, or each history that they have, if some of them lack their
+    // bytes.
     ensures opened { (setting : Setting) (s : List ℕ) → StandsFor setting service [] → IsSettingFor registry.now setting → F.has file s → IfOk result (λ it. IsOpened F.has F.kept registry.now setting s it.journal) }
-    // After a crash it stands for a history that goes on from the one on the disk and is the first of the one that was
-    // accepted. So whoever holds a reply that was sent gets it again.
+    // After a crash its history begins with the one on the disk, and is a prefix of the accepted one. So a client that got a
+    // reply gets it again.
     ensures reopened { (setting : Setting) (s header : List ℕ) (synced all : History) → StandsFor setting service [] → IsSettingFor registry.now setting → F.has file s → IsHeaderOf registry.now header → IsLeft setting header s synced all
         → IfOk result (λ it. (history : History) × StandsForHistory F.has F.kept setting header it.journal history history × IsBetween synced history all) }
-    // A crash is not taken for damage, nor for another registry.
+    // A crash is reported neither as damage nor as another registry.
     ensures lawful { (n : ℕ) (setting : Setting) (s header : List ℕ) (synced all : History) → F.has file s → IsHeaderOf registry.now header → IsLeft setting header s synced all → IsErrOf result (Fault.Damage n) → ⊥ }
     ensures other_header { IsErrOf result Fault.Header → (s header : List ℕ) → F.has file s → IsHeaderOf registry.now header → HasHeader header s → ⊥ }
     // Damage is reported only where a record stands behind it that was written when all before it was on the disk.

@@ -33,7 +33,7 @@ use std::time::Clock;
 /// The most bytes of a registry file.
 const REGISTRY_LIMIT: usize = 16_777_216;
 
-/// What gives random bytes.
+/// The device that random bytes are read from.
 const RANDOM: &str = "/dev/urandom";
 
 /// A service with a journal in a file of this machine.

@@ -12,34 +12,34 @@ use droid_wire::{
 };
 use std::alloc::Global;
 
-/// Serves connections in turns by a service with a journal, and returns how the program ends by that.
+/// Serves connections in turns by a service with a journal, and returns how the program ends.
 pub fn serve_with_journal<C: Connections, F: LogFile + Drop>(
     alloc: Global,
     connections: &mut C,
     handler: &mut JournalHandler<F>,
     rules: Rules,
 ) -> Ending
-    // No byte is written to a connection before all that was handled until then is on the disk.
+    // Before a byte is written to a connection, all that was handled so far is on the disk.
     ensures { EndsServingJournal C.does F.has F.kept rules connections.old handler.old connections.new handler.new result }
 {
     let served = serve_journal(alloc, connections, handler, rules);
     end_of(served, handler.fault)
 }
 
-/// Answers the frames of a stream by a service with a journal, and returns how the program ends by that.
+/// Answers the frames of a stream by a service with a journal, and returns how the program ends.
 pub fn answer_with_journal<R: SteadyRead, W: SteadyWrite, F: LogFile + Drop>(
     alloc: Global,
     handler: &mut JournalHandler<F>,
     pipe: &mut Pipe<R, W>,
 ) -> Ending
-    // No byte of a reply is written before all that was handled until then is on the disk.
+    // Before a byte of a reply is written, all that was handled so far is on the disk.
     ensures { EndsAnsweringJournal R.remaining W.contents R.seen W.seen W.room F.has F.kept pipe.old handler.old pipe.new handler.new result }
 {
     let served = answer_journal(alloc, handler, pipe);
     stream_end_of(served, pipe.departure, handler.fault)
 }
 
-/// Returns the rules for connections one by one, each for as long as it stays.
+/// Returns the rules for one connection at a time, each for as long as it stays.
 pub(crate) fn one_by_one(connections: u32) -> Rules
     ensures { result ≡ rules_one_by_one connections }
 {
@@ -50,7 +50,7 @@ pub(crate) fn one_by_one(connections: u32) -> Rules
     }
 }
 
-/// Returns how the program ends by how serving ended.
+/// Maps the end of serving to the end of the program.
 fn end_of(served: Served, fault: Option<Fault>) -> Ending
     ensures { result ≡ journal_ending_of served fault }
 {
@@ -62,7 +62,7 @@ fn end_of(served: Served, fault: Option<Fault>) -> Ending
     }
 }
 
-/// Returns how the program ends by how answering a stream ended.
+/// Maps the end of answering a stream to the end of the program.
 fn stream_end_of(served: Served, departure: Option<Departure>, fault: Option<Fault>) -> Ending
     ensures { result ≡ stream_journal_ending_of served departure fault }
 {
@@ -74,7 +74,7 @@ fn stream_end_of(served: Served, departure: Option<Departure>, fault: Option<Fau
     }
 }
 
-/// Returns how the program ends by why its one connection was closed.
+/// Maps the reason for closing its one connection to the end of the program.
 fn left_end(departure: Option<Departure>) -> Ending
     ensures { result ≡ left_ending_of departure }
 {
@@ -87,7 +87,7 @@ fn left_end(departure: Option<Departure>) -> Ending
     }
 }
 
-/// Returns how the program ends by why the journal could not settle.
+/// Maps the fault of a journal that could not settle to the end of the program.
 fn unsettled_end(fault: Option<Fault>) -> Ending
     ensures { result ≡ unsettled_ending fault }
 {

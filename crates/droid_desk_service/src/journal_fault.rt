@@ -15,11 +15,11 @@ pub enum JournalFault {
     NotAFile,
     /// The file could not be opened, made, locked or synced.
     Unopened(ErrorKind),
-    /// The journal could not be opened, or answers nothing more.
+    /// The journal could not be opened, or handles no further request.
     Closed(Fault),
     /// The smaller journal beside the file could not be made or written. The file is as it was.
     NotSmaller(Option<ErrorKind>),
-    /// It is not certain that the smaller journal got the name of the file. The name leads to one of them.
+    /// It is uncertain whether the smaller journal got the name of the file. The name leads to one of them.
     NotExchanged,
 }
 

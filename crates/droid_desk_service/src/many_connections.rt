@@ -39,7 +39,7 @@ where
     }
 }
 
-/// Listens on a port, prints so, and serves connections in turns.
+/// Listens on a port, prints `listening`, and serves connections in turns.
 fn serve_port<'a, R>(rt: &R, service: Service, port: u16, options: ManyOptions) -> Ended<'a>
 where
     R: Print + Eprint + AllocGlobal + Clock + Net,
@@ -69,7 +69,7 @@ pub(crate) fn verbosity_of(options: ManyOptions) -> Verbosity
     }
 }
 
-/// Serves connections in turns, as the options say, and returns how the program ends by that.
+/// Serves connections in turns, as the options say, and returns how the program ends.
 pub fn serve_at_once<C: Connections>(
     alloc: Global,
     connections: &mut C,
@@ -77,7 +77,7 @@ pub fn serve_at_once<C: Connections>(
     options: ManyOptions,
 ) -> Ending
     // One service handles the frames of all connections, one after another. Each connection gets the replies to its own
-    // frames, in order, and none waits for another.
+    // frames, in order, and none delays another.
     ensures ends { EndsServing C.does options connections.old connections.new handler.old.service handler.new.service result }
     ensures limits { limits_of handler.new.service ≡ limits_of handler.old.service }
     ensures registry { registry_of handler.new.service ≡ registry_of handler.old.service }
@@ -101,14 +101,14 @@ pub(crate) fn rules_of(options: ManyOptions) -> Rules
     }
 }
 
-/// Returns how the program ends by how serving ended.
+/// Maps the end of serving to the end of the program.
 fn end_of(served: Served) -> Ending
     ensures { result ≡ many_ending_of served }
 {
     match served {
         Served::All => Ending::Done,
         Served::Stopped => Ending::Socket,
-        // A service that keeps everything in memory never ends so.
+        // This never happens to a service that keeps everything in memory.
         Served::Unsettled => Ending::Socket,
         Served::Memory => Ending::Stream(ServeFault::Frame(FrameFault::Memory)),
     }

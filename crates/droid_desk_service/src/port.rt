@@ -55,7 +55,7 @@ impl Connections for Port {
         };
         let (stream, _) = self.listener.accept()?;
         self.taken = taken;
-        // A reply is one write: don't delay it.
+        // A reply is one write, so the system should not delay it.
         let _ = stream.set_nodelay(true);
         let mut writer = Noted::new(&stream);
         let served = serve_stream(alloc, service, &stream, &mut writer, self.turns);
@@ -64,8 +64,8 @@ impl Connections for Port {
     }
 }
 
-/// Serves one connection through both halves of its stream, at most `turns` frames of it. The error is out of memory, for
-/// the buffer; then nothing was served.
+/// Serves one connection through both halves of its stream, at most `turns` frames of it. Fails only if there is no memory
+/// for the buffer; then nothing was served.
 fn serve_stream<R: Read + Drop, W: SteadyWrite>(
     alloc: Global,
     service: &mut Service,

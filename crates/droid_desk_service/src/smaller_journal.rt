@@ -12,7 +12,7 @@ use droid_wire::{
 };
 use std::alloc::Global;
 
-/// The header is that of the file, which has all of it: no random byte goes into it.
+/// The file has its whole header, so that no random byte is needed.
 const NO_RANDOM: [u8; 16] = [0; 16];
 
 /// Makes the header that a journal of the registry with these bytes has in this file.
@@ -30,11 +30,11 @@ fn header_of<F: LogFile>(alloc: Global, file: &F, registry: &[u8]) -> Result<Vec
     }
 }
 
-/// Writes the journal in a file anew into an empty file, without the bytes of the pieces of finished and abandoned files, and
-/// gives that the name of the old one; the journal's header has the MD5 of these bytes of a registry.
+/// Writes the journal in a file into an empty file, without the bytes of the pieces of finished and abandoned files, and gives
+/// it the name of the old one. The journal's header has the MD5 of these bytes of a registry.
 ///
 /// A crash at any moment leaves the old journal under the name, or the smaller one with all its bytes; also where this fails.
-/// A service that is made of the smaller one stands for the history that it had with the old one.
+/// A service that is made from the smaller one has the same history as with the old one.
 pub fn make_smaller<F: LogFile, N: LogFile + Drop, X: Exchange<N>>(
     alloc: Global,
     old: &F,
@@ -48,9 +48,9 @@ pub fn make_smaller<F: LogFile, N: LogFile + Drop, X: Exchange<N>>(
     // The new file has the smaller journal, and all of it is on the disk.
     ensures on_disk { (s : List ℕ) → F.has old.now s → N.has new [] → IfOk result (λ it. IsSmallerOf registry.now s (N.kept it.file) × N.has it.file (N.kept it.file)) }
     ensures sizes { (s : List ℕ) → F.has old.now s → N.has new [] → IfOk result (λ it. AreSizesOf registry.now s it.before it.after) }
-    // Only an exchange that failed may have touched the name.
+    // The name may have changed only if exchanging it failed.
     ensures untouched { IfErr result (λ fault. fault ≢ RewriteFault.Exchange → exchange.new ≡ exchange.old) }
-    // A journal of this registry is not reported as one of another, nor as one with bytes behind it if it has none.
+    // A journal of this registry is not reported as one of another registry, nor as having bytes behind it if it has none.
     ensures other_header { IsErrOf result RewriteFault.Header → (s header : List ℕ) → F.has old.now s → IsHeaderOf registry.now header → HasHeader header s → ⊥ }
     ensures behind { (n : ℕ) → IsErrOf result (RewriteFault.Behind n) → (s : List ℕ) → F.has old.now s → HasBytesBehind registry.now s n }
 {

@@ -18,7 +18,7 @@ use std::alloc::Global;
 /// The most frames of a stream that are answered.
 pub const TURNS: u32 = 1_000_000;
 
-/// Answers the frames of a stream, and returns how the program ends by that.
+/// Answers the frames of a stream, and returns how the program ends.
 pub fn answer_stream<R: SteadyRead, W: SteadyWrite>(
     alloc: Global,
     service: &mut Service,
@@ -49,7 +49,7 @@ fn end_of(outcome: Result<Ended, ServeFault>) -> Ending
     }
 }
 
-/// Answers the frames of one connection, at most `turns` of them. What ends the connection is not reported.
+/// Answers the frames of one connection, at most `turns` of them. Does not report why the connection ends.
 pub fn serve_connection<R: SteadyRead, W: SteadyWrite>(
     alloc: Global,
     service: &mut Service,
@@ -59,7 +59,7 @@ pub fn serve_connection<R: SteadyRead, W: SteadyWrite>(
 )
     ensures gives { (setting : Setting) (history : History) → StandsFor setting service.old history → IfSome (R.remaining reader.old) (λ input.
         ConnectionGives setting history turns input (R.remaining reader.new) (W.contents writer.old) (W.contents writer.new) service.new) }
-    // Whatever comes, the service goes on from the history that the connections before have made.
+    // Whatever comes, the service continues from the history that the earlier connections made.
     ensures goes_on { (setting : Setting) (history : History) → StandsFor setting service.old history → GoesOnFrom setting history turns service.new }
     ensures limits { limits_of service.new ≡ limits_of service.old }
     ensures registry { registry_of service.new ≡ registry_of service.old }

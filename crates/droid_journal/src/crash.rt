@@ -1,4 +1,4 @@
-//! The whole promise: whatever was done with a journal, a crash, and what comes of the file.
+//! The whole promise: any use of a journal, then a crash, then opening its file.
 
 ghost use Rattle.std.specs.Prelude.{◌≡◌, ◌≤◌, ◌++◌, List, ℕ, [], IfOk, IsErrOf, length};
 ghost use Rattle.droid_journal.specs.Standing.{IsSettled, Keeps};
@@ -13,9 +13,9 @@ use crate::machine::Machine;
 use crate::start::open;
 use std::alloc::Global;
 
-/// A file that a crash may befall.
+/// A file whose machine may crash.
 pub trait Tears: LogFile {
-    /// What is kept stays, and any bytes stand behind it.
+    /// Leaves the bytes that are on the disk for sure, and any bytes behind them.
     fn crash(self, tail: &[u8]) -> Result<Self, FileError>
     where
         Self: Sized,
@@ -42,7 +42,7 @@ pub fn crash_and_reopen<F: Tears + Drop, M: Machine + Drop>(
     ensures reopened { (setting : M.Setting) (synced written : List Record) → M.stands setting fresh [] → Keeps F.kept header.now journal.file synced written
         → NotByChance header.now written (F.kept journal.file ++ tail.now)
         → IfOk result (λ after. (its : List Record) × IsSettled F.has F.kept (M.stands setting) header.now after its × IsFront synced its × IsFront its written) }
-    // Nor is the crash taken for damage, unless these bytes have a record of a later turn by chance.
+    // The crash is not reported as damage, unless these bytes have a record of a later turn by chance.
     ensures lawful { (synced written : List Record) (n : ℕ) → Keeps F.kept header.now journal.file synced written
         → NoneLaterByChance header.now written (F.kept journal.file ++ tail.now) (length (F.kept journal.file)) → IsErrOf result (Fault.Damage n) → ⊥ }
 {

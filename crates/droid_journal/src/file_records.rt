@@ -1,4 +1,4 @@
-//! Reading the records of a file, a part of it at a time.
+//! Reading the records of a file, one window at a time.
 
 ghost use Rattle.std.specs.Prelude.{◌≡◌, ◌*◌, ◌<◌, ◌≤◌, ◌↔◌, ℕ, List, IfErr, IfOk, IsErrOf, IsTrue, drop, length, take, true};
 ghost use Rattle.droid_journal.specs.Faults.{IsOfReading};
@@ -15,14 +15,13 @@ use crate::replay::replay;
 use droid_journal_chain::has_later;
 use std::alloc::Global;
 
-/// How many bytes of a file are read at once.
+/// The bytes that are read at once: a window.
 pub(crate) const WINDOW: usize = 16_777_216;
 
-/// How far the search for later records goes on at once: what is read at once, but for the longest record and the check
-/// value before it.
+/// How far the search for later records moves at once: a window less the longest record and the check value before it.
 const STEP: u64 = 8_388_592;
 
-/// Hands a machine the records from a place on that are whole in what is read at once.
+/// Hands a machine the records from a place on that are whole in one window.
 fn hand_some<F: LogFile, M: Machine + Drop>(
     alloc: Global,
     file: &F,
@@ -100,8 +99,8 @@ pub(crate) fn hand_all<F: LogFile, M: Machine + Drop>(
     Err(Fault::Read)
 }
 
-/// Searches what is read at once from a place on for records that were written when all before them was on the disk.
-/// Returns whether there is one, and whether the file ends there.
+/// Searches the window from a place on for a record that was written when all before it was on the disk. Returns whether
+/// there is one, and whether the file ends in the window.
 fn search_some<F: LogFile>(
     file: &F,
     start: &[u8],
@@ -121,7 +120,7 @@ fn search_some<F: LogFile>(
     Ok((has_later(start, &buffer[..count]), count < WINDOW))
 }
 
-/// Whether a whole record stands anywhere behind a place that was written when all before it was on the disk.
+/// Returns whether a whole record anywhere behind a place was written when all before it was on the disk.
 pub(crate) fn is_damaged<F: LogFile>(
     file: &F,
     start: &[u8],

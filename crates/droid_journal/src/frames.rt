@@ -89,7 +89,7 @@ pub(crate) fn frame_of(alloc: Global, bytes: &[u8]) -> Result<Option<Frame>, All
     }
 }
 
-/// Returns whether these bytes are the same.
+/// Returns whether two byte strings are equal.
 pub(crate) fn is_same(one: &[u8], other: &[u8]) -> bool
     ensures { IsTrue result ↔ (one.now ≡ other.now) }
 {

@@ -21,10 +21,10 @@ use droid_frame::{Frame, Refusal, Reply, mark};
 use droid_journal_chain::record;
 use std::alloc::{AllocError, Global};
 
-/// How many bytes of a record are not of its two frames.
+/// The bytes of a record beside its two frames.
 const AROUND: usize = 25;
 
-/// A machine, and the file that has the requests that it accepted.
+/// A machine, and the file with the requests that it accepted.
 ///
 /// [`Journal::handle`] handles a request. No reply may be sent before [`Journal::settle`] returned `Ok` after it.
 #[derive(Drop)]
@@ -40,12 +40,12 @@ pub struct Journal<F: LogFile, M: Machine> {
     pub(crate) check: [u8; 16],
     /// Whether records were appended since the last sync.
     pub(crate) unsynced: bool,
-    /// Why nothing more is answered.
+    /// The fault that ended the journal, if one did.
     pub(crate) fault: Option<Fault>,
 }
 
 impl<F: LogFile + Drop, M: Machine + Drop> Journal<F, M> {
-    /// Goes on with a file that was opened.
+    /// Makes a journal of a file that was opened.
     pub fn new(alloc: Global, file: F, opened: Opened<M>) -> Journal<F, M>
         ensures settled { (setting : M.Setting) (header : List ℕ) (records : List Record) → IsReady F.has F.kept (M.stands setting) header file opened records
             → IsSettled F.has F.kept (M.stands setting) header result records }
@@ -68,7 +68,7 @@ impl<F: LogFile + Drop, M: Machine + Drop> Journal<F, M> {
         }
     }
 
-    /// Spells the record of a request of which this is the checksum, and computes its check value.
+    /// Spells the record of a request with this checksum, and computes its check value.
     fn spelled(
         &self,
         version: u8,
@@ -101,7 +101,7 @@ impl<F: LogFile + Drop, M: Machine + Drop> Journal<F, M> {
         Ok((bytes, check))
     }
 
-    /// Appends the record of a request, of which this is the checksum, to the file.
+    /// Appends the record of a request with this checksum to the file.
     fn note(
         &mut self,
         version: u8,
@@ -139,7 +139,7 @@ impl<F: LogFile + Drop, M: Machine + Drop> Journal<F, M> {
         Ok(())
     }
 
-    /// Handles a request. One that is accepted is then in the file, and not yet on the disk for sure.
+    /// Handles a request. An accepted one is then written to the file, and not yet synced.
     fn take(&mut self, frame: Frame) -> Result<Reply, Fault>
         ensures taken { (setting : M.Setting) (header : List ℕ) (synced all : List Record) → Stands F.has F.kept (M.stands setting) header self.old synced all
             → IfOk result (λ reply. (first : Bool) × (accepted : Bool) × Answers (M.gives setting) all frame reply accepted
@@ -176,13 +176,13 @@ impl<F: LogFile + Drop, M: Machine + Drop> Journal<F, M> {
         ensures handled { (setting : M.Setting) (header : List ℕ) (synced all : List Record) → Stands F.has F.kept (M.stands setting) header self.old synced all
             → self.new.fault ≡ None → (first : Bool) × (accepted : Bool) × Answers (M.gives setting) all frame result accepted
             × Stands F.has F.kept (M.stands setting) header self.new synced (extended all first frame result accepted) }
-        // Whatever became of it, the file has what was accepted before it, and the request if it was accepted, or a front of
-        // its record.
+        // Also after a fault, the file has the records of all requests that were accepted before, and then the record of this
+        // request if it was accepted, or the first bytes of that record.
         ensures part { (setting : M.Setting) (header : List ℕ) (synced all : List Record) → Stands F.has F.kept (M.stands setting) header self.old synced all
             → self.old.fault ≡ None → IsSome self.new.fault → WroteOne F.has (M.gives setting) header self.new.file synced all frame }
         ensures spelled { HasReplySpelling frame.version result }
         ensures kept { F.kept self.new.file ≡ F.kept self.old.file }
-        // A request is never a reason to call the file damaged, or another's.
+        // No request leads to the fault that the file is damaged or has another header.
         ensures writing { MayBeOfWriting self.old.fault → MayBeOfWriting self.new.fault }
         // After a fault nothing is done.
         ensures closed { IsSome self.old.fault → (self.new.file ≡ self.old.file) × (self.new.fault ≡ self.old.fault) }
@@ -199,8 +199,8 @@ impl<F: LogFile + Drop, M: Machine + Drop> Journal<F, M> {
         }
     }
 
-    /// Brings what was accepted to the disk. After `Ok` the replies of all requests so far may be sent. After a fault none
-    /// may be sent any more, and every further call returns a fault.
+    /// Syncs the file. After `Ok` the replies to all requests so far may be sent. After a fault no reply may be sent any
+    /// more, and every further call returns a fault.
     pub fn settle(&mut self) -> Result<(), Fault>
         ensures settled { (setting : M.Setting) (header : List ℕ) (synced all : List Record) → Stands F.has F.kept (M.stands setting) header self.old synced all
             → OnOk result (IsSettled F.has F.kept (M.stands setting) header self.new all) }

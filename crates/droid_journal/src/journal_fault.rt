@@ -4,7 +4,7 @@ ghost use Rattle.std.specs.Prelude.{◌≡◌};
 
 use std::alloc::AllocError;
 
-/// Why a journal could not be opened, or answers nothing more.
+/// Why a journal could not be opened, or handles no further request.
 #[derive(Clone, Copy)]
 pub enum Fault {
     /// Out of memory.
@@ -15,7 +15,7 @@ pub enum Fault {
     Write,
     /// The file begins with another header: another registry or other limits made it, or it is no journal.
     Header,
-    /// The request of this record, counted from 1, does not get the reply of the record, or is no request's frame.
+    /// The request of this record, counted from 1, did not get the reply of the record, or is no request's frame.
     Record(u64),
     /// Behind this many records the file was damaged.
     Damage(u64),

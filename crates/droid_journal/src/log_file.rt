@@ -20,7 +20,7 @@ pub trait LogFile {
     /// Nothing was appended yet.
     ghost is_found: { Self → Type 0 };
 
-    /// A sync failed. A system may then take for written what the disk lacks, so no later sync of this file succeeds.
+    /// A sync failed. The system may then hold bytes as written that the disk lacks, so no later sync of this file succeeds.
     ghost failed: { Self → Type 0 };
 
     /// Reads from a place on, until the buffer is full or the file ends, and returns how many bytes were read.
@@ -29,7 +29,7 @@ pub trait LogFile {
         ensures bound { IfOk result (λ count. count ≤ length buffer.new) }
         ensures read { (s : List ℕ) → has self.now s → IfOk result (λ count. take count buffer.new ≡ take (length buffer.old) (drop at s)) };
 
-    /// Cuts the file to a length, and nothing of what is kept.
+    /// Truncates the file to a length. Bytes that are on the disk for sure are never cut off.
     fn cut(&mut self, len: u64) -> Result<(), FileError>
         requires first { is_found self.old }
         requires within { (s : List ℕ) → has self.old s → (length (kept self.old) ≤ len) × (len ≤ length s) }
@@ -37,14 +37,14 @@ pub trait LogFile {
         ensures kept { kept self.new ≡ kept self.old }
         ensures stays { failed self.old → failed self.new };
 
-    /// Writes behind what is there. At an error a front of the bytes may have been written.
+    /// Appends bytes. After an error the first of them may have been written.
     fn append(&mut self, bytes: &[u8]) -> Result<(), FileError>
         ensures appended { (s : List ℕ) → has self.old s → OnOk result (has self.new (s ++ bytes.now)) }
         ensures part { (s : List ℕ) → has self.old s → OnErr result ((part : List ℕ) × has self.new (s ++ part) × IsFront part bytes.now) }
         ensures kept { kept self.new ≡ kept self.old }
         ensures stays { failed self.old → failed self.new };
 
-    /// Brings everything to the disk. Once it failed, it fails each time.
+    /// Syncs the file. Once this failed, it fails each time.
     fn sync(&mut self) -> Result<(), FileError>
         ensures synced { (s : List ℕ) → has self.old s → OnOk result (kept self.new ≡ s) }
         ensures same { (s : List ℕ) → has self.old s → has self.new s }

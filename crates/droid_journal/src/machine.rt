@@ -22,16 +22,16 @@ pub struct Handled {
 
 /// A machine whose state follows from the requests that it accepted, in order.
 pub trait Machine {
-    /// What its answers depend on beside the requests, such as a registry of formats.
+    /// What its replies depend on beside the requests, such as a registry of formats.
     ghost Setting: { Type 0 };
 
-    /// In this setting the machine stands for these accepted requests and their replies.
+    /// In this setting the machine has the state after these accepted requests, which got these replies.
     ghost stands: { Setting → Self → List Record → Type 0 };
 
-    /// After these accepted requests this one may get this reply, and is accepted or not.
+    /// After these accepted requests, this request may get this reply, and is accepted or not.
     ghost gives: { Setting → List Record → Frame → Reply → Bool → Type 0 };
 
-    /// Handles one request, of which this is the mark.
+    /// Handles one request, whose mark this is.
     fn handle(&mut self, frame: Frame, mark: [u8; 16]) -> Handled
         requires readable { IsReadable frame }
         requires mark { mark ≡ mark_of frame.kind frame.body }

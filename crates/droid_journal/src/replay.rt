@@ -15,14 +15,14 @@ use droid_frame::{Refusal, Reply};
 use droid_journal_chain::{Found, record_of};
 use std::alloc::Global;
 
-/// How far the records of some bytes were handed to a machine.
+/// How many of the records in a window were handed to a machine.
 #[derive(Clone, Copy)]
 pub(crate) struct Replayed {
     /// How many bytes the records have.
     pub(crate) used: usize,
     /// The check value of the last record.
     pub(crate) check: [u8; 16],
-    /// How many records there were so far in all.
+    /// How many records there were in the file so far.
     pub(crate) records: u64,
 }
 
@@ -33,8 +33,8 @@ fn is_out_of_memory(reply: &Reply) -> bool
     matches!(reply, Reply::Refused(Refusal::Memory))
 }
 
-/// Hands a machine the request of a record, of which this is the checksum, and sees that it is accepted with the reply of
-/// the record.
+/// Hands a machine the request of a record, whose checksum this is, and checks that it is accepted with the reply of the
+/// record.
 fn replay_one<M: Machine + Drop>(
     alloc: Global,
     machine: &mut M,
@@ -49,7 +49,7 @@ fn replay_one<M: Machine + Drop>(
     ensures gave { (setting : M.Setting) (before : List Record) (first : Bool) → M.stands setting machine.old before
         → OnOk result (GaveOne (M.gives setting) before (made first request.now reply.now)) }
     ensures fault { IfErr result IsOfReading }
-    // A record is named only if it is none of a journal of this machine, and by its own number.
+    // A record is reported only if no journal of this machine has it, and by its own number.
     ensures number { (other : ℕ) → IsErrOf result (Fault.Record other) → other ≡ number }
     ensures refuted { (other : ℕ) → IsErrOf result (Fault.Record other) → (setting : M.Setting) (before : List Record) → M.stands setting machine.old before
         → Refutes (M.gives setting) before request.now reply.now }
@@ -83,7 +83,7 @@ fn next_of<'a>(start: &[u8], check: [u8; 16], bytes: &'a [u8]) -> Option<Found<'
     record_of(start, &check, bytes)
 }
 
-/// Hands a machine each record at the front of bytes, behind `records` records of which the last has this check value.
+/// Hands a machine each record at the front of bytes. `records` records came before, the last with this check value.
 pub(crate) fn replay<M: Machine + Drop>(
     alloc: Global,
     machine: &mut M,

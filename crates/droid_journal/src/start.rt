@@ -59,7 +59,7 @@ impl<M> Opened<M> {
 enum Beginning {
     /// The header.
     Whole,
-    /// So many bytes of the header, and nothing else.
+    /// This many bytes of the header, and nothing else.
     Part(usize),
 }
 
@@ -100,7 +100,7 @@ fn beginning_in(seen: &[u8], header: &[u8]) -> Result<Beginning, Fault>
     Ok(Beginning::Part(seen.len()))
 }
 
-/// Writes what a file lacks of its header, and syncs it.
+/// Writes the part of the header that a file lacks, and syncs it.
 fn make_header<F: LogFile>(file: &mut F, header: &[u8], count: usize) -> Result<(), Fault>
     requires { count ≤ length header.now }
     ensures made { (s : List ℕ) → F.has file.old s → IsBegun header.now s count → OnOk result (F.has file.new header.now × (F.kept file.new ≡ header.now)) }
@@ -115,7 +115,7 @@ fn make_header<F: LogFile>(file: &mut F, header: &[u8], count: usize) -> Result<
     }
 }
 
-/// Cuts a file behind its records, and syncs it.
+/// Truncates a file behind its records, and syncs it.
 fn cut_behind<F: LogFile>(file: &mut F, end: u64) -> Result<(), Fault>
     requires found { F.is_found file.old }
     requires within { (s : List ℕ) → F.has file.old s → (length (F.kept file.old) ≤ end) × (end ≤ length s) }
@@ -131,7 +131,7 @@ fn cut_behind<F: LogFile>(file: &mut F, end: u64) -> Result<(), Fault>
     }
 }
 
-/// Hands a machine all records of a file that has this header, and sees that nothing behind them was damaged.
+/// Hands a machine all records of a file with this header, and checks that nothing behind them was damaged.
 fn read_all<F: LogFile, M: Machine + Drop>(
     alloc: Global,
     file: &F,
@@ -209,7 +209,7 @@ fn open_whole<F: LogFile, M: Machine + Drop>(
     })
 }
 
-/// Opens a file that has less than this header, and nothing else.
+/// Opens a file that has only a part of this header.
 fn open_begun<F: LogFile, M: Machine + Drop>(
     file: &mut F,
     header: &[u8],
@@ -236,7 +236,7 @@ fn open_begun<F: LogFile, M: Machine + Drop>(
     })
 }
 
-/// Opens a file, by this buffer.
+/// Opens a file, and reads it through this buffer.
 fn open_by<F: LogFile, M: Machine + Drop>(
     alloc: Global,
     file: &mut F,

@@ -10,7 +10,7 @@ use md5::{Digest, Md5};
 /// How many bytes the header of a request's frame has.
 const HEADER: usize = 18;
 
-/// How many bytes of a check value are not its seal.
+/// The bytes of a check value in front of its seal.
 const SEALED: usize = 12;
 
 /// Computes the start value of a journal with this header: its MD5 (RFC 1321).
@@ -22,8 +22,8 @@ pub fn start_of(header: &[u8]) -> [u8; 16]
     hasher.finalize()
 }
 
-/// Computes the MD5 of a record behind one with the check value `check`. The body of the request goes in by its
-/// checksum alone.
+/// Computes the MD5 of a record, where `check` is the check value of the record before it. Of the request only its
+/// checksum is hashed.
 #[tactic(auto, unfolding(crate::specs::Records::digest))]
 fn digest_of(
     start: &[u8],
@@ -47,7 +47,7 @@ fn digest_of(
     hasher.finalize()
 }
 
-/// Computes the MD5 of which the first four bytes seal these bytes.
+/// Computes the MD5 whose first four bytes seal these bytes.
 fn seal_of(start: &[u8], bytes: &[u8]) -> [u8; 16]
     ensures { result ≡ md5 (start.now ++ bytes.now) }
 {
@@ -57,7 +57,7 @@ fn seal_of(start: &[u8], bytes: &[u8]) -> [u8; 16]
     hasher.finalize()
 }
 
-/// Puts the first four bytes of a seal in the place of the last four of a digest.
+/// Replaces the last four bytes of a digest by the first four of a seal.
 fn with_seal(digest: &[u8; 16], seal: &[u8; 16]) -> [u8; 16]
     ensures { result ≡ take 12 digest.now ++ take 4 seal.now }
 {
@@ -66,7 +66,7 @@ fn with_seal(digest: &[u8; 16], seal: &[u8; 16]) -> [u8; 16]
     check
 }
 
-/// Computes the check value of a record behind one with the check value `check`, by the checksum of its request.
+/// Computes the check value of a record from that of the record before it and the checksum of its request.
 #[tactic(auto, unfolding(crate::specs::Records::next_check))]
 pub(crate) fn check_of(
     start: &[u8],
@@ -91,7 +91,7 @@ fn is_same(one: &[u8], other: &[u8]) -> bool
     one == other
 }
 
-/// Returns whether 16 bytes are sealed as the check values of the journal with this start value are.
+/// Returns whether 16 bytes are sealed like a check value of the journal with this start value.
 pub(crate) fn is_sealed(start: &[u8], check: &[u8]) -> bool
     requires { length check.now ≡ 16 }
     ensures { IsTrue result ↔ (check.now ≡ sealed start.now (take 12 check.now)) }

@@ -9,11 +9,11 @@ use crate::record_reader::record_of;
 /// How many bytes a check value has.
 const CHECK: usize = 16;
 
-/// Returns whether a whole record with a right check value stands anywhere in these bytes, behind a check value, that was
-/// written when all before it was on the disk. Then what stands before it was damaged.
+/// Returns whether these bytes have, anywhere, a check value and then a whole record with a right check value that was
+/// written when all before it was on the disk. If so, the bytes before it were damaged.
 ///
-/// A place costs one MD5 of 28 bytes at most. A record is hashed only behind bytes that are sealed as a check value is,
-/// which nobody can make who does not know the journal's header.
+/// Each place costs at most one MD5 of 28 bytes. A record is hashed only behind bytes that are sealed like a check value,
+/// and only who knows the journal's header can seal bytes.
 pub fn has_later(start: &[u8], bytes: &[u8]) -> bool
     ensures { IsTrue result ↔ HasLater start.now bytes.now }
 {
@@ -25,7 +25,7 @@ pub fn has_later(start: &[u8], bytes: &[u8]) -> bool
     false
 }
 
-/// The same of the front.
+/// Returns whether they begin with such a record.
 fn is_later(start: &[u8], bytes: &[u8]) -> bool
     ensures { IsTrue result ↔ IsLater start.now bytes.now }
 {

@@ -29,8 +29,8 @@ pub struct Found<'a> {
     pub rest: &'a [u8],
 }
 
-/// Reads the record at the front, behind one with the check value `check`. Returns `None` if no whole record with a right
-/// check value is there.
+/// Reads the record at the front of bytes, where `check` is the check value of the record before it. Returns `None` if no
+/// whole record with a right check value is there.
 pub fn record_of<'a>(start: &[u8], check: &[u8], bytes: &'a [u8]) -> Option<Found<'a>>
     ensures found { IfSome result (λ x. BeginsWith start.now check.now bytes.now (made x.first x.request.now x.reply.now) x.check x.rest.now) }
     ensures none { IfNone result (BeginsNoRecord start.now check.now bytes.now) }
@@ -40,7 +40,7 @@ pub fn record_of<'a>(start: &[u8], check: &[u8], bytes: &'a [u8]) -> Option<Foun
     record_by(start, check, bytes, None)
 }
 
-/// The same, by the checksum of the record's request, if that was computed before.
+/// Reads the record at the front as [`record_of`] does, with the checksum of its request, if that was computed before.
 pub fn record_by<'a>(
     start: &[u8],
     check: &[u8],
@@ -89,7 +89,7 @@ fn read_record<'a>(
     })
 }
 
-/// Returns the request of the record at the front, whatever check value stands behind it.
+/// Returns the request of the record at the front, without a look at its check value.
 pub fn request_of(bytes: &[u8]) -> Option<&[u8]>
     ensures { Gives (λ x. x.now) result (request_in bytes.now) }
 {
@@ -138,7 +138,7 @@ fn string_of(bytes: &[u8]) -> Option<(&[u8], &[u8])>
     Some(rest.split_at(length))
 }
 
-/// Returns the bytes behind this check value.
+/// Returns the bytes behind this check value, if they begin with it.
 #[tactic(auto, unfolding(crate::specs::Reading::check_at))]
 fn behind_check<'a>(wanted: &[u8; 16], bytes: &'a [u8]) -> Option<&'a [u8]>
     ensures { Gives (λ x. x.now) result (check_at wanted.now bytes.now) }

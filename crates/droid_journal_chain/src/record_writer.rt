@@ -11,7 +11,7 @@ use std::alloc::AllocError;
 /// How many bytes the header of a request's frame has.
 const HEADER: usize = 18;
 
-/// How many bytes a record has beside its frames.
+/// The bytes of a record beside its frames.
 const OVERHEAD: usize = 25;
 
 /// The most bytes of a record.

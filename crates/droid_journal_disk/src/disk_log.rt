@@ -1,4 +1,4 @@
-//! The file of a journal over the calls of a file system.
+//! The file of a journal, by the calls of a file system.
 
 ghost use Rattle.std.specs.Prelude.{◌≡◌, ◌+◌, ◌≤◌, ◌++◌, ℕ, List, [], length, take, drop, IfErr, IfOk, OnErr, OnOk};
 ghost use Rattle.droid_journal_chain.specs.Fronts.{IsFront};
@@ -7,7 +7,7 @@ ghost use Rattle.droid_journal_disk.specs.Saved.{EndsWith};
 use crate::drive::{Drive, DriveError};
 use droid_journal::{FileError, LogFile};
 
-/// How many bytes of an end that is cut off are saved at once.
+/// The bytes that are saved at once of an end that is cut off.
 const SAVED: usize = 65_536;
 
 /// A file of a journal. An append writes all of its bytes or fails. What is cut off is saved first.
@@ -37,7 +37,7 @@ fn read_full<D: Drive>(drive: &D, at: u64, buffer: &mut [u8]) -> Result<usize, F
     Ok(count)
 }
 
-/// Reads once, behind what the buffer has already.
+/// Reads once, into the rest of the buffer.
 fn read_more<D: Drive>(
     drive: &D,
     at: u64,
@@ -54,7 +54,7 @@ fn read_more<D: Drive>(
     drive.read_some(at, &mut buffer[count..])
 }
 
-/// Saves as much as is read at once from a place on, and returns how many bytes.
+/// Reads once from a place on, saves what was read, and returns how many bytes it is.
 fn save_some<D: Drive>(drive: &mut D, at: u64) -> Result<usize, FileError>
     ensures size { (s : List ℕ) → D.has drive.old s → IfOk result (λ count. count ≡ length (take 65536 (drop at s))) }
     ensures saved { (s : List ℕ) → D.has drive.old s → OnOk result (D.saved drive.new ≡ D.saved drive.old ++ take 65536 (drop at s)) }
@@ -99,7 +99,7 @@ fn save_end<D: Drive>(drive: &mut D, from: u64) -> Result<(), FileError>
     Err(FileError)
 }
 
-/// Writes all of these bytes, or a front of them.
+/// Writes all of these bytes. After an error the first of them may have been written.
 fn write_all<D: Drive>(drive: &mut D, bytes: &[u8]) -> Result<(), FileError>
     ensures written { (s : List ℕ) → D.has drive.old s → OnOk result (D.has drive.new (s ++ bytes.now)) }
     ensures part { (s : List ℕ) → D.has drive.old s → OnErr result ((part : List ℕ) × D.has drive.new (s ++ part) × IsFront part bytes.now) }

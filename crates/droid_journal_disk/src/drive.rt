@@ -20,21 +20,21 @@ pub trait Drive {
     /// Nothing was appended yet.
     ghost is_found: { Self → Type 0 };
 
-    /// A sync failed. A system may then take for written what the disk lacks.
+    /// A sync failed. The system may then hold bytes as written that the disk lacks.
     ghost failed: { Self → Type 0 };
 
     /// The bytes of the other file that are on the disk for sure.
     ghost saved: { Self → List ℕ };
 
-    /// Reads from a place on, at most as much as fits into the buffer, and returns how many bytes were read: none only if
-    /// the file ends there or the buffer is empty.
+    /// Reads once from a place on into the buffer, and returns how many bytes were read: 0 only if the file ends there or
+    /// the buffer is empty.
     fn read_some(&self, at: u64, buffer: &mut [u8]) -> Result<usize, DriveError>
         ensures bound { IfOk result (λ count. count ≤ length buffer.new) }
         ensures read { (s : List ℕ) → has self.now s → IfOk result (λ count. take count buffer.new ≡ take count (drop at s)) }
         ensures within { (s : List ℕ) → has self.now s → IfOk result (λ count. count ≤ length (drop at s)) }
         ensures end { (s : List ℕ) → has self.now s → IfOk result (λ count. count ≡ 0 → (buffer.old ≡ []) ⊎ (drop at s ≡ [])) };
 
-    /// Cuts the file to a length. What is cut off was saved before, and nothing of what is kept is cut off.
+    /// Truncates the file to a length. What is cut off was saved before. Bytes that are on the disk for sure stay.
     fn shorten(&mut self, len: u64) -> Result<(), DriveError>
         requires first { is_found self.old }
         requires within { (s : List ℕ) → has self.old s → (length (kept self.old) ≤ len) × (len ≤ length s) }
@@ -43,7 +43,7 @@ pub trait Drive {
         ensures kept { kept self.new ≡ kept self.old }
         ensures stays { failed self.old → failed self.new };
 
-    /// Appends to the other file, and brings it to the disk.
+    /// Appends to the other file, and syncs it.
     fn save(&mut self, bytes: &[u8]) -> Result<(), DriveError>
         ensures saved { (s : List ℕ) → has self.old s → OnOk result (saved self.new ≡ saved self.old ++ bytes.now) }
         ensures same { (s : List ℕ) → has self.old s → has self.new s }
@@ -52,7 +52,7 @@ pub trait Drive {
         ensures found { is_found self.old → is_found self.new }
         ensures stays { failed self.old → failed self.new };
 
-    /// Writes the first of these bytes behind what the file has, and returns how many.
+    /// Appends the first of these bytes to the file, and returns how many.
     fn write_some(&mut self, bytes: &[u8]) -> Result<usize, DriveError>
         ensures bound { IfOk result (λ count. count ≤ length bytes.now) }
         ensures written { (s : List ℕ) → has self.old s → IfOk result (λ count. has self.new (s ++ take count bytes.now)) }
@@ -60,7 +60,7 @@ pub trait Drive {
         ensures kept { kept self.new ≡ kept self.old }
         ensures stays { failed self.old → failed self.new };
 
-    /// Brings everything to the disk. Once it failed, it fails each time.
+    /// Syncs the file. Once this failed, it fails each time.
     fn sync(&mut self) -> Result<(), DriveError>
         ensures synced { (s : List ℕ) → has self.old s → OnOk result (kept self.new ≡ s) }
         ensures same { (s : List ℕ) → has self.old s → has self.new s }

@@ -8,17 +8,17 @@ use std::fs::{self, File, Files, Metadata, OpenFile, OpenOptions};
 use std::io::{self, ErrorKind, Write};
 use std::os::unix::fs::{FileExt, MetadataExt, OpenOptionsExt};
 
-/// Progress is printed each time that so many more bytes were read.
+/// Progress is printed each time that this many more bytes were read.
 const REPORTED: u64 = 1_073_741_824;
 
-/// How often a call is made that a signal interrupts.
+/// How often a call is tried that signals interrupt.
 const TRIES: usize = 64;
 
 /// The bits of a mode that say who may read, write and run a file.
 const MODES: u32 = 0o777;
 
-/// A file of this machine, as one process has it: as long as it is open no other process can open it so. What is cut off
-/// goes into the file with this name and `.torn` behind it.
+/// A file of this machine, locked: while it is open, no other process can open it this way. Bytes that are cut off go into the
+/// file with this name and `.torn` behind it.
 #[derive(Drop)]
 pub struct FileDrive<'a, R> {
     runtime: &'a R,
@@ -26,15 +26,15 @@ pub struct FileDrive<'a, R> {
     file: File,
     torn: Option<File>,
     saved: u64,
-    /// Whether a sync failed. Linux may then take for written what the disk lacks, and the next sync would succeed.
+    /// Whether a sync failed. Linux may then hold bytes as written that the disk lacks, and the next sync would succeed.
     failed: bool,
 }
 
 impl<'a, R: Files<File = File> + Eprint + AllocGlobal> FileDrive<'a, R> {
-    /// Opens a file, and makes it if it is not there. The name is then on the disk too. A link is no regular file.
+    /// Opens a file, and creates it if it is missing. Its name is then on the disk too. A link is no regular file.
     ///
-    /// Fails as in use if another process put another file in the place of the name before this one had the lock: nobody
-    /// would find again what was appended to a file without a name.
+    /// Fails as in use if another process replaced the file before this one had the lock: what is appended to a file without
+    /// a name would be lost.
     pub fn open(runtime: &'a R, path: &'a str) -> Result<FileDrive<'a, R>, DiskFault> {
         see_regular(runtime, path)?;
         let file = match open_for_appending(runtime, path) {
@@ -57,7 +57,7 @@ impl<'a, R: Files<File = File> + Eprint + AllocGlobal> FileDrive<'a, R> {
     }
 }
 
-/// Sees that a path is that of a regular file or of nothing.
+/// Checks that a path is that of a regular file, or of nothing.
 fn see_regular<R: Files>(runtime: &R, path: &str) -> Result<(), DiskFault> {
     match fs::symlink_metadata(runtime, path) {
         Ok(metadata) => {
@@ -92,7 +92,7 @@ fn lock(file: &File) -> Result<(), DiskFault> {
     }
 }
 
-/// Sees that a path is still that of an open file.
+/// Checks that a path still leads to an open file.
 fn see_named<R: Files>(runtime: &R, path: &str, file: &File) -> Result<(), DiskFault> {
     let named = match fs::symlink_metadata(runtime, path) {
         Ok(named) => named,
@@ -109,12 +109,12 @@ fn see_named<R: Files>(runtime: &R, path: &str, file: &File) -> Result<(), DiskF
     }
 }
 
-/// Returns whether both are of one file.
+/// Returns whether both describe the same file.
 fn is_same_file(first: &Metadata, second: &Metadata) -> bool {
     first.dev() == second.dev() && first.ino() == second.ino()
 }
 
-/// Brings the name of a file to the disk.
+/// Syncs the folder that has a file's name.
 fn sync_folder<R: Files<File = File>>(runtime: &R, path: &str) -> io::Result<()> {
     let folder = match path.rfind('/') {
         Some(0) => "/",
@@ -160,7 +160,7 @@ fn write_once(file: &mut File, bytes: &[u8]) -> io::Result<usize>
 }
 
 impl<'a, R: Files<File = File> + Eprint + AllocGlobal> FileDrive<'a, R> {
-    /// Opens the file that keeps what is cut off. If it is made, nobody may read it who may not read the journal.
+    /// Opens the file for bytes that are cut off. A new one can be read only by those who can read the journal.
     fn open_torn(&self) -> io::Result<File> {
         let name = format!(in self.runtime.alloc(); "{}.torn", self.path)?;
         let journal = self.file.metadata()?;
@@ -173,7 +173,7 @@ impl<'a, R: Files<File = File> + Eprint + AllocGlobal> FileDrive<'a, R> {
         Ok(torn)
     }
 
-    /// Appends to the file that keeps what is cut off, and brings it to the disk.
+    /// Appends to the file for bytes that are cut off, and syncs it.
     fn save_all(&mut self, bytes: &[u8]) -> io::Result<()>
         ensures { self.new.failed ≡ self.old.failed }
     {
@@ -188,7 +188,7 @@ impl<'a, R: Files<File = File> + Eprint + AllocGlobal> FileDrive<'a, R> {
         Ok(())
     }
 
-    /// Cuts the file, and prints how many bytes were saved.
+    /// Truncates the file, and prints how many bytes were saved.
     fn cut(&self, len: u64) -> io::Result<()> {
         if self.saved > 0 {
             let _ = eprintln!(self.runtime;
@@ -215,8 +215,8 @@ fn drive_result<T: Drop>(answer: io::Result<T>) -> Result<T, DriveError> {
     }
 }
 
-// Nothing is known of what the file has, so each clause is met: each method is one call of the machine, and that the machine
-// does what the clause says is trusted.
+// The clauses hold since nothing is assumed of the file's bytes. Each method is one call of the system; that the system does
+// what the clause says is trusted.
 impl<'a, R: Files<File = File> + Eprint + AllocGlobal> Drive for FileDrive<'a, R> {
     ghost has = { λ drive bytes. ⊥ };
 

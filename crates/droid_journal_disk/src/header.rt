@@ -11,10 +11,10 @@ use std::alloc::Global;
 /// How many bytes at the end of a header are random. No client knows them, so none can make the bytes of a record.
 pub const RANDOM: usize = 16;
 
-/// Makes the header of a file: a fixed text, and 16 bytes. These are the ones that the file has there already, and fresh ones
-/// for those that it lacks.
+/// Makes the header of a file: a fixed text, and 16 bytes. Of these, the file's own bytes stay, and the missing ones are
+/// random.
 ///
-/// So a journal of this text is opened by the header that it was made with, also if a crash left less than the header of it.
+/// So a journal with this text is opened with the header that it was made with, also if a crash left only a part of it.
 pub fn header_for<F: LogFile>(
     alloc: Global,
     file: &F,
@@ -24,9 +24,9 @@ pub fn header_for<F: LogFile>(
     requires found { F.is_found file.now }
     requires size { length fixed.now ≤ 4080 }
     ensures text { (s : List ℕ) → F.has file.now s → IfOk result (λ header. header.items ≡ fixed.now ++ (take 16 (drop (length fixed.now) s) ++ drop (length (take 16 (drop (length fixed.now) s))) fresh.now)) }
-    // A file that has the text and 16 bytes more has this header.
+    // A file with the text and 16 more bytes has this header.
     ensures whole { (s : List ℕ) → F.has file.now s → IfOk result (λ header. length fixed.now + 16 ≤ length s → HasHeader fixed.now s → HasHeader header.items s) }
-    // A file that has less, but nothing else, has a part of it.
+    // A file with only a part of that has a part of this header.
     ensures begun { (s : List ℕ) → F.has file.now s → IfOk result (λ header. length s < length fixed.now + 16 → IsFront s fixed.now ⊎ IsFront fixed.now s → IsBegun header.items s (length s)) }
     ensures size { IfOk result (λ header. length header.items ≤ 4096) }
     ensures fault { IfErr result IsMemoryOrRead }
@@ -40,7 +40,7 @@ pub fn header_for<F: LogFile>(
     Ok(header)
 }
 
-/// Returns the 16 bytes that the file has from a place on, and fresh ones for those that it lacks.
+/// Returns the 16 bytes from a place of the file on, with random bytes for those that the file lacks.
 fn random_of<F: LogFile>(file: &F, at: u64, fresh: &[u8; 16]) -> Result<[u8; 16], Fault>
     requires found { F.is_found file.now }
     ensures { (s : List ℕ) → F.has file.now s → IfOk result (λ random. random ≡ take 16 (drop at s) ++ drop (length (take 16 (drop at s))) fresh.now) }
@@ -52,7 +52,7 @@ fn random_of<F: LogFile>(file: &F, at: u64, fresh: &[u8; 16]) -> Result<[u8; 16]
     Ok(begun_by(&found[..count], fresh))
 }
 
-/// Puts these bytes in the place of the first ones.
+/// Overwrites the first bytes.
 fn begun_by(first: &[u8], bytes: &[u8; 16]) -> [u8; 16]
     requires { length first.now ≤ 16 }
     ensures { result ≡ first.now ++ drop (length first.now) bytes.now }

@@ -1,7 +1,7 @@
 //! Reading a journal that was made small: its records have no bytes of the pieces of finished and abandoned files.
 //!
-//! [`RecoveringMachine`] takes the records in order, as any machine of a journal. The service that is made of it stands for
-//! the history of the accepted requests, as one does that got them whole. The crate re-exports the service.
+//! [`RecoveringMachine`] takes the records in order, like any machine of a journal. The service that is made from it has the
+//! history of the accepted requests, as if it had received them whole. The crate re-exports the service.
 #![tactic(auto)]
 
 mod frame_reader;

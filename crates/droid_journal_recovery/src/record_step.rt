@@ -15,7 +15,7 @@ use droid_core_revival::{
 };
 use droid_journal_bare::{BARE_FINISH, BARE_PIECE};
 
-/// Handles the frame of a record, of which this is the mark. What is none of a record is refused.
+/// Handles the frame of a record, whose mark this is. Refuses a frame that no record can have.
 pub(crate) fn take(holdings: &mut Holdings, frame: Frame, mark: [u8; 16]) -> Reply
     requires readable { IsReadable frame }
     requires mark { mark ≡ mark_of frame.kind frame.body }
@@ -28,7 +28,7 @@ pub(crate) fn take(holdings: &mut Holdings, frame: Frame, mark: [u8; 16]) -> Rep
     }
 }
 
-/// Handles the frame of a request that needs no bytes of a bare file.
+/// Handles the frame of a request whose bytes are all there.
 fn take_whole(holdings: &mut Holdings, frame: Frame, mark: [u8; 16]) -> Reply
     requires readable { IsReadable frame }
     requires mark { mark ≡ mark_of frame.kind frame.body }
@@ -86,7 +86,7 @@ fn take_finish(holdings: &mut Holdings, frame: &Frame) -> Reply
     }
 }
 
-/// The refusal for a fault.
+/// Returns the refusal for a fault.
 fn refused(fault: RecoveryFault) -> Reply
     ensures refused { is_refused result ≡ true }
     ensures memory { fault ≡ RecoveryFault.Memory → is_out_of_memory result ≡ true }

@@ -22,8 +22,8 @@ use droid_journal::{Handled, Machine};
 use std::alloc::{AllocError, Global};
 use std::num::NonZeroUsize;
 
-/// The machine that reads a journal that was made small. It takes each record of it with the record's reply, and refuses
-/// whatever is no record of it.
+/// The machine that reads a journal that was made small. It gives each record's request the reply of that record, and refuses
+/// any other request.
 pub struct RecoveringMachine {
     holdings: Holdings,
 }
@@ -38,8 +38,8 @@ impl Drop for RecoveringMachine {
 }
 
 impl RecoveringMachine {
-    /// Makes a machine that has read nothing yet, for a service with this registry and these limits. Fails only if there is
-    /// no memory.
+    /// Makes a machine that has read nothing yet, for a service with this registry and these limits. Fails only if memory
+    /// runs out.
     pub fn new(
         alloc: Global,
         registry: Registry,
@@ -63,9 +63,8 @@ impl RecoveringMachine {
         Ok(RecoveringMachine { holdings })
     }
 
-    /// Makes the service, which caches up to `places` replies. Once each bare file has ended, it stands for the history of
-    /// the records, so it answers every request as a service does that got the requests whole. Fails only if there is no
-    /// memory.
+    /// Makes the service, which caches up to `places` replies. If each bare file has ended, the service has the history of
+    /// the records, so it answers every request as if it had received the requests whole. Fails only if memory runs out.
     pub fn into_service(self, places: NonZeroUsize) -> Result<Service, AllocError>
         ensures stands { IfOk result (λ service. (recovery : Recovery) (records : List Record) (history : History) → StandsForRecords recovery self records
             → HaveHistory recovery.setting recovery.bare [] records history → HaveEnded recovery.bare (world_of recovery.setting history) → StandsFor recovery.setting service history) }
@@ -93,7 +92,7 @@ impl Machine for RecoveringMachine {
     }
 }
 
-/// Whether a reply is no refusal.
+/// Returns whether a reply is no refusal.
 fn accepts(reply: &Reply) -> bool
     ensures { result ≡ not (is_refused reply.now) }
 {

@@ -1,4 +1,4 @@
--- For proofs: what a journal is written anew by.
+-- For proofs: what the smaller journal depends on beside the records.
 use Rattle.std.specs.Prelude.{ℕ, Bool, List}
 
 -- the header of the file, and which files have ended

@@ -16,7 +16,7 @@ IsSumOf bytes sum = (request : List ℕ) → request_in bytes ≡ Some request �
 abbrev pub AreSumsIn : List ℕ → Sums → Type 0
 AreSumsIn bytes sums = (lane : ℕ) → lane < 8 → (rest : List ℕ) → IsEndOf bytes rest → length rest ≡ slice_index sums.left lane → IsSumOf rest (slice_index_or sums.digests lane [])
 
--- the last bytes, so many of them
+-- the last `count` bytes
 abbrev pub last_in : List ℕ → ℕ → List ℕ
 last_in bytes count = drop (length bytes - count) bytes
 

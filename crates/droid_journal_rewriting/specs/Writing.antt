@@ -1,4 +1,4 @@
--- For proofs: records that were written anew.
+-- For proofs: records of the smaller journal that were written.
 use Rattle.std.specs.Prelude.{◌≡◌, ℕ, List, ◌++◌, length}
 use Rattle.droid_journal_chain.specs.Chains.{first_check, journal_bytes, last_check}
 use Rattle.droid_journal_chain.specs.Records.{AllFit, Record}
@@ -7,7 +7,7 @@ use Rattle.droid_journal_rewriting.specs.Numbers.{has_number}
 use Rattle.droid_journal_rewriting.specs.Shortening.{has_stamp, smaller_by}
 use Rattle.droid_journal_rewriting.specs.declared.rewriter.Rewriter.{Rewriter}
 
--- These records were written anew, but for what is collected. The files that have ended and the stamps so far are noted.
+-- These records were written, but for what is still collected. The files that have ended and the stamps so far are noted.
 pub record IsWriting {N : Type 0} (has : N → List ℕ → Type 0) (aim : Aim) (rewriter : Rewriter N) (its : List Record) : Type 0 where
   pub written : List ℕ
   pub there : has rewriter.file written

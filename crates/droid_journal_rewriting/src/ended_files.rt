@@ -50,8 +50,8 @@ impl Ended {
     }
 }
 
-/// Returns the files that have ended in a journal with this header. A request that came again ends none. What is returned of
-/// a file that is no such journal says nothing.
+/// Returns the files that have ended in a journal with this header. A request that came again ends none. For a file that is
+/// no such journal the result means nothing.
 pub(crate) fn ended_in<F: LogFile>(
     alloc: Global,
     file: &F,

@@ -6,12 +6,10 @@ use droid_journal::{FileError, LogFile};
 
 /// A name in a folder, and the file that it leads to.
 pub trait Exchange<F: LogFile> {
-    /// The name leads to a file of which these bytes are on the disk for sure. A crash may undo that until the folder is
-    /// synced.
+    /// The name leads to a file with these bytes on the disk for sure. Until the folder is synced, a crash may undo that.
     ghost leads: { Self → List ℕ → Type 0 };
 
-    /// After a crash now, the name may lead to a file of which these bytes are on the disk for sure, with any bytes behind
-    /// them.
+    /// After a crash now, the name may lead to a file with these bytes on the disk for sure, and any bytes behind them.
     ghost may_lead: { Self → List ℕ → Type 0 };
 
     /// Gives the name to a new file. A crash at any moment of the call leaves what stood before it or what stands after it.

@@ -42,8 +42,8 @@ fn file_result(answer: io::Result<()>) -> Result<(), FileError> {
     }
 }
 
-// Nothing is known of where a name leads, so each clause is met: that the machine renames in one step, and that a synced folder
-// keeps its names, is trusted.
+// The clauses hold since nothing is assumed of where a name leads. That the system renames in one step, and that a synced
+// folder keeps its names, is trusted.
 impl<'a, F: LogFile, R: Files<File = File>> Exchange<F> for Folder<'a, R> {
     ghost leads = { λ folder bytes. ⊥ };
 

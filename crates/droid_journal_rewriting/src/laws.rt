@@ -8,9 +8,9 @@ ghost use Rattle.droid_journal_rewriting.specs.Fields.{file_in, is_about};
 ghost use Rattle.droid_journal_rewriting.specs.Shortening.{has_ended, once, shortened, smaller};
 ghost use Rattle.droid_journal_rewriting.specs.Sizes.{size_of};
 
-/// A smaller journal has at most the bytes of its header and of one smaller record for each record of the journal. A piece of
-/// a file that has ended has 85 bytes, since the reply to a piece has 22. A Finish has its finding twice, and no other record
-/// becomes longer than it was.
+/// A smaller journal has at most the bytes of its header and of one record for each record of the old journal. The record of
+/// a piece of an ended file has 85 bytes, since the reply to a piece has 22. The record of a Finish has its finding twice. No
+/// other record becomes longer.
 pub fn a_smaller_journal_is_small()
     ensures record { (start check : List ℕ) (it : Record) → length (record_bytes start check it) ≡ size_of it }
     ensures total { (header : List ℕ) (its : List Record) → length (journal_bytes header (shortened its)) ≤ length header + sum_by (λ it. size_of (smaller (has_ended (once [] its)) it)) its }

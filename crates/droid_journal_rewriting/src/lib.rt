@@ -1,9 +1,10 @@
 //! Making a journal smaller: all of its records are written anew into another file, those of finished and abandoned files
 //! without the bytes of these files.
 //!
-//! [`rewrite`] first notes which files have ended. For that it reads of each record only the front. Then it reads the whole old
-//! journal, checks it, and writes. [`compact`] also puts the new file in the place of the old one: it is synced, gets the old one's name ([`replace`]), and the folder is synced. So a
-//! crash at any moment leaves one or the other. [`is_mostly_ended`] says whether that is worth it.
+//! [`rewrite`] first notes which files have ended, and for that reads only the front of each record. Then it reads the whole
+//! old journal, checks it, and writes. [`compact`] also replaces the old file: it syncs the new one, gives it the old one's
+//! name ([`replace`]), and syncs the folder. So a crash at any moment leaves one or the other. [`is_mostly_ended`] says
+//! whether that is worth it.
 #![tactic(auto)]
 
 mod compaction;

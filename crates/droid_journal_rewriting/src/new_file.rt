@@ -1,4 +1,4 @@
-//! Writing a journal anew into another file.
+//! Writing a smaller journal into another file.
 
 ghost use Rattle.std.specs.Prelude.{◌≡◌, ℕ, Bool, [], List, IfOk, IsErrOf, length};
 ghost use Rattle.droid_journal.specs.Opening.{HasHeader};
@@ -19,18 +19,18 @@ use droid_journal::LogFile;
 use droid_journal_chain::start_of;
 use std::alloc::Global;
 
-/// A journal that was written anew.
+/// A smaller journal that was written.
 #[derive(Drop)]
 pub struct Smaller<N> {
     /// The new file.
     pub file: N,
-    /// How large the old file is.
+    /// The size of the old file.
     pub before: Size,
-    /// How large the new one is.
+    /// The size of the new one.
     pub after: Size,
 }
 
-/// Writes each record of a journal anew into an empty file, and those of these files without their bytes.
+/// Writes each record of a journal into an empty file, those of the ended files without their bytes.
 fn write_anew<F: LogFile, N: LogFile + Drop>(
     alloc: Global,
     old: &F,
@@ -78,7 +78,7 @@ fn write_anew<F: LogFile, N: LogFile + Drop>(
     }
 }
 
-/// Writes a journal anew, by this buffer.
+/// Writes the smaller journal, and reads the old one through this buffer.
 fn rewrite_by<F: LogFile, N: LogFile + Drop>(
     alloc: Global,
     old: &F,
@@ -103,8 +103,8 @@ fn rewrite_by<F: LogFile, N: LogFile + Drop>(
     }
 }
 
-/// Writes a journal anew into an empty file: a request that came again is left out, and the pieces and the Finish of a file
-/// that was finished or abandoned are bare. The old file is only read, 16 MiB at a time. Nothing is synced.
+/// Writes the smaller journal into an empty file, without requests that came again, and with bare pieces and a bare Finish
+/// for each file that was finished or abandoned. Only reads the old file, 16 MiB at a time. Syncs nothing.
 ///
 /// A journal with anything behind its whole records is refused ([`RewriteFault::Behind`]): opening it reports a torn end or
 /// damage, and saves what it cuts off.

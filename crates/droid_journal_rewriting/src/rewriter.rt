@@ -1,4 +1,4 @@
-//! Writing records anew.
+//! Writing the records of the smaller journal.
 
 ghost use Rattle.std.specs.Prelude.{◌≡◌, ◌+◌, ◌≤◌, ◌++◌, ℕ, [], List, IfErr, IfOk, IfSome, MatchOption, OnOk, length, true};
 ghost use Rattle.droid_journal_bare.specs.BareFrames.{bare_piece_bytes};
@@ -15,10 +15,10 @@ use droid_journal_bare::{bare_finish, bare_piece_by};
 use droid_journal_chain::{checksum_of, record};
 use std::alloc::{AllocError, Global};
 
-/// How many bytes are collected before they are written.
+/// The bytes that are collected before they are written.
 const COLLECTED: usize = 1_048_576;
 
-/// Writes records anew into a file.
+/// Writes the records of the smaller journal into a file.
 #[derive(Drop)]
 pub(crate) struct Rewriter<N: LogFile> {
     pub(crate) alloc: Global,
@@ -38,7 +38,7 @@ pub(crate) struct Rewriter<N: LogFile> {
     pub(crate) bytes: u64,
 }
 
-/// Returns the bare request in the place of one that only an unfinished file needs, and `None` if the request stays.
+/// Returns the bare form of a request that only an unfinished file needs whole, or `None` if the request stays.
 fn bare_of(
     alloc: Global,
     ended: &Numbers,
@@ -72,8 +72,8 @@ fn bare_of(
     Ok(Some(bare))
 }
 
-/// Appends the record of a request to a buffer, bare if its file has ended, and returns its check value. `seals` are the start
-/// value and the check value of the record before.
+/// Appends the record of a request to a buffer, bare if its file has ended, and returns its check value. `seals` are the
+/// start value and the check value of the record before it.
 fn spell(
     alloc: Global,
     ended: &Numbers,
@@ -100,7 +100,7 @@ fn spell(
     }
 }
 
-/// Writes what was collected behind so many bytes, and returns how many there are then.
+/// Appends what was collected to the file, and returns how many bytes it then has.
 pub(crate) fn flush<N: LogFile>(
     file: &mut N,
     out: &mut Vec<u8>,

@@ -1,10 +1,10 @@
-//! How large a journal is.
+//! The size of a journal.
 
-/// How large a journal is.
+/// The size of a journal.
 #[derive(Clone, Copy)]
 pub struct Size {
     /// How many records it has.
     pub records: u64,
-    /// How many bytes it has, its header's among them.
+    /// How many bytes it has, with its header.
     pub bytes: u64,
 }

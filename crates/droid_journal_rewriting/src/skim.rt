@@ -13,7 +13,7 @@ use crate::fields::{file_of, stamp_of};
 use crate::rewrite_fault::RewriteFault;
 use droid_journal::LogFile;
 
-/// How many bytes are read at the front of a record.
+/// The bytes that are read at the front of a record.
 const READ: usize = 64;
 
 /// The least bytes of a record.
@@ -143,7 +143,7 @@ fn skim_one<F: LogFile>(file: &F, ended: &mut Ended, at: u64) -> Result<Option<u
     }
 }
 
-/// Notes the records of a journal from a place on. Of a file that is none it notes what stands there as records would.
+/// Notes the records of a journal from a place on. A file that is no journal is read as if it were one.
 pub(crate) fn skim<F: LogFile>(file: &F, ended: &mut Ended, from: u64) -> Result<(), RewriteFault>
     requires found { F.is_found file.now }
     ensures noted { (s start check : List ℕ) (its : List Record) → F.has file.now s → AllFit its → drop from s ≡ chain_bytes start check its → AreNoted ended.old.files ended.old.stamps []

@@ -12,17 +12,17 @@ use droid_lanes::Md5Lanes;
 /// How many bytes the header of a request's frame has.
 const HEADER: usize = 18;
 
-/// How many bytes stand in front of a record's request.
+/// The bytes in front of a record's request.
 const FRONT: usize = 5;
 
-/// How many bytes stand in front of a record's reply.
+/// The bytes in front of a record's reply.
 const LENGTH: usize = 4;
 
 /// How many bytes a check value has.
 const CHECK: usize = 16;
 
-/// How many bytes a request has at least whose checksum is computed with seven others. One lane beside seven that are idle takes
-/// longer than a checksum that is computed alone.
+/// The least bytes of a request whose checksum is computed beside others. One busy lane beside seven idle ones takes longer
+/// than the usual MD5.
 const LONG: usize = 1_024;
 
 /// The checksums of the long requests of up to eight records.
@@ -44,7 +44,7 @@ fn request_at(bytes: &[u8]) -> &[u8]
     }
 }
 
-/// Returns the byte of its kind.
+/// Returns the byte of a request's kind.
 fn kind_at(bytes: &[u8]) -> &[u8]
     ensures { result.now ≡ kind_in bytes.now }
 {
@@ -55,7 +55,7 @@ fn kind_at(bytes: &[u8]) -> &[u8]
     &request[1..2]
 }
 
-/// Returns its body.
+/// Returns the body of a request.
 fn body_at(bytes: &[u8]) -> &[u8]
     ensures { result.now ≡ body_in bytes.now }
 {
@@ -66,15 +66,15 @@ fn body_at(bytes: &[u8]) -> &[u8]
     &request[HEADER..]
 }
 
-/// Returns the last bytes, so many of them.
+/// Returns the last `count` bytes.
 fn last_of(bytes: &[u8], count: usize) -> &[u8]
     ensures { result.now ≡ last_in bytes.now count }
 {
     &bytes[bytes.len().saturating_sub(count)..]
 }
 
-/// Returns how many bytes are left behind the record that begins where so many are left, as far as its lengths say; none if
-/// there is no whole request. Nothing depends on it but time: a checksum is taken where as many bytes are left, and no other.
+/// Returns how many bytes are left behind the record that begins where `left` bytes are left, by its lengths alone, or 0 if
+/// there is no whole request. Only the time depends on it: a checksum is used only where exactly as many bytes are left.
 fn left_behind(bytes: &[u8], left: usize) -> usize {
     let rest = last_of(bytes, left);
     let Some(request) = request_of(rest) else {
@@ -92,7 +92,7 @@ fn left_behind(bytes: &[u8], left: usize) -> usize {
     left.saturating_sub(size)
 }
 
-/// Returns whether a whole request is at the front that is long.
+/// Returns whether a whole and long request is at the front.
 pub(crate) fn is_long(bytes: &[u8]) -> bool {
     request_at(bytes).len() >= LONG
 }
@@ -122,7 +122,7 @@ fn places_of(bytes: &[u8]) -> [usize; 8] {
     [first, second, third, fourth, fifth, sixth, seventh, eighth]
 }
 
-/// Computes the checksums of the requests that begin where so many bytes are left.
+/// Computes the checksums of the requests that begin where these numbers of bytes are left.
 fn digests_of(bytes: &[u8], left: [usize; 8]) -> [[u8; 16]; 8]
     ensures { (lane : ℕ) → lane < 8 → slice_index_or result lane [] ≡ md5 (kind_in (last_in bytes.now (slice_index left lane)) ++ body_in (last_in bytes.now (slice_index left lane))) }
 {

@@ -1,15 +1,15 @@
-//! What takes the records of a file, one after another.
+//! The trait for reading the records of a file in order.
 
 ghost use Rattle.std.specs.Prelude.{◌≡◌, ◌+◌, ◌≤◌, ◌++◌, ◌∷◌, [], Bool, List, length, IfErr, OnOk};
 ghost use Rattle.droid_journal_chain.specs.Records.{Record, checksum, made};
 
 use crate::rewrite_fault::RewriteFault;
 
-/// What takes the records of a file, one after another.
+/// Takes the records of a file in order.
 pub(crate) trait Taker {
     ghost use Rattle.droid_journal_rewriting.specs.Faults.{IsOfTaking};
 
-    /// What its work depends on beside the records.
+    /// What the result depends on beside the records.
     ghost Setting: { Type 0 };
 
     /// It took these records, in order.

@@ -1,4 +1,4 @@
-//! Taking the records of a file, a part of it at a time.
+//! Taking the records of a file, one window at a time.
 
 ghost use Rattle.std.specs.Prelude.{◌≡◌, ◌*◌, ◌+◌, ◌<◌, ◌≤◌, ◌^◌, ℕ, List, [], IfErr, IfNone, IfOk, IfSome, drop, length};
 ghost use Rattle.droid_journal_chain.specs.Chains.{BeginsNoRecord, BeginsWith};
@@ -13,7 +13,7 @@ use crate::taker::Taker;
 use droid_journal::LogFile;
 use droid_journal_chain::{Found, record_by};
 
-/// How many bytes of a file are read at once.
+/// The bytes that are read at once: a window.
 pub(crate) const WINDOW: usize = 16_777_216;
 
 /// How far the records of a file were read.
@@ -27,18 +27,19 @@ pub(crate) struct Place {
     pub(crate) records: u64,
 }
 
-/// How far the records of some bytes were taken.
+/// How many of the records in a window were taken.
 #[derive(Clone, Copy)]
 pub(crate) struct Taken {
     /// How many bytes the records have.
     pub(crate) used: usize,
     /// The check value of the last record.
     pub(crate) check: [u8; 16],
-    /// How many records there were so far in all.
+    /// How many records there were in the file so far.
     pub(crate) records: u64,
 }
 
-/// Reads the record at the front of bytes. If its request is long and has no checksum, computes those of eight long ones.
+/// Reads the record at the front of bytes. If its request is long and its checksum isn't computed, computes those of the next
+/// eight long requests.
 fn next_of<'a>(start: &[u8], check: [u8; 16], bytes: &'a [u8], sums: &mut Sums) -> Option<Found<'a>>
     requires { AreSumsIn bytes.now sums.old }
     ensures sums { AreSumsIn bytes.now sums.new }
@@ -53,7 +54,7 @@ fn next_of<'a>(start: &[u8], check: [u8; 16], bytes: &'a [u8], sums: &mut Sums) 
     record_by(start, &check, bytes, sum)
 }
 
-/// Takes each record at the front of bytes, behind `records` records of which the last has this check value.
+/// Takes each record at the front of bytes. `records` records came before, the last with this check value.
 fn take_records<T: Taker>(
     taker: &mut T,
     start: &[u8],
@@ -86,7 +87,7 @@ fn take_records<T: Taker>(
     })
 }
 
-/// Takes the records from a place on that are whole in what is read at once.
+/// Takes the records from a place on that are whole in one window.
 fn take_some<F: LogFile, T: Taker>(
     file: &F,
     taker: &mut T,

@@ -1,4 +1,4 @@
-//! How much of a journal is of files that have ended.
+//! How much of a journal belongs to files that have ended.
 
 ghost use Rattle.std.specs.Prelude.{◌≡◌, ◌+◌, ◌*◌, ◌<◌, ◌≤◌, ◌↔◌, ℕ, Bool, List, IfOk, IsErrOf, IsTrue, length};
 ghost use Rattle.std.specs.List.{sum_by};
@@ -18,7 +18,7 @@ use crate::whole::take_whole;
 use droid_journal::LogFile;
 use std::alloc::Global;
 
-/// How many bytes of a record are not of its two frames.
+/// The bytes of a record beside its two frames.
 const AROUND: usize = 25;
 
 /// How many bytes the pieces of some files have so far.
@@ -89,7 +89,7 @@ fn weighs_more<F: LogFile>(
     }
 }
 
-/// Returns whether more than half of a journal's bytes are of pieces of files that have ended, by this buffer.
+/// Returns whether more than half of a journal's bytes are of pieces of files that have ended. Reads through this buffer.
 fn is_mostly_ended_by<F: LogFile>(
     alloc: Global,
     file: &F,
@@ -112,8 +112,8 @@ fn is_mostly_ended_by<F: LogFile>(
     }
 }
 
-/// Returns whether more than half of a journal's bytes are of records of pieces of files that were finished or abandoned. Then
-/// a smaller journal has little more than the other half. The file is only read, 16 MiB at a time.
+/// Returns whether more than half of a journal's bytes are of pieces of files that were finished or abandoned. Then the
+/// smaller journal has little more than the other half. Only reads the file, 16 MiB at a time.
 ///
 /// A journal with anything behind its whole records is refused ([`RewriteFault::Behind`]).
 pub fn is_mostly_ended<F: LogFile>(

@@ -1,4 +1,4 @@
-//! Taking all records of a journal that has nothing behind them.
+//! Taking all records of a journal with nothing behind them.
 
 ghost use Rattle.std.specs.Prelude.{◌≡◌, ◌≢◌, ◌<◌, ◌↔◌, ℕ, List, [], IfErr, IfOk, IsErrOf, IsTrue, drop, length};
 ghost use Rattle.droid_journal.specs.Opening.{HasHeader};
@@ -21,7 +21,7 @@ fn is_same(one: &[u8], other: &[u8]) -> bool
     one == other
 }
 
-/// Reads as many bytes as the header has, and returns whether they are the header.
+/// Reads as many bytes as the header has, and compares them with it.
 fn is_header<F: LogFile>(file: &F, header: &[u8], front: &mut [u8]) -> Result<bool, RewriteFault>
     requires found { F.is_found file.now }
     requires room { length front.old ≡ length header.now }
@@ -44,7 +44,7 @@ fn has_header<F: LogFile>(alloc: Global, file: &F, header: &[u8]) -> Result<bool
     is_header(file, header, front.as_mut_slice())
 }
 
-/// Reads a byte at a place, and returns how many there are: none only if the file ends there.
+/// Reads one byte at a place, and returns 1, or 0 if the file ends there.
 fn count_at<F: LogFile>(file: &F, at: u64) -> Result<usize, RewriteFault>
     requires found { F.is_found file.now }
     ensures none { (s : List ℕ) → F.has file.now s → IfOk result (λ count. count ≡ 0 → drop at s ≡ []) }
@@ -58,7 +58,7 @@ fn count_at<F: LogFile>(file: &F, at: u64) -> Result<usize, RewriteFault>
     }
 }
 
-/// Takes all records of a file that has this header, sees that nothing stands behind them, and returns how large the file is.
+/// Takes all records of a file with this header, checks that nothing is behind them, and returns the file's size.
 pub(crate) fn take_whole<F: LogFile, T: Taker>(
     alloc: Global,
     file: &F,

@@ -13,23 +13,23 @@ ghost use Rattle.droid_journal_service.specs.Histories.{Base, IsHistoryBehind, I
 /// The records of a journal lead to the history that its service stands for: so they do when the journal is made small.
 pub fn records_lead_to_their_history()
     ensures whole { (setting : Setting) (records : List Record) (history : History) → IsHistoryOf setting records history → LeadTo setting (λ profile file. false) records history }
-    // Also those behind a journal that was made small.
+    // This also holds of records behind those of a journal that was made small.
     ensures behind { (setting : Setting) (bare : Bare) (base : Base setting) (records : List Record) (history : History) → LeadTo setting bare base.first base.history
         → IsHistoryBehind setting base records history → LeadTo setting bare records history }
-    // Whatever the service was made of, some files are those without bytes.
+    // Whatever the service was made from, some choice of files without bytes fits its records.
     ensures each { (setting : Setting) (base : Base setting) (records : List Record) (history : History) → IsHistoryBehind setting base records history → (bare : Bare) × LeadTo setting bare records history }
 {}
 
-/// However often a service's journal is made smaller, and goes on, it leads to the history of all that was accepted: whatever
-/// records opening finds in the smaller file, with the bytes that [`droid_journal_smaller::rewrite`] writes, they lead to the
-/// history of the old file's records.
+/// However often a service's journal is made smaller between two runs, it leads to the history of all that was accepted:
+/// whatever records opening finds in the bytes that [`droid_journal_smaller::rewrite`] writes, they lead to the history of the
+/// old file's records.
 pub fn a_smaller_file_leads_to_the_same_history()
     ensures { (header file bytes : List ℕ) (setting : Setting) (base : Base setting) (its read : List Record) (history : History) → IsHistoryBehind setting base its history → IsWhole header file its
         → IsShortened header file bytes → WasFound header bytes read → (bare : Bare) × LeadTo setting bare read history }
 {}
 
-/// Whole records have one history. So a service that is made of a journal without bare records stands for the history that
-/// its records lead to.
+/// Whole records have one history. So a service that is made from a journal without bare records has the history that its
+/// records lead to.
 pub fn whole_records_have_one_history()
     ensures { (setting : Setting) (bare : Bare) (records : List Record) (history other : History) → IsHistoryOf setting records history → LeadTo setting bare records other → other ≡ history }
 {}

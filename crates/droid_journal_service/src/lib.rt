@@ -1,10 +1,10 @@
 //! A service whose accepted requests are on the disk before their replies are sent.
 //!
-//! [`ServiceJournal`] is a journal over a service. Its clauses speak of histories: what is replied is the answer after the
-//! history so far, [`ServiceJournal::settle`] brings the history to the disk, and a service that is made from the file after
-//! a crash stands for a history that has all that was on the disk, and nothing that was not accepted.
-//! [`ServiceJournal::open_small`] makes one from a journal that was made small. The crate re-exports the service, the file of a
-//! journal, and how a journal is made smaller.
+//! [`ServiceJournal`] is a service with a journal. Its clauses speak of histories: each reply is the answer after the history
+//! so far, [`ServiceJournal::settle`] brings the history to the disk, and a service that is made from the file after a crash
+//! has a history with all that was on the disk, and nothing that was not accepted. [`ServiceJournal::open_small`] reads a
+//! journal that was made small. The crate re-exports the service, the journal's file, and the code that makes a journal
+//! smaller.
 #![tactic(auto)]
 
 pub mod laws;

@@ -43,8 +43,8 @@ pub struct Unopened<F: LogFile> {
 }
 
 impl<F: LogFile + Drop> ServiceJournal<F> {
-    /// Makes a service from the records of a file, and cuts the file behind them; `fresh` has accepted nothing yet. The file
-    /// is made, if it is empty. Nothing is written or cut before everything was read and found right.
+    /// Makes a service from the records of a file, and truncates the file behind them. `fresh` has accepted nothing yet. An
+    /// empty file gets its header. Nothing is written or cut off before the whole file was read and found right.
     ///
     /// A journal that was made small is not opened: [`Fault::Record`]. [`ServiceJournal::open_small`] opens it.
     pub fn open(
@@ -55,24 +55,24 @@ impl<F: LogFile + Drop> ServiceJournal<F> {
     ) -> Result<ServiceJournal<F>, Unopened<F>>
         requires found { F.is_found file }
         requires header { length header.now ≤ 4096 }
-        // What is kept of a file that has this header was written by a journal.
+        // If the file has this header, its bytes on the disk were written by a journal.
         requires kept { (s : List ℕ) → F.has file s → HasHeader header.now s → IsKept header.now (F.kept file) }
         ensures opened { (setting : Setting) (s : List ℕ) → StandsFor setting fresh [] → F.has file s → IfOk result (λ it. (its : List Record) × (history : History) × WasFound header.now s its
             × IsHistoryOf setting its history × StandsForHistory F.has F.kept setting header.now it.journal history history) }
-        // After a crash it stands for a history that goes on from the one on the disk and is the first of the one that was
-        // accepted. So whoever holds a reply that was sent gets it again.
+        // After a crash its history begins with the one on the disk, and is a prefix of the accepted one. So a client
+        // that got a reply gets it again.
         ensures reopened { (setting : Setting) (s : List ℕ) (synced all : History) → StandsFor setting fresh [] → F.has file s → IsLeft setting header.now s synced all
             → IfOk result (λ it. (history : History) × StandsForHistory F.has F.kept setting header.now it.journal history history × IsBetween synced history all) }
         ensures fault { IfOk result (λ it. it.journal.fault ≡ None) }
         ensures unchanged { IfErr result (λ it. it.fault ≢ Fault.Write → it.file ≡ file) }
-        // After any fault what is on the disk for sure is what it was.
+        // A fault changes nothing of what is on the disk for sure.
         ensures kept { IfErr result (λ it. F.kept it.file ≡ F.kept file) }
-        // Nor is a crash taken for damage.
+        // A crash is not reported as damage.
         ensures lawful { (n : ℕ) (setting : Setting) (s : List ℕ) (synced all : History) → F.has file s → IsLeft setting header.now s synced all → IfErr result (λ it. it.fault ≢ Fault.Damage n) }
         // Damage is reported only where a record stands behind it that was written when all before it was on the disk.
         ensures damage { (n : ℕ) (s : List ℕ) → F.has file s → IfErr result (λ it. it.fault ≡ Fault.Damage n → WasDamaged header.now s n) }
-        // A record is refused only if no service of this registry and these limits got its request behind those before it, or
-        // not with its reply.
+        // A record is refused only if no service with this registry and these limits accepts its request after the records
+        // before it with the reply of the record.
         ensures refuted { (n : ℕ) (setting : Setting) (s : List ℕ) → StandsFor setting fresh [] → F.has file s
             → IfErr result (λ it. it.fault ≡ Fault.Record n → WasRefuted (GivesReply setting (no_base setting)) header.now s n) }
         ensures other_header { (s : List ℕ) → F.has file s → IfErr result (λ it. it.fault ≡ Fault.Header → (HasHeader header.now s → ⊥) × ((count : ℕ) → IsBegun header.now s count → ⊥)) }
@@ -88,9 +88,9 @@ impl<F: LogFile + Drop> ServiceJournal<F> {
         }
     }
 
-    /// Makes a service from the records of a file that was made small, and cuts the file behind them. The service has this
-    /// registry and these limits, and caches up to `places` replies. Returns `None` if no record of the file lacks its bytes:
-    /// it was not made small.
+    /// Makes a service from the records of a file that was made small, and truncates the file behind them. The service has
+    /// this registry and these limits, and caches up to `places` replies. Returns `None` if no record lacks its bytes, so that
+    /// the file was not made small.
     pub fn open_small(
         alloc: Global,
         file: F,
@@ -105,22 +105,22 @@ impl<F: LogFile + Drop> ServiceJournal<F> {
         requires profiles { limits.profiles ≤ 64 }
         requires nodes { limits.nodes ≤ 100000 }
         requires unfinished { limits.unfinished ≤ 64 }
-        // It stands for each history that the records have, whichever files have no bytes, if each of these files has ended.
+        // It has each history that the records have, whichever files have no bytes, if each of these files has ended.
         ensures opened { (setting : Setting) (s : List ℕ) → setting.limits ≡ limits_given limits → IsOf registry setting → F.has file s
             → IfOk result (λ o. IfSome o (λ it. (its : List Record) × WasFound header.now s its × HasBare its
             × ((bare : Bare) (history : History) → LeadTo setting bare its history → StandsForHistory F.has F.kept setting header.now it.journal history history))) }
         ensures whole { (setting : Setting) (s : List ℕ) → setting.limits ≡ limits_given limits → IsOf registry setting → F.has file s
             → IfOk result (λ o. o ≡ None → (its : List Record) × WasFound header.now s its × (HasBare its → ⊥)) }
-        // So it does after it went on and crashed: no more is lost than of a journal that was never made small.
+        // This also holds after further requests and a crash: no more is lost than of a journal that was never made small.
         ensures reopened { (setting : Setting) (s : List ℕ) (synced all : History) → setting.limits ≡ limits_given limits → IsOf registry setting → F.has file s → IsLeft setting header.now s synced all
             → IfOk result (λ o. IfSome o (λ it. (history : History) × StandsForHistory F.has F.kept setting header.now it.journal history history × IsBetween synced history all)) }
         ensures fault { IfOk result (λ o. IfSome o (λ it. it.journal.fault ≡ None)) }
-        // Nor does a crash make it seem whole.
+        // A crash does not make it seem whole.
         ensures small { (setting : Setting) (s : List ℕ) (synced all : History) → setting.limits ≡ limits_given limits → IsOf registry setting → F.has file s → (left : IsLeft setting header.now s synced all)
             → HasBare left.first → IfOk result (λ o. IsSome o) }
         ensures lawful { (n : ℕ) (setting : Setting) (s : List ℕ) (synced all : History) → F.has file s → IsLeft setting header.now s synced all → IsErrOf result (Fault.Damage n) → ⊥ }
         ensures damage { (n : ℕ) → IsErrOf result (Fault.Damage n) → (s : List ℕ) → F.has file s → WasDamaged header.now s n }
-        // A record is refused only if it is none that goes on a history of those before it, whichever files have no bytes.
+        // A record is refused only if it continues no history of the records before it, whichever files have no bytes.
         ensures refuted { (n : ℕ) → IsErrOf result (Fault.Record n) → (setting : Setting) (bare : Bare) (s : List ℕ) → setting.limits ≡ limits_given limits → IsOf registry setting → F.has file s
             → WasRefuted (GivesRecord (record { setting = setting; bare = bare })) header.now s n }
         ensures other_header { IsErrOf result Fault.Header → (s : List ℕ) → F.has file s → (HasHeader header.now s → ⊥) × ((count : ℕ) → IsBegun header.now s count → ⊥) }
@@ -133,7 +133,7 @@ impl<F: LogFile + Drop> ServiceJournal<F> {
         }
     }
 
-    /// Begins with a journal that was read, if it was made small.
+    /// Starts from a journal that was read, if it was made small.
     fn revived(
         alloc: Global,
         file: F,
@@ -164,7 +164,7 @@ impl<F: LogFile + Drop> ServiceJournal<F> {
         Ok(Some(ServiceJournal { journal }))
     }
 
-    /// Begins with a journal that was read.
+    /// Starts from a journal that was read.
     fn begun(journal: Journal<F, ServiceMachine>) -> ServiceJournal<F>
         ensures settled { (setting : Setting) (base : Base setting) (header : List ℕ) (records : List Record) → IsSettled F.has F.kept (λ machine its. StandsForRecords setting base machine.service its) header journal records
             → IsSettled F.has F.kept (λ machine its. StandsForRecords setting base machine.service its) header result.journal records }
@@ -186,8 +186,8 @@ impl<F: LogFile + Drop> ServiceJournal<F> {
     pub fn handle(&mut self, frame: Frame) -> Reply
         ensures handled { (setting : Setting) (header : List ℕ) (synced all : History) → StandsForHistory F.has F.kept setting header self.old.journal synced all
             → self.new.journal.fault ≡ None → AnswersIn setting all frame result (StandsForHistory F.has F.kept setting header self.new.journal synced) }
-        // Whatever became of it: what was on the disk is there, and no more was written than what was accepted so far and
-        // this request.
+        // Also after a fault, what was on the disk stays, and nothing was written but what was accepted so far and this
+        // request.
         ensures keeps { (setting : Setting) (header : List ℕ) (synced all : History) → StandsForHistory F.has F.kept setting header self.old.journal synced all
             → (written : List Record) × (after : History) × IsNextOr setting all frame after × KeepsHistory F.kept setting header self.new.journal.file written synced after }
         ensures spelled { HasReplySpelling frame.version result }
@@ -197,8 +197,8 @@ impl<F: LogFile + Drop> ServiceJournal<F> {
         self.journal.handle(frame)
     }
 
-    /// Brings the history to the disk. After `Ok` the replies of all requests so far may be sent; after a fault none may be
-    /// sent any more, and every further call returns a fault.
+    /// Brings the history to the disk. After `Ok` the replies to all requests so far may be sent. After a fault no reply may
+    /// be sent any more, and every further call returns a fault.
     pub fn settle(&mut self) -> Result<(), Fault>
         ensures settled { (setting : Setting) (header : List ℕ) (synced all : History) → StandsForHistory F.has F.kept setting header self.old.journal synced all
             → OnOk result (StandsForHistory F.has F.kept setting header self.new.journal all all) }
@@ -212,9 +212,9 @@ impl<F: LogFile + Drop> ServiceJournal<F> {
     }
 }
 
-/// Crashes a service with a journal in whatever state, with any bytes behind what is on the disk, and makes a new service
-/// from the file. Unless these bytes are records by chance, it stands for a history that goes on from the one on the disk and
-/// is the first of the one that was accepted. So whoever holds a reply that was sent gets it again.
+/// Crashes a service with a journal in any state, with any bytes behind those on the disk, and makes a new service from the
+/// file. Unless these bytes are records by chance, its history begins with the one on the disk, and is a prefix of the accepted
+/// one. So a client that got a reply gets it again.
 pub fn crash_and_reopen<F: Tears + Drop>(
     alloc: Global,
     before: ServiceJournal<F>,

@@ -12,22 +12,22 @@ use droid_journal_smaller::{Frame, Reply, Service};
 /// The kinds of requests below this one are commands, which change the service if they are accepted.
 const QUERIES: u8 = 7;
 
-/// A service as the machine of a journal. It stands for records if it stands for the history of their requests, behind what it
-/// was made of.
+/// A service as the machine of a journal. It has the state after records if its history is that of their requests, behind the
+/// history that it was made from.
 ///
-/// An accepted command goes into the journal unless the service has its reply cached, since then it came again. One whose
-/// reply is kept but no longer cached goes in once more, and changes nothing when it is read. Which replies are cached depends
-/// on what came again too, and that is not in the journal. So while a journal is read every accepted command belongs to it.
+/// An accepted command goes into the journal unless the service has its reply cached, since then it came again. A repeated
+/// command whose reply is no longer cached goes in once more, and changes nothing when it is read. Which replies are cached
+/// also depends on repeats, which are not in the journal. So while a journal is read, every accepted command belongs to it.
 #[derive(Drop)]
 pub struct ServiceMachine {
     /// The service.
     pub service: Service,
-    /// Whether the journal was read: what is handled now is new.
+    /// Whether the whole journal was read, so that requests are new from now on.
     pub live: bool,
 }
 
 impl ServiceMachine {
-    /// Whether a request came before for sure, by its client and number.
+    /// Returns whether a request surely came before, by its client and number.
     fn knows(&self, client: u32, number: u64) -> bool
         ensures kept { (setting : Setting) (history : History) → StandsFor setting self.now.service history → result ≡ true → IsSome (kept history client number) }
     {
@@ -56,7 +56,7 @@ impl Machine for ServiceMachine {
     }
 }
 
-/// Whether a request with this reply goes into the journal.
+/// Returns whether a request with this reply goes into the journal.
 fn belongs(commands: bool, known: bool, reply: &Reply) -> bool
     ensures refused { is_refused reply.now ≡ true → result ≡ false }
     ensures query { commands ≡ false → result ≡ false }
@@ -68,7 +68,7 @@ fn belongs(commands: bool, known: bool, reply: &Reply) -> bool
     commands && !known
 }
 
-/// Whether a reply is a refusal.
+/// Returns whether a reply is a refusal.
 fn refuses(reply: &Reply) -> bool
     ensures { result ≡ is_refused reply.now }
 {

@@ -10,19 +10,19 @@ use droid_journal_disk::{Fault, Handled, Machine};
 use droid_journal_smaller::{BARE_FINISH, BARE_PIECE, Frame, Limits, RecoveringMachine, Registry};
 use std::alloc::Global;
 
-/// Reads a journal that was made small, and notes whether it was: whether a record has a piece or a Finish without the bytes
-/// of the file.
+/// Reads a journal, and notes whether it was made small: whether a record has a piece or a Finish without the bytes of the
+/// file.
 #[derive(Drop)]
 pub struct SmallReader {
     /// Takes the records.
     pub machine: RecoveringMachine,
-    /// Whether such a record came.
+    /// Whether such a record was read.
     pub is_small: bool,
 }
 
 impl SmallReader {
-    /// Makes one that has read nothing yet, for a service with this registry and these limits. Fails only if there is no
-    /// memory.
+    /// Makes one that has read nothing yet, for a service with this registry and these limits. Fails only if memory runs
+    /// out.
     pub(crate) fn new(
         alloc: Global,
         registry: Registry,
@@ -63,7 +63,7 @@ impl Machine for SmallReader {
     }
 }
 
-/// Whether a frame of this kind came without its bytes.
+/// Returns whether a frame of this kind lacks its bytes.
 fn is_bare(kind: u8) -> bool
     ensures bare { result ≡ true → (kind ≡ 68) ⊎ (kind ≡ 69) }
     ensures all { (kind ≡ 68) ⊎ (kind ≡ 69) → result ≡ true }
@@ -71,7 +71,7 @@ fn is_bare(kind: u8) -> bool
     kind == BARE_PIECE || kind == BARE_FINISH
 }
 
-/// Whether there is a bare frame among those before and this one.
+/// Returns whether this frame, or one before it, is bare.
 fn has_bare(before: bool, bare: bool, accepted: bool) -> bool
     ensures one { result ≡ true → (before ≡ true) ⊎ ((bare ≡ true) × (accepted ≡ true)) }
     ensures stays { before ≡ true → result ≡ true }

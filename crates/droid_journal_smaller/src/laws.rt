@@ -11,14 +11,14 @@ ghost use Rattle.droid_journal_rewriting.specs.Shortening.{IsShortened, IsWhole,
 ghost use Rattle.droid_journal_smaller.specs.BareFiles.{bare_after, or_ended};
 ghost use Rattle.droid_journal_recovery.specs.BareRecords.{HaveHistory, LeadTo};
 
-/// Whichever files are made bare, the records of the smaller journal have the history of the old one's.
+/// Whichever files are made bare, the records of the smaller journal have the same history as those of the old one.
 pub fn a_smaller_journal_has_the_same_history()
     ensures { (setting : Setting) (bare : Bare) (ended : ℕ → Bool) (its : List Record) (history : History) → HaveHistory setting bare [] its history
         → HaveHistory setting (or_ended bare ended) [] (smaller_by ended its) history }
 {}
 
-/// Once the bare files of the old journal have ended, those of the smaller one have, if it makes only files bare that were
-/// finished or abandoned by the first record of a number.
+/// If the bare files of the old journal have ended, so have those of the smaller one, provided that it makes only files bare
+/// that the first record of a request number finished or abandoned.
 pub fn its_bare_files_have_ended()
     ensures { (setting : Setting) (bare : Bare) (ended : ℕ → Bool) (its : List Record) (history : History) → HaveHistory setting bare [] its history
         → ((profile file : ℕ) → bare profile file ≡ true → IsEnded (world_of setting history) profile file)
@@ -26,15 +26,14 @@ pub fn its_bare_files_have_ended()
         → (profile file : ℕ) → or_ended bare ended profile file ≡ true → IsEnded (world_of setting history) profile file }
 {}
 
-/// A file stands for the same history after it was made smaller as before, however often: whatever records opening finds in
-/// the smaller file, with the bytes that [`droid_journal_rewriting::rewrite`] writes, a service that is made of them stands
-/// for the history of the old file's records.
+/// Making a journal smaller, however often, keeps its history: whatever records opening finds in the bytes that
+/// [`droid_journal_rewriting::rewrite`] writes, a service that is made from them has the history of the old file's records.
 pub fn a_smaller_file_stands_for_the_same_history()
     ensures same { (header file bytes : List ℕ) (setting : Setting) (bare : Bare) (its read : List Record) (history : History) → IsWhole header file its → LeadTo setting bare its history
         → IsShortened header file bytes → WasFound header bytes read → LeadTo setting (bare_after bare its) read history }
-    // What `RecoveringMachine::into_service` wants to know of the records.
+    // What `RecoveringMachine::into_service` requires of the records.
     ensures service { (setting : Setting) (bare : Bare) (its : List Record) (history : History) → LeadTo setting bare its history
         → HaveHistory setting bare [] its history × HaveEnded bare (world_of setting history) }
-    // A journal in which nothing is bare stands for its history.
+    // A journal without bare records has the history of its requests.
     ensures whole { (setting : Setting) (its : List Record) (history : History) → HaveHistory setting (λ profile file. false) [] its history → LeadTo setting (λ profile file. false) its history }
 {}

@@ -1,5 +1,5 @@
-//! What a journal that was made smaller stands for: the very history of the whole one. Laws, without code. The crate re-exports
-//! how a journal is made smaller, and how such a one is read.
+//! Laws of smaller journals, without code: a smaller journal has the same history as the whole one. The crate re-exports the
+//! crates that make a journal smaller and read such a journal.
 #![tactic(auto)]
 
 pub mod laws;

@@ -1,4 +1,4 @@
--- What serving many connections by one service comes to (this project's own).
+-- The outcome of serving many connections by one service (this project's own).
 use Rattle.std.specs.Prelude.{List, [], ◌∷◌, map}
 use Rattle.std.specs.List.{flat_map}
 use Rattle.droid_frame.specs.types.frame.Frame.{Frame}

@@ -1,10 +1,10 @@
-//! A service as what handles the frames of all connections.
+//! A service as a handler.
 
 use droid_frame::{Frame, Reply};
 use droid_wire_journal::{Handler, Service};
 
-/// A service that handles the frames of all connections, one after another. It keeps everything in memory, so there is
-/// nothing to settle.
+/// Handles the frames of all connections by a service, one after another. The service keeps everything in memory, so there
+/// is nothing to settle.
 #[derive(Drop)]
 pub struct ServiceHandler {
     /// The service.

@@ -15,26 +15,24 @@ use droid_journal_service::LogFile;
 use droid_wire_pipe::{Connections, Rules, Served, serve_in_turns};
 use std::alloc::Global;
 
-/// Serves many connections by one service with a journal, in turns, until as many as are wanted came and left, or the
+/// Serves many connections by one service with a journal, in turns, until as many as the rules allow came and left, or the
 /// journal fails.
 ///
-/// In each turn the frames of all connections are handled, then what was accepted is brought to the disk, then the replies
-/// are written.
+/// In each turn it handles the frames of all connections, then brings the accepted ones to the disk, then writes the replies.
 pub fn serve_journal<C: Connections, F: LogFile + Drop>(
     alloc: Global,
     connections: &mut C,
     handler: &mut JournalHandler<F>,
     rules: Rules,
 ) -> Served
-    // The steps are those of a loop that serves each connection well. At each moment, also where the journal failed: what is
-    // on the disk and what may be written behind it are histories, as a crash needs them. The one that may be written has
-    // nothing but frames that came, in their order, each with its answer. Whatever was handled before a byte was written to
-    // any connection is on the disk.
+    // The loop serves each connection well. At each moment, also after the journal failed, there is a history on the disk,
+    // and one that may be written behind it, as opening after a crash requires. The latter has only frames that came, in
+    // their order, each with its answer. All that was handled before a byte was written to any connection is on the disk.
     ensures journal { (setting : Setting) (header : List ℕ) (history : History) → StandsForHistory F.has F.kept setting header handler.old.journal.journal history history
         → ServesJournal C.does F.has F.kept rules setting header history connections.old handler.old connections.new handler.new result }
-    // The journal's fault that is noted is one of writing, and never that the file is damaged or another's.
+    // A noted fault of the journal is a fault of writing, never that the file is damaged or has another header.
     ensures noted { MayBeOfWriting handler.old.journal.journal.fault → MayBeOfWriting handler.old.fault → MayBeOfWriting handler.new.fault }
-    // Whatever is known of the file: each connection was served well, and the handler settled before each write.
+    // Even if nothing is known of the file, each connection was served well, and the handler settled before each write.
     ensures serves { Goes C.does (HandlesSo F.has F.kept) (SettlesSo F.has F.kept) connections.old handler.old connections.new handler.new (ServesAll rules result) }
 {
     serve_in_turns(alloc, connections, handler, rules)

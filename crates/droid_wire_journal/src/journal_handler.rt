@@ -1,15 +1,15 @@
-//! A service with its journal as what handles the frames of all connections.
+//! A service with its journal, as a handler.
 
 use droid_frame::{Frame, Reply};
 use droid_journal_service::{Fault, LogFile, ServiceJournal};
 use droid_wire_pipe::Handler;
 
-/// A service with its journal that handles the frames of all connections, one after another.
+/// Handles the frames of all connections by a service with its journal, one after another.
 #[derive(Drop)]
 pub struct JournalHandler<F: LogFile> {
     /// The service and its journal.
     pub journal: ServiceJournal<F>,
-    /// Why it could not settle, once it could not.
+    /// Why it could not settle, after that failed.
     pub fault: Option<Fault>,
 }
 

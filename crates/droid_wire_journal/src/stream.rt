@@ -20,11 +20,11 @@ pub fn answer_journal<R: SteadyRead, W: SteadyWrite, F: LogFile + Drop>(
     handler: &mut JournalHandler<F>,
     pipe: &mut Pipe<R, W>,
 ) -> Served
-    // The stream is served as one connection is. At each moment, also where the journal failed, all that was handled before
-    // a byte of any reply was written is on the disk.
+    // The stream is served like one connection. At each moment, also after the journal failed, all that was handled before
+    // a byte of a reply was written is on the disk.
     ensures journal { (setting : Setting) (header : List ℕ) (history : History) → StandsForHistory F.has F.kept setting header handler.old.journal.journal history history
         → AnswersJournal R.remaining W.contents R.seen W.seen W.room F.has F.kept setting header history pipe.old handler.old pipe.new handler.new result }
-    // The journal's fault that is noted is one of writing.
+    // A noted fault of the journal is a fault of writing.
     ensures noted { MayBeOfWriting handler.old.journal.journal.fault → MayBeOfWriting handler.old.fault → MayBeOfWriting handler.new.fault }
 {
     answer_pipe(alloc, handler, pipe)

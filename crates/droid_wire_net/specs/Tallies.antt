@@ -1,9 +1,9 @@
--- What the counts of connections and bytes say (this project's own).
+-- Counts of connections and bytes (this project's own).
 use Rattle.std.specs.Prelude.{ℕ, ◌+◌, length, min}
 use Rattle.droid_wire_turns.specs.Events.{Event, Opened, Read, Wrote, Closed}
 use Rattle.droid_wire_net.specs.declared.tally.Tally.{Tally}
 
--- so many more, but no more than 2^64 - 1
+-- a sum, but no more than 2^64 - 1
 abbrev pub counted : ℕ → ℕ → ℕ
 counted number more = min (number + more) 18446744073709551615
 

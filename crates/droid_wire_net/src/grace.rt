@@ -2,31 +2,31 @@
 
 ghost use Rattle.std.specs.Prelude.{◌+◌, ◌*◌, ◌-◌, ◌≤◌};
 
-/// A turn that took fewer microseconds had no long sync.
+/// The least microseconds of a turn with a long sync.
 const LONG: u64 = 1_000;
 
-/// The most microseconds that a turn waits for more.
+/// The most microseconds that a turn waits for more requests.
 const MOST: u64 = 5_000;
 
-/// After waits in vain at most so many turns in a row wait for nothing.
+/// The most turns in a row that do not wait, after waits in vain.
 const MOST_SKIPPED: u32 = 63;
 
-/// How long a turn waits for the next requests of connections that were just answered. Those that wait already could be
-/// handled at once, but then the others would wait for two syncs: for this turn's and for their own.
+/// How long a turn waits for the next requests of connections that were just answered. Requests that have come could be
+/// handled at once, but then the later ones would wait for two syncs: this turn's and their own.
 #[derive(Clone, Copy)]
 pub(crate) struct Grace {
     /// Whether turns share syncs at all.
     pub(crate) is_given: bool,
     /// When the last turn began, in microseconds.
     began: u64,
-    /// How many turns are still to wait for nothing.
+    /// How many further turns do not wait.
     skips: u32,
-    /// How many did so after the last wait in vain.
+    /// How many turns did not wait after the last wait in vain.
     skipped: u32,
 }
 
 impl Grace {
-    /// Returns the grace of turns that wait for nothing.
+    /// Returns the grace of turns that do not wait.
     pub(crate) fn none() -> Grace {
         Grace {
             is_given: false,
@@ -36,8 +36,8 @@ impl Grace {
         }
     }
 
-    /// Returns how many microseconds may be waited for more, since the replies of the last turn were written at `now`: half
-    /// as long as that turn took, if it took a millisecond. `limit` milliseconds are not exceeded by waits of one each.
+    /// Returns how many microseconds the turn may wait for more requests, if the replies of the last turn were written at
+    /// `now`: half as long as that turn took, if it took a millisecond, and at most `limit` milliseconds by waits of one each.
     pub(crate) fn microseconds(&self, now: u64, limit: u64) -> u64
         ensures half { result + result ≤ now - self.now.began }
         ensures limit { result ≤ (limit - 1) * 1000 }
@@ -59,7 +59,7 @@ impl Grace {
         false
     }
 
-    /// Notes whether more came. The more waits in a row were in vain, the more turns wait for nothing.
+    /// Notes whether more requests came. The more waits in a row were in vain, the more turns do not wait.
     pub(crate) fn note(&mut self, came: bool) {
         if came {
             self.skipped = 0;

@@ -19,9 +19,9 @@ pub(crate) struct Guest {
     pub(crate) id: u64,
     pub(crate) stream: TcpStream,
     pub(crate) address: SocketAddr,
-    /// Whether a read may give something: since the last read that gave all there was, the system said so.
+    /// Whether a read may return bytes: the system reported so since the last read that emptied the socket.
     pub(crate) readable: bool,
-    /// The same for a write.
+    /// Whether a write may take bytes.
     pub(crate) writable: bool,
     /// Whether the system said that the input has ended or failed. Only a further read reports it.
     pub(crate) ending: bool,
@@ -34,7 +34,7 @@ pub(crate) struct Guest {
 }
 
 impl Guest {
-    /// Reads what has come, if the system said that something did.
+    /// Reads what has come, if the system reported something.
     pub(crate) fn read(&mut self, buffer: &mut [u8]) -> Came
         ensures { CameWithin result (length buffer.new) }
     {
@@ -46,7 +46,7 @@ impl Guest {
                 Ok(0) => return Came::End,
                 Ok(size) => {
                     self.came = count(self.came, size);
-                    // A read that leaves room gave all there was. The system reports what comes later.
+                    // A read that leaves room emptied the socket. The system reports what comes later.
                     self.readable = size == buffer.len() || self.ending;
                     return Came::Bytes(size);
                 }
@@ -68,7 +68,7 @@ impl Guest {
         self.answered && !self.readable
     }
 
-    /// Writes some of these bytes, if the system said that it takes some.
+    /// Writes some of these bytes, if the system reported that it takes some.
     pub(crate) fn write(&mut self, bytes: &[u8]) -> Took
         ensures { TookWithin result (length bytes.now) }
     {

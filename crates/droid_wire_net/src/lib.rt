@@ -1,7 +1,7 @@
-//! Many connections to a port of this machine, over sockets that never wait.
+//! Many connections to a port of this machine, over non-blocking sockets.
 //!
-//! [`Sockets`] keeps for each connection whether it can be read or written, by what the system reports. So a connection
-//! that is silent costs no call of the system.
+//! [`Sockets`] notes for each connection whether it can be read or written, as the system reports it. So a silent connection
+//! costs no system call.
 #![tactic(auto)]
 
 mod grace;

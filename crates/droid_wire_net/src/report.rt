@@ -5,7 +5,7 @@ use crate::tally::Tally;
 use droid_frame::FrameFault;
 use droid_wire_turns::Departure;
 
-/// How many milliseconds lie between two lines on all connections.
+/// The milliseconds between two summary lines.
 pub(crate) const MINUTE: u64 = 60_000;
 
 /// What is printed on standard error about connections.
@@ -13,7 +13,7 @@ pub(crate) const MINUTE: u64 = 60_000;
 pub enum Verbosity {
     /// Nothing.
     Quiet,
-    /// A line for each connection that ended, and a line a minute on all of them.
+    /// A line for each connection that ended, and a summary line each minute.
     Verbose,
 }
 

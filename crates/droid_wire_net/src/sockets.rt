@@ -18,10 +18,10 @@ use std::time::{Clock, Duration, Instant};
 /// The token of the listener. No connection has this number.
 const DOOR: usize = usize::MAX;
 
-/// How often accepting is tried again that failed.
+/// How often accepting is tried again after a failure.
 const TRIES: u32 = 16;
 
-/// How often at most a turn waits for more.
+/// How often a turn waits for more requests, at most.
 const MOST_WAITS: u32 = 1_000;
 
 /// The connections to a port of this machine.
@@ -32,26 +32,26 @@ pub struct Sockets<'a, R> {
     events: Events,
     listener: TcpListener,
     guests: Vec<Guest>,
-    /// Whether a connection may wait to be accepted.
+    /// Whether a connection may be waiting to be accepted.
     is_knocking: bool,
     /// Whether a connection was closed since the last wait.
     has_left: bool,
-    /// When the clock was read first. `None` if it could not be read.
+    /// The first reading of the clock. `None` if it could not be read.
     begun: Option<Instant>,
-    /// What the clock said last, in milliseconds since then.
+    /// The last reading of the clock, in milliseconds since then.
     time: u64,
     grace: Grace,
     tally: Tally,
     verbosity: Verbosity,
-    /// What was counted when the last line on all connections was printed, and when that was.
+    /// The counts at the last summary line, and when it was printed.
     printed: Tally,
     printed_at: u64,
-    /// How many frames were handled since then.
+    /// How many frames were handled since that line.
     frames: u64,
 }
 
 impl<'a, R: Clock + Eprint + Net> Sockets<'a, R> {
-    /// Listens on a port of this machine, with room for what the system reports of so many connections.
+    /// Listens on a port of this machine, with room for the system's reports on this many connections.
     pub fn bind(
         runtime: &'a R,
         alloc: Global,
@@ -86,16 +86,16 @@ impl<'a, R: Clock + Eprint + Net> Sockets<'a, R> {
         })
     }
 
-    /// Has requests that come soon after each other share a sync. Where the last turn took a millisecond or more, and not all
-    /// that it answered have sent their next request when the first of these comes, `wait` waits for the others too: no
-    /// longer than half as long as that turn took, and never for a connection that is alone.
+    /// Lets requests that come soon after each other share a sync. If the last turn took a millisecond or more, `wait` also
+    /// waits for the next requests of the other connections that this turn answered: at most half as long as the turn took,
+    /// and never for a single connection.
     pub fn share_syncs(&mut self)
         ensures { self.new.tally ≡ self.old.tally }
     {
         self.grace.is_given = true;
     }
 
-    /// Prints a line on all connections, if a minute is over since the last one.
+    /// Prints a summary line, if a minute has passed since the last one.
     fn print_minutely(&mut self, frames: u64)
         ensures { self.new.tally ≡ self.old.tally }
     {
@@ -125,7 +125,7 @@ impl<'a, R: Clock + Eprint + Net> Sockets<'a, R> {
         u64::try_from(now.saturating_duration_since(begun).as_micros()).ok()
     }
 
-    /// Waits until the system reports something, but at most so many milliseconds. Returns whether it did.
+    /// Waits until the system reports something, but at most `limit` milliseconds. Returns whether it did.
     fn poll_for(&mut self, limit: u64) -> Result<bool, WaitFault>
         ensures { self.new.tally ≡ self.old.tally }
     {
@@ -140,8 +140,8 @@ impl<'a, R: Clock + Eprint + Net> Sockets<'a, R> {
         }
     }
 
-    /// Waits for the next requests of those that were answered in the last turn: until each of them sent something, nothing
-    /// was reported for a millisecond, or the time is up.
+    /// Waits for the next requests of the connections that were answered in the last turn: until each of them sent something,
+    /// nothing was reported for a millisecond, or the time is up.
     fn wait_for_answered(&mut self, until: u64)
         ensures { self.new.tally ≡ self.old.tally }
     {
@@ -276,7 +276,7 @@ impl<R: Clock + Eprint + Net> Connections for Sockets<'_, R> {
     }
 }
 
-/// What accepting a connection came to.
+/// The result of accepting a connection.
 enum Accepted {
     /// A connection, and its address.
     One(TcpStream, SocketAddr),
@@ -286,7 +286,7 @@ enum Accepted {
     Failed,
 }
 
-/// Accepts the next connection. A failure may be that of one connection: then the next one is tried.
+/// Accepts the next connection. A failure may concern one connection alone: then the next one is tried.
 fn accept_one(listener: &TcpListener) -> Accepted {
     for _ in 0..TRIES {
         match listener.accept() {
@@ -301,7 +301,7 @@ fn accept_one(listener: &TcpListener) -> Accepted {
     Accepted::Failed
 }
 
-/// Has the system report on a connection, and keeps it. Returns false if that fails; then it is closed.
+/// Registers a connection with the system, and keeps it. Returns false if that fails; then it is closed.
 fn take_in(
     poll: &Poll,
     guests: &mut Vec<Guest>,
@@ -309,7 +309,7 @@ fn take_in(
     mut stream: TcpStream,
     address: SocketAddr,
 ) -> bool {
-    // A reply is one write: don't delay it.
+    // A reply is one write, so the system should not delay it.
     let _ = stream.set_nodelay(true);
     let both = Interest::READABLE | Interest::WRITABLE;
     let registry = poll.registry();
@@ -334,7 +334,7 @@ fn take_in(
         .is_ok()
 }
 
-/// Notes what the system reported, and returns whether a connection waits to be accepted.
+/// Notes what the system reported, and returns whether a connection is waiting to be accepted.
 fn note_ready(events: &Events, guests: &mut Vec<Guest>) -> bool {
     let mut knocks = false;
     for event in events.iter() {
@@ -361,7 +361,7 @@ fn note_one(guests: &mut Vec<Guest>, id: u64, readable: bool, writable: bool, en
     }
 }
 
-/// Returns of how many connections the next request is awaited.
+/// Returns how many connections were answered and have not sent their next request.
 fn awaited(guests: &[Guest]) -> usize {
     guests.iter().filter(|guest| guest.is_awaited()).count()
 }
@@ -390,7 +390,7 @@ fn place_of(guests: &[Guest], id: u64) -> Option<usize>
     None
 }
 
-/// Reads what has come of a connection. One that is not there is broken.
+/// Reads the bytes that have come on a connection. An unknown connection is broken.
 fn read_from(guests: &mut Vec<Guest>, id: u64, buffer: &mut [u8]) -> Came
     ensures { CameWithin result (length buffer.new) }
 {
@@ -400,7 +400,7 @@ fn read_from(guests: &mut Vec<Guest>, id: u64, buffer: &mut [u8]) -> Came
     }
 }
 
-/// Writes some of these bytes to a connection. One that is not there is broken.
+/// Writes some of these bytes to a connection. An unknown connection is broken.
 fn write_to(guests: &mut Vec<Guest>, id: u64, bytes: &[u8]) -> Took
     ensures { TookWithin result (length bytes.now) }
 {

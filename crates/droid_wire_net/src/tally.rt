@@ -1,9 +1,9 @@
-//! What happened on all connections so far, in numbers.
+//! Counts of connections and bytes so far.
 
 ghost use Rattle.std.specs.Prelude.{◌≡◌};
 ghost use Rattle.droid_wire_net.specs.Tallies.{counted};
 
-/// What happened on all connections so far. No number goes beyond 2^64 - 1.
+/// Counts of connections and bytes so far. No count goes beyond 2^64 - 1.
 #[derive(Clone, Copy, PartialEq, Eq)]
 pub struct Tally {
     /// How many connections were accepted.

@@ -1,7 +1,7 @@
 //! One connection over a reader and a writer, served by the loop of many connections.
 //!
-//! So the frames of a single stream are handled by the same kind of handler, and settled before their replies are written.
-//! The crate re-exports the loop.
+//! So a single stream uses the same kind of handler, and its frames are settled before their replies are written. The crate
+//! re-exports the loop.
 #![tactic(auto)]
 
 mod pipe;

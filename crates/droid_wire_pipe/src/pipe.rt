@@ -9,20 +9,20 @@ use droid_frame::{Retries, SteadyRead, SteadyWrite, read_some};
 use droid_wire_turns::{Came, Connections, Departure, Took, WaitFault};
 use std::io::ErrorKind;
 
-/// How often a write is tried.
+/// The most tries of one write.
 const TRIES: u32 = 65;
 
-/// One connection over a reader and a writer. At first it waits to be accepted.
+/// One connection over a reader and a writer, not accepted yet at first.
 ///
-/// A read waits until bytes come. So it is read once between two waits, and only if the loop may wait: then all replies
-/// were written.
+/// A read blocks until bytes come. So the reader is read once between two waits, and only if the loop may wait, that is, once
+/// all replies are written.
 #[derive(Drop)]
 pub struct Pipe<R, W> {
-    /// What comes.
+    /// Where its bytes come from.
     pub reader: R,
-    /// What it takes.
+    /// Where the replies go.
     pub writer: W,
-    /// Why it was closed, once it was.
+    /// Why it was closed, if it was.
     pub departure: Option<Departure>,
     /// Whether it was accepted.
     accepted: bool,
@@ -31,7 +31,7 @@ pub struct Pipe<R, W> {
 }
 
 impl<R: SteadyRead, W: SteadyWrite> Pipe<R, W> {
-    /// Makes a connection that waits to be accepted.
+    /// Makes a connection that is not accepted yet.
     pub fn new(reader: R, writer: W) -> Pipe<R, W>
         ensures reader { result.reader ≡ reader }
         ensures writer { result.writer ≡ writer }
@@ -95,7 +95,7 @@ impl<R: SteadyRead, W: SteadyWrite> Connections for Pipe<R, W> {
     }
 }
 
-/// Returns why the connection was closed, by the number of the one that is closed now.
+/// Returns why the connection was closed, where the one with this number is closed now.
 fn leaving(before: Option<Departure>, id: u64, why: Departure) -> Option<Departure>
     ensures { result ≡ left_by (Closed id why) before }
 {

@@ -10,15 +10,15 @@ use std::alloc::Global;
 
 /// Answers the frames of a reader by a handler, until the input ends or a frame or a stream fails.
 ///
-/// Of what was read at once up to 16 frames are handled; then the handler settles; then their replies are written.
+/// Handles up to 16 frames of each read, has the handler settle, and then writes their replies.
 pub fn answer_pipe<R: SteadyRead, W: SteadyWrite, H: Handler>(
     alloc: Global,
     handler: &mut H,
     pipe: &mut Pipe<R, W>,
 ) -> Served
-    // The stream is served as one connection is, the only one of the loop: so each reply was settled before a byte of it
-    // was written. What came of the connection was read, and what it took was written, and nothing else. Why it was closed is
-    // kept. A stream is called broken exactly where it failed.
+    // The stream is the only connection of the loop, so each reply was settled before a byte of it was written. Exactly the
+    // connection's bytes were read, and exactly the bytes that it took were written. The reason for closing it is known, and
+    // a stream counts as broken exactly where it failed.
     ensures { Goes (PipeDoes R.remaining W.contents R.seen W.seen W.room) H.handles H.settles pipe.old handler.old pipe.new handler.new
         (AnswersOne (R.remaining pipe.old.reader) (R.remaining pipe.new.reader) (W.contents pipe.old.writer) (W.contents pipe.new.writer) pipe.old.departure pipe.new.departure result) }
 {

@@ -9,7 +9,7 @@ use Rattle.droid_wire_queue.specs.declared.chunks.Chunks.{Chunks}
 abbrev pub bytes_of : Vec ℕ Global → List ℕ
 bytes_of chunk = chunk.items
 
--- the bytes that wait, in their order
+-- the queued bytes, in order
 abbrev pub waiting : Chunks → List ℕ
 waiting chunks = drop chunks.written chunks.first.items ++ (flat_map bytes_of chunks.later.items ++ chunks.last.items)
 
@@ -17,7 +17,7 @@ waiting chunks = drop chunks.written chunks.first.items ++ (flat_map bytes_of ch
 abbrev pub AreFilled : List (Vec ℕ Global) → Type 0
 AreFilled chunks = AllByRecursion (λ chunk. 0 < length chunk.items) chunks
 
--- the first chunk has bytes that wait, if any do
+-- the first chunk has queued bytes, if there are any
 pub record IsSettled (chunks : Chunks) : Type 0 where
   pub within : chunks.written ≤ length chunks.first.items
   pub filled : AreFilled chunks.later.items

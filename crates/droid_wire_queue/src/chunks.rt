@@ -1,4 +1,4 @@
-//! Bytes that wait, in chunks.
+//! Queued bytes, in chunks.
 
 ghost use Rattle.std.specs.Prelude.{◌≡◌, ◌≢◌, ◌+◌, ◌-◌, ◌≤◌, ◌++◌, [], OnOk, OnErr, length, drop, vec_len};
 ghost use Rattle.droid_frame.specs.ReplyFrames.{reply_frame};
@@ -11,10 +11,10 @@ use std::alloc::{AllocError, Global};
 use std::collections::VecDeque;
 use std::mem;
 
-/// Replies are gathered in a chunk up to this many bytes, so that many small ones go out in one write.
+/// A chunk gathers replies up to this many bytes, so that many small ones go out in one write.
 const GATHERED: usize = 65_536;
 
-/// Bytes that wait: first the rest of `first` behind `written`, then each chunk of `later`, then `last`.
+/// Queued bytes: first those of `first` behind `written`, then each chunk of `later`, then `last`.
 #[derive(Drop)]
 pub(crate) struct Chunks {
     pub(crate) first: Vec<u8>,
@@ -24,7 +24,7 @@ pub(crate) struct Chunks {
 }
 
 impl Chunks {
-    /// Makes chunks without a byte. Allocates nothing.
+    /// Makes an empty queue. Allocates nothing.
     pub(crate) fn new(alloc: Global) -> Chunks
         ensures none { waiting result ≡ [] }
         ensures settled { IsSettled result }
@@ -60,7 +60,7 @@ impl Chunks {
         append_reply(alloc, &mut self.last, version, client, number, reply)
     }
 
-    /// Begins a new last chunk, if so many bytes more are too many for this one.
+    /// Begins a new last chunk, if this many more bytes are too many for the last one.
     fn close_full(&mut self, alloc: Global, size: usize) -> Result<(), AllocError>
         requires filled { AreFilled self.old.later.items }
         ensures same { waiting self.new ≡ waiting self.old }
@@ -80,7 +80,7 @@ impl Chunks {
         Ok(())
     }
 
-    /// Makes the next chunk the first, if the first one is written.
+    /// Drops the first chunk, if all of it is written.
     pub(crate) fn settle(&mut self, alloc: Global)
         requires within { self.old.written ≤ vec_len self.old.first }
         requires filled { AreFilled self.old.later.items }

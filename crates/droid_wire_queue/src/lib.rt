@@ -1,4 +1,4 @@
-//! Replies that wait until a connection takes them.
+//! The queue of replies that a connection has not taken yet.
 #![tactic(auto)]
 
 mod chunks;

@@ -10,11 +10,11 @@ use droid_frame::{HEADER_LENGTH, Reply, reply_body_len};
 use std::alloc::{AllocError, Global};
 use std::marker::Model;
 
-/// The frames of replies that wait until a connection takes them. In contracts it is the bytes that wait, and how many
-/// of them can go out in one write.
+/// The frames of replies that a connection has not taken yet. In contracts it is these bytes, and how many of them can go
+/// out in one write.
 ///
 /// A connection may take any number of bytes at a time: [`front`](ReplyQueue::front) shows the next ones, and
-/// [`advance`](ReplyQueue::advance) removes those that were taken. No byte is moved within the queue.
+/// [`advance`](ReplyQueue::advance) removes those that were taken. The queue never moves a byte.
 #[derive(Drop)]
 pub struct ReplyQueue {
     alloc: Global,
@@ -35,7 +35,7 @@ impl Model for ReplyQueue {
 }
 
 impl ReplyQueue {
-    /// Makes a queue without a byte. Allocates nothing.
+    /// Makes an empty queue. Allocates nothing.
     pub fn new(alloc: Global) -> ReplyQueue
         ensures { result.bytes ≡ [] }
     {
@@ -46,8 +46,8 @@ impl ReplyQueue {
         }
     }
 
-    /// Appends the frame of a reply. The version, client and number are those of the request. If memory runs out, the
-    /// same bytes wait as before.
+    /// Appends the frame of a reply. The version, client and number are those of the request. If memory runs out, the queue
+    /// stays as it was.
     ///
     /// The reply must have a spelling in this version.
     pub fn push(
@@ -63,7 +63,7 @@ impl ReplyQueue {
         ensures err { OnErr result (self.new.bytes ≡ self.old.bytes) }
         ensures small { length (reply_frame version client number reply.now) ≤ 1048658 }
     {
-        // A queue of 2^64 bytes fits no memory.
+        // No memory holds a queue of 2^64 bytes.
         let size = HEADER_LENGTH + reply_body_len(version, reply);
         let Some(len) = self.len.checked_add(size) else {
             return Err(AllocError);
@@ -75,14 +75,14 @@ impl ReplyQueue {
         Ok(())
     }
 
-    /// Returns the number of bytes that wait.
+    /// Returns the number of queued bytes.
     pub fn len(&self) -> usize
         ensures { result ≡ length self.now.bytes }
     {
         self.len
     }
 
-    /// Returns the next bytes to be written: some, if any wait.
+    /// Returns the next bytes to be written: at least one, unless the queue is empty.
     pub fn front(&self) -> &[u8]
         ensures front { result.now ≡ take self.now.front self.now.bytes }
         ensures some { self.now.bytes ≢ [] → 0 < length result.now }
@@ -91,7 +91,7 @@ impl ReplyQueue {
         &self.chunks.first[self.chunks.written..]
     }
 
-    /// Removes the first `count` bytes, which the connection took. They are bytes of the front.
+    /// Removes the first `count` bytes, which the connection took: at most as many as [`front`](ReplyQueue::front) shows.
     pub fn advance(&mut self, count: usize)
         requires { count ≤ self.old.front }
         ensures { self.new.bytes ≡ drop count self.old.bytes }

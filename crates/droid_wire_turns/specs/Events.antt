@@ -8,7 +8,7 @@ use Rattle.droid_wire_turns.specs.declared.connections.Took.TheVariants as took
 use Rattle.droid_wire_turns.specs.declared.departure.Departure.{Departure}
 
 pub data Event : Type 0 where
-  -- a wait of at most so many milliseconds is over
+  -- a wait of at most this many milliseconds is over
   Waited : (limit : ℕ) → Event
   -- waiting failed
   Unwaited : Event
@@ -18,7 +18,7 @@ pub data Event : Type 0 where
   Opened : (id : ℕ) → Event
   -- no connection waits to be accepted
   NoneOpened : Event
-  -- these bytes were read of a connection; none: nothing is there yet
+  -- these bytes were read from a connection; none: nothing is there yet
   Read : (id : ℕ) (bytes : List ℕ) → Event
   -- the input of a connection ended
   Ended : (id : ℕ) → Event

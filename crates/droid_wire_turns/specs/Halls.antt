@@ -28,7 +28,7 @@ times_among waiting served id = times_in id waiting + times_in id served
 
 -- ---- what the steps were
 
--- no wait, and no word of the clock
+-- neither a wait nor a reading of the clock
 pub record IsCalm (step : Step) : Type 0 where
   pub turn : (turn : List Step) → turn_behind turn step ≡ turn ++ step ∷ []
   pub clock : (now : ℕ) → clock_behind now step ≡ now
@@ -175,7 +175,7 @@ pub record Stops (rules : Rules) (old new : Hall) (steps : List Step) : Type 0 w
 
 -- ---- the seats
 
--- there is room for so many connections, wherever each stands, and what is kept of each is whole
+-- there is room for this many connections in each list, and the state of each is whole
 pub record HasRooms (seats : ℕ) (hall : Hall) : Type 0 where
   pub waiting : seats ≤ vec_capacity hall.waiting
   pub served : seats ≤ vec_capacity hall.served
@@ -183,7 +183,7 @@ pub record HasRooms (seats : ℕ) (hall : Hall) : Type 0 where
   pub whole_waiting : AllByRecursion IsWhole hall.waiting.items
   pub whole_served : AllByRecursion IsWhole hall.served.items
 
--- a wait of so many milliseconds is not too long for it
+-- a wait of this many milliseconds is not too long for it
 pub record IsPatient (idle now limit : ℕ) (peer : Peer) : Type 0 where
   pub hungry : is_hungry peer ≡ true → limit ≡ 0
   pub prompt : limit ≤ idle - (now - peer.active)

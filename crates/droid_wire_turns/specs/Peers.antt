@@ -91,13 +91,13 @@ Taking id now old new (Some frame) steps = Lending id now old new frame steps
 
 -- ---- in a turn
 
--- so many bytes may still be read of the connection in this turn, by how many were
+-- how many bytes may still be read from the connection in this turn, by how many were read
 pub record IsRoom (room read : ℕ) : Type 0 where
   pub all : 0 < room → room + read ≡ 4194304
   pub over : room ≡ 0 → 4194304 ≤ read
   pub within : read < 4259840
 
--- in this turn so many frames of the connection were handled, and so many bytes may still be read
+-- in this turn this many frames of the connection were handled, and this many bytes may still be read
 pub record InTurn (id room count : ℕ) (turn : List Step) : Type 0 where
   pub frames : length (handled id turn) ≡ count
   pub bytes : IsRoom room (length (came id turn))
@@ -110,7 +110,7 @@ IsHearing (Happens (Unwritten id)) = ⊥
 IsHearing (Settles done) = ⊥
 IsHearing _ = Unit {0}
 
--- with these steps so many frames more were handled, and nothing was written
+-- in these steps this many more frames were handled, and nothing was written
 pub record Turns (id room left more : ℕ) (steps : List Step) : Type 0 where
   pub goes : (count : ℕ) (turn : List Step) → InTurn id room count turn → InTurn id left (count + more) (turn ++ steps)
   pub hearing : AllByRecursion IsHearing steps
@@ -128,7 +128,7 @@ pub data Rests (peer : Peer) (count : ℕ) : Type 0 where
   ByBytes : (is : peer.room ≡ 0) → Rests peer count
   ByQueue : (is : 8388608 < length peer.queue.bytes) → Rests peer count
 
--- so far in a turn, in which so many frames were handled
+-- so far in a turn, in which this many frames were handled
 pub record HearsSo (now : ℕ) (old new : Peer) (count : ℕ) (steps : List Step) : Type 0 where
   pub goes : Advances old.id now (kept_of old) (kept_of new) steps
   pub turns : Turns old.id 4194304 new.room count steps

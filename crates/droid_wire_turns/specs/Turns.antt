@@ -1,4 +1,4 @@
--- What serving many connections in turns comes to (this project's own).
+-- The outcome of serving many connections in turns (this project's own).
 use Rattle.std.specs.Prelude.{◌≡◌, ◌≢◌, ℕ, ◌+◌, ◌-◌, ◌<◌, ◌≤◌, ◌⊎◌, List, [], ◌∷◌, ◌++◌, Option, None, Some, count_by, length}
 use Rattle.droid_frame.specs.Streams.{BeginsNoFrame}
 use Rattle.droid_frame.specs.declared.stream.fault.FrameFault.{FrameFault}
@@ -43,12 +43,12 @@ pub record AreAll (count : ℕ) (steps : List Step) : Type 0 where
   pub each_opened : (id : ℕ) → id < count → Happened (Opened id) steps
   pub others : (id : ℕ) → count ≤ id → AreOfOthers id steps
 
--- as many as were wanted; or as many as there are numbers
+-- as many as the rules allow; or as many as there are numbers
 abbrev pub IsAll : Option ℕ → ℕ → Type 0
 IsAll None count = 18446744073709551615 ≤ count
 IsAll (Some total) count = count ≡ total
 
--- As many connections came as were wanted; or waiting failed, or there were 2^64 - 1 turns; or memory ran out at once; or
+-- As many connections came as the rules allow; or waiting failed, or there were 2^64 - 1 turns; or memory ran out at once; or
 -- settling failed.
 abbrev pub EndsBy : Option ℕ → Served → List Step → Type 0
 EndsBy total ways.All steps = (count : ℕ) × AreAll count steps × IsAll total count
@@ -77,7 +77,7 @@ pub record WereTaken (seats : ℕ) (steps turn : List Step) : Type 0 where
   pub within : turn ≡ first ++ late
   pub taken : length (closed early) + seats ≤ length (opened early)
 
--- as many came as are wanted; or there is no further number
+-- as many came as the rules allow; or there is no further number
 abbrev pub HasEnough : Option ℕ → ℕ → Type 0
 HasEnough None count = 18446744073709551615 ≤ count
 HasEnough (Some total) count = total ≤ count

@@ -11,12 +11,12 @@ use thiserror::Error;
 #[error("waiting for connections failed")]
 pub struct WaitFault;
 
-/// What a read of a connection gave.
+/// The result of a read of a connection.
 #[derive(Clone, Copy, PartialEq, Eq)]
 pub enum Came {
-    /// Bytes, at the front of the buffer.
+    /// This many bytes, at the front of the buffer.
     Bytes(usize),
-    /// Nothing is there yet.
+    /// Nothing yet.
     Nothing,
     /// The input has ended.
     End,
@@ -24,12 +24,12 @@ pub enum Came {
     Broken,
 }
 
-/// What a write to a connection gave.
+/// The result of a write to a connection.
 #[derive(Clone, Copy, PartialEq, Eq)]
 pub enum Took {
-    /// It took so many of the first bytes.
+    /// It took this many of the first bytes.
     Bytes(usize),
-    /// It takes nothing yet.
+    /// It took nothing yet.
     Nothing,
     /// The connection is broken.
     Broken,
@@ -40,21 +40,21 @@ pub trait Connections {
     /// Relates the state before an event, the event, and the state after it.
     ghost does: { Self → Event → Self → Type 0 };
 
-    /// Waits until a connection can be accepted, read or written, but at most `limit` milliseconds. `frames` were handled
-    /// since the last wait.
+    /// Waits until a connection can be accepted, read or written, but at most `limit` milliseconds. `frames` frames were
+    /// handled since the last wait.
     fn wait(&mut self, limit: u64, frames: u64) -> Result<(), WaitFault>
         ensures waited { OnOk result (does self.old (Waited limit) self.new) }
         ensures unwaited { OnErr result (does self.old Unwaited self.new) };
 
-    /// Reads a clock, in milliseconds since some moment.
+    /// Reads a clock: the milliseconds since a fixed moment.
     fn now(&mut self) -> u64
         ensures { does self.old (Timed result) self.new };
 
-    /// Accepts the next connection under this number. Returns false if none waits.
+    /// Accepts the next connection, and gives it this number. Returns false if there is none.
     fn accept(&mut self, id: u64) -> bool
         ensures { does self.old (if result then Opened id else NoneOpened) self.new };
 
-    /// Reads what has come of a connection.
+    /// Reads the bytes that have come on a connection.
     fn read(&mut self, id: u64, buffer: &mut [u8]) -> Came
         ensures bound { CameWithin result (length buffer.new) }
         ensures came { does self.old (read_event id buffer.new result) self.new };
@@ -64,7 +64,7 @@ pub trait Connections {
         ensures bound { TookWithin result (length bytes.now) }
         ensures went { does self.old (write_event id bytes.now result) self.new };
 
-    /// Closes a connection, for this reason. `frames` of it were handled.
+    /// Closes a connection, for this reason. `frames` frames of it were handled.
     fn close(&mut self, id: u64, why: Departure, frames: u64)
         ensures { does self.old (Closed id why) self.new };
 }

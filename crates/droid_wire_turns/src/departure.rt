@@ -13,10 +13,10 @@ pub enum Departure {
     Memory,
     /// A reply could not be written.
     Write,
-    /// For too long nothing came of it, and it took nothing.
+    /// Idle: for too long no byte of it came, and it took none.
     Idle,
-    /// The loop ended, since it could not wait any longer.
+    /// The loop ended, since waiting failed.
     Stopped,
-    /// The loop ended, since the handler could not settle what it had handled. Nothing was written since.
+    /// The loop ended, since the handler could not settle. Nothing was written after that.
     Unsettled,
 }

@@ -21,20 +21,20 @@ const LONGEST_WAIT: u64 = 60_000;
 /// The open connections.
 #[derive(Drop)]
 pub(crate) struct Hall {
-    /// Those that wait for their part of a turn.
+    /// The connections that wait for their part of a turn.
     pub(crate) waiting: Vec<Peer>,
-    /// Those that had it.
+    /// The connections that had their part.
     pub(crate) served: Vec<Peer>,
     /// How many were accepted: the number of the next one.
     pub(crate) opened: u64,
-    /// What the clock said last.
+    /// The last reading of the clock.
     pub(crate) time: u64,
     /// How many frames were handled in the last turn.
     pub(crate) frames: u64,
 }
 
 impl Hall {
-    /// Makes room for so many open connections.
+    /// Makes room for this many open connections.
     pub(crate) fn new(alloc: Global, seats: usize) -> Result<Hall, AllocError>
         ensures rooms { IfOk result (HasRooms seats) }
         ensures first { IfOk result (λ hall. hall.served.items ≡ []) }
@@ -49,7 +49,7 @@ impl Hall {
         })
     }
 
-    /// Whether all connections that are wanted came and left.
+    /// Whether as many connections as the rules allow came and left.
     pub(crate) fn is_over(&self, total: Option<u64>) -> bool
         ensures empty { result ≡ true → self.now.waiting.items ≡ [] }
         ensures all { result ≡ true → HasEnough total self.now.opened }
@@ -57,7 +57,7 @@ impl Hall {
         self.waiting.is_empty() && !self.wants_more(total)
     }
 
-    /// Whether more connections are wanted.
+    /// Whether the rules allow more connections.
     fn wants_more(&self, total: Option<u64>) -> bool
         ensures more { result ≡ true → (wanted : ℕ) → total ≡ Some wanted → self.now.opened < wanted }
         ensures enough { result ≡ false → HasEnough total self.now.opened }
@@ -69,7 +69,7 @@ impl Hall {
         }
     }
 
-    /// Returns how many milliseconds may be waited before the next turn.
+    /// Returns how many milliseconds the loop may wait before the next turn.
     pub(crate) fn patience(&self, idle: u64) -> u64
         ensures { AllByRecursion (IsPatient idle self.now.time result) self.now.waiting.items }
     {
@@ -80,10 +80,10 @@ impl Hall {
         limit
     }
 
-    /// Gives every open connection its turn, after those that wait were accepted: first each is read, and its frames are
-    /// handled; then the handler settles; then what waits for each is written.
+    /// Accepts waiting connections, and gives every open connection its turn: reads each and handles its frames, has the
+    /// handler settle, and writes each its replies.
     ///
-    /// Returns false if the handler failed to settle. Then every connection was closed, and nothing was written.
+    /// Returns false if the handler failed to settle. Then it has closed every connection, and written nothing.
     pub(crate) fn turn<C: Connections, H: Handler>(
         &mut self,
         alloc: Global,
@@ -109,7 +109,7 @@ impl Hall {
         true
     }
 
-    /// Whether a connection may be accepted: there is a seat, and more are wanted.
+    /// Whether a connection may be accepted: there is a seat, and the rules allow more connections.
     fn may_accept(&self, rules: Rules) -> bool
         ensures seat { result ≡ true → length self.now.waiting.items < rules.seats }
         ensures more { result ≡ true → (wanted : ℕ) → rules.total ≡ Some wanted → self.now.opened < wanted }
@@ -168,7 +168,7 @@ impl Hall {
         }
     }
 
-    /// Writes what waits for each connection, and closes those that are over.
+    /// Writes each connection its replies, and closes those that are over.
     fn write_out_all<C: Connections>(&mut self, connections: &mut C, seats: usize, idle: u64)
         requires rooms { HasRooms seats self.old }
         ensures rooms { HasRooms seats self.new }

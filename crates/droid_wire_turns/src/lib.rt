@@ -1,6 +1,6 @@
 //! Many connections at once, served in turns by one handler of requests.
 //!
-//! [`serve_in_turns`] is generic in the connections and in the handler: what it promises holds for every order in which
+//! [`serve_in_turns`] is generic in the connections and in the handler. Its promise holds for every order in which
 //! connections become ready, and for every length of their reads and writes.
 #![tactic(auto)]
 

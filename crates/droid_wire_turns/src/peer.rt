@@ -1,4 +1,4 @@
-//! One open connection: what came of it and isn't handled, and what waits to be written.
+//! One open connection: its bytes that aren't handled yet, and its replies that aren't written yet.
 
 ghost use Rattle.std.specs.Prelude.{◌≡◌, ◌-◌, ◌<◌, ◌≤◌, ◌++◌, ◌∷◌, [], List, ℕ, None, Some, true, false, IfNone, IfOk, IfSome, IsSome, OnOk, length};
 ghost use Rattle.std.specs.List.{AllByRecursion};
@@ -23,10 +23,10 @@ const BUFFER: usize = 65_536;
 /// The most frames of one connection that are handled in a turn.
 const FRAMES_IN_TURN: u32 = 16;
 
-/// In a turn no more is read of a connection once so many bytes came of it.
+/// A connection is not read again in a turn after this many bytes of it.
 const BYTES_IN_TURN: usize = 4_194_304;
 
-/// A connection is not read while more bytes than this wait to be written to it.
+/// A connection is not read while more bytes of replies than this are queued for it.
 const QUEUE_LIMIT: usize = 8_388_608;
 
 /// An open connection.
@@ -34,19 +34,19 @@ const QUEUE_LIMIT: usize = 8_388_608;
 pub(crate) struct Peer {
     /// Its number.
     pub(crate) id: u64,
-    /// What came of the next frame.
+    /// The bytes of the next frame so far.
     pub(crate) feed: FrameFeed,
-    /// Bytes that were read at once. Those from `start` to `end` are not fed yet.
+    /// The bytes of the last read. Those from `start` to `end` are not in `feed` yet.
     pub(crate) buffer: Vec<u8>,
     pub(crate) start: usize,
     pub(crate) end: usize,
-    /// The replies that wait.
+    /// The replies that are not written yet.
     pub(crate) queue: ReplyQueue,
-    /// Why it is closed once nothing waits any more. Nothing more is read of it.
+    /// Why it will be closed, once all replies are written. It is not read any more.
     pub(crate) leaving: Option<Departure>,
-    /// When bytes of it last came or went.
+    /// When a byte of it last came or went.
     pub(crate) active: u64,
-    /// Whether a read of it gave nothing in its last turn.
+    /// Whether a read returned nothing in its last turn.
     pub(crate) drained: bool,
     /// How many bytes may still be read of it in this turn.
     pub(crate) room: usize,
@@ -74,7 +74,7 @@ impl Peer {
         })
     }
 
-    /// Returns how many milliseconds may be waited before its next turn.
+    /// Returns how many milliseconds the loop may wait before its next turn.
     pub(crate) fn patience(&self, now: u64, idle: u64) -> u64
         ensures hungry { is_hungry self.now ≡ true → result ≡ 0 }
         ensures prompt { result ≤ idle - (now - self.now.active) }
@@ -85,7 +85,7 @@ impl Peer {
         idle.saturating_sub(now.saturating_sub(self.active))
     }
 
-    /// Whether more may be read of it, and was not read in its last turn.
+    /// Whether it may be read further, and was not read dry in its last turn.
     fn is_hungry(&self) -> bool
         ensures { result ≡ is_hungry self.now }
     {
@@ -98,7 +98,7 @@ impl Peer {
         self.queue.len() <= QUEUE_LIMIT
     }
 
-    /// Reads and handles what has come of it: up to 16 frames, or until 4 MiB were read or 8 MiB wait. Queues the replies.
+    /// Reads and handles up to 16 frames, or until 4 MiB were read or 8 MiB are queued. Queues the replies.
     pub(crate) fn hear<C: Connections, H: Handler>(
         &mut self,
         connections: &mut C,
@@ -140,7 +140,7 @@ impl Peer {
         }
     }
 
-    /// Whether it isn't leaving, and no more than 8 MiB wait.
+    /// Whether it isn't leaving, and no more than 8 MiB are queued.
     fn may_be_read(&self) -> bool
         ensures stays { result ≡ true → self.now.leaving ≡ None }
         ensures few { result ≡ true → length self.now.queue.bytes ≤ 8388608 }
@@ -173,7 +173,7 @@ impl Peer {
         }
     }
 
-    /// Returns the next frame, if it comes whole before as many bytes were read as may be in this turn.
+    /// Returns the next frame, if it is whole before this turn's limit of bytes is reached.
     fn next_frame<C: Connections>(&mut self, connections: &mut C, now: u64) -> Option<Frame>
         requires whole { IsWhole self.old }
         requires stays { self.old.leaving ≡ None }
@@ -205,7 +205,7 @@ impl Peer {
         }
     }
 
-    /// Takes the next frame of what was read, if it is whole.
+    /// Takes the next frame from the bytes that were read, if it is whole.
     fn take(&mut self) -> Option<Frame>
         requires whole { IsWhole self.old }
         requires stays { self.old.leaving ≡ None }
@@ -273,7 +273,7 @@ impl Peer {
         }
     }
 
-    /// Writes what waits, as far as the connection takes it. Returns why the connection is over, if it is.
+    /// Writes the queued replies, as far as the connection takes them. Returns why the connection is over, if it is.
     pub(crate) fn write_out<C: Connections>(
         &mut self,
         connections: &mut C,
@@ -301,7 +301,7 @@ impl Peer {
         None
     }
 
-    /// Whether it leaves now: all that waited was written, or memory ran out for a reply.
+    /// Whether it leaves now: its replies are written, or memory ran out for one.
     fn is_over(&self) -> bool
         ensures { result ≡ is_over self.now }
     {
@@ -312,7 +312,7 @@ impl Peer {
         }
     }
 
-    /// Writes what waits, as far as the connection takes it. Returns false if it is broken.
+    /// Writes the queued replies, as far as the connection takes them. Returns false if the connection is broken.
     fn send<C: Connections>(&mut self, connections: &mut C, now: u64) -> bool
         requires whole { IsWhole self.old }
         ensures whole { IsWhole self.new }
@@ -351,7 +351,7 @@ fn read_into<C: Connections>(connections: &mut C, id: u64, buffer: &mut Vec<u8>)
     connections.read(id, buffer.as_mut_slice())
 }
 
-/// Returns why a connection is over whose input ended here.
+/// Returns why a connection is over, whose input ended behind these bytes.
 fn end_of(feed: &FrameFeed) -> Departure
     ensures { EndsAs feed.now.bytes result }
 {

@@ -5,8 +5,8 @@
 pub struct Rules {
     /// The most connections that are open at once.
     pub seats: usize,
-    /// How many connections are served in all. `None`: there is no end.
+    /// How many connections are served in all. `None`: no limit.
     pub total: Option<u64>,
-    /// A connection is closed after this many milliseconds in which no byte of it came and it took none.
+    /// A connection is closed after this many milliseconds without a byte in either direction.
     pub idle: u64,
 }

@@ -10,26 +10,25 @@ use crate::rules::Rules;
 use crate::service_end::Served;
 use std::alloc::Global;
 
-/// Serves many connections in turns, until as many as are wanted came and left.
+/// Serves many connections in turns, until as many as the rules allow came and left.
 ///
-/// In each turn those that wait are accepted, as far as there are seats. Then each open connection is read, and up to 16
-/// of its frames are handled; then the handler settles what it handled; then the replies that wait for each are written,
-/// as far as it takes them. No connection is served twice before every other was served once.
+/// In each turn the loop accepts waiting connections while there are seats. Then it reads each open connection and handles
+/// up to 16 of its frames. Then the handler settles, and then the loop writes each connection its replies, as far as it
+/// takes them. No connection is served twice before every other was served once.
 pub fn serve_in_turns<C: Connections, H: Handler>(
     alloc: Global,
     connections: &mut C,
     handler: &mut H,
     rules: Rules,
 ) -> Served
-    // Steps were done on the connections and the handler, and at each moment each connection was served well: the bytes
-    // that came of it are frames that were handled, in order, and what is held; the bytes that it took are the first of
-    // the frames of their replies, each in its version, in order, and nothing else. Connections have numbers from 0 on.
-    // Whenever the loop waited, but for the first time, it had read the clock, accepted those that waited as far as there
-    // were seats, and given each open connection its turn. In the end each connection had left, and its reason explains
-    // what was held and what was not written.
+    // After each step each connection was served well: the bytes that were read of it are the frames that were handled, in
+    // order, and the bytes that are held; the bytes that it took are the first of their reply frames, each in its version,
+    // in order, and nothing else. Connections have numbers from 0 on. Before each wait but the first the loop had read the
+    // clock, accepted waiting connections while there were seats, and given each open connection its turn. In the end each
+    // connection had left, and the reason explains what was held and what was not written.
     //
-    // Before each write to a connection, and before each wait, the handler had settled behind each frame that it had
-    // handled. Once it failed to, connections were closed for that, and nothing else happened.
+    // Before each write to a connection, and before each wait, the handler had settled after each frame that it handled.
+    // After it failed to settle, the loop only closed connections, for that reason.
     ensures { Goes C.does H.handles H.settles connections.old handler.old connections.new handler.new (ServesAll rules result) }
 {
     let Ok(mut hall) = Hall::new(alloc, rules.seats) else {
