@@ -7,8 +7,8 @@ use droid_frame::Text;
 use std::alloc::{AllocError, Global};
 use std::collections::BTreeMap;
 
-/// How many formats are printed.
-const TOLD: usize = 10;
+/// How many formats are reported at most.
+const MOST_REPORTED: usize = 10;
 
 /// A format, and how many files have it.
 #[derive(Drop)]
@@ -55,6 +55,6 @@ fn first_of(all: Vec<FormatCount>) -> Result<Vec<FormatCount>, AllocError>
 {
     let mut reported = all;
     reported.sort_by_key(|format| u64::MAX.saturating_sub(format.count))?;
-    reported.truncate(TOLD);
+    reported.truncate(MOST_REPORTED);
     Ok(reported)
 }

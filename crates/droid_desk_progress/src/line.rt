@@ -21,7 +21,7 @@ const BETWEEN: usize = 2;
 /// How wide a line of progress is at most, in columns.
 const LINE_COLUMNS: usize = 160;
 
-/// How wide it is at most on a terminal: one column less than 80. A narrower terminal is told to cut the line.
+/// How wide it is at most on a terminal: one column less than 80. A narrower terminal cuts the line and does not wrap it.
 const TERMINAL_COLUMNS: usize = 79;
 
 /// Returns how far the walk is and the end of the path, within these columns.
