@@ -12,19 +12,19 @@ take_own zero (b ∷ bytes) = refl
 take_own (suc n) [] = refl
 take_own (suc n) (b ∷ bytes) = ap (λ (rest : List ℕ). b ∷ rest) (take_own n bytes)
 
--- what every file with these ends comes to, as the registry says it
-abbrev pub Tells : Contents → List ℕ → Bool → ℕ → List ℕ → List ℕ → Found → Type 0
-Tells registry name match_all size first last found =
+-- every file of this size with these ends has these findings
+abbrev pub IsFoundByEnds : Contents → List ℕ → Bool → ℕ → List ℕ → List ℕ → Found → Type 0
+IsFoundByEnds registry name match_all size first last found =
     (file : List ℕ) (scan_limit : ℕ) → length file ≡ size → min scan_limit size ≡ length first → take (length first) file ≡ first → drop (size - length first) file ≡ last → IsFound registry name file scan_limit match_all found
 
 pub found_in_whole : {E : Type 0} (result : Result Found E) (registry : Contents) (name : List ℕ) (match_all : Bool) (file : List ℕ) (scan_limit size : ℕ) (first last : List ℕ)
     → size ≡ length file → first ≡ first_window scan_limit file → last ≡ last_window scan_limit file
-    → IfOk result (Tells registry name match_all size first last) → IfOk result (λ found. IsFound registry name file scan_limit match_all found)
-found_in_whole (Ok found) registry name match_all file scan_limit size first last whole begun ended reports =
+    → IfOk result (IsFoundByEnds registry name match_all size first last) → IfOk result (λ found. IsFound registry name file scan_limit match_all found)
+found_in_whole (Ok found) registry name match_all file scan_limit size first last whole begun ended by_ends =
     let width : length first ≡ min scan_limit (length file) = ap length begun ∙ length-take scan_limit file in
     let reached : min scan_limit size ≡ length first = ap (min scan_limit) whole ∙ sym width in
     let begins : take (length first) file ≡ first = ap (λ (xs : List ℕ). take (length xs) file) begun ∙ take_own scan_limit file ∙ sym begun in
     let left : size - length first ≡ length file - scan_limit = omega (arith, whole, width) in
     let ends : drop (size - length first) file ≡ last = ap (λ (n : ℕ). drop n file) left ∙ sym ended in
-    reports file scan_limit (sym whole) reached begins ends
-found_in_whole (Err e) registry name match_all file scan_limit size first last whole begun ended reports = tt
+    by_ends file scan_limit (sym whole) reached begins ends
+found_in_whole (Err e) registry name match_all file scan_limit size first last whole begun ended by_ends = tt

@@ -48,12 +48,12 @@ module _ (setting : Setting) (world : World) (number id : ℕ) (row : FileRow) (
   reported_there : judge_status world number id ≡ Answered (progress_of has.content)
   reported_there = status_for_file world number id ∙ judged_there world number id row has status_there
 
-  abbrev TellsProgress : OpenFiles → Reply → Type 0
-  TellsProgress files reply = (world : World) (profile : Profile) (parent : ℕ) (modified : ℤ) (name : List ℕ) (content : Content) → HasAssemblies world files
+  abbrev ReportsProgress : OpenFiles → Reply → Type 0
+  ReportsProgress files reply = (world : World) (profile : Profile) (parent : ℕ) (modified : ℤ) (name : List ℕ) (content : Content) → HasAssemblies world files
       → numbered world.profiles number ≡ Some profile → node_at profile.nodes id ≡ Some (File parent modified name content) → content.finished ≡ false
       → reply ≡ progress_of content
 
-  of_progress : (files : OpenFiles) → HasAssemblies world files → is_unfinished row.node.state ≡ true → (reported : Result Reply Refusal) → IfOk reported (TellsProgress files)
+  of_progress : (files : OpenFiles) → HasAssemblies world files → is_unfinished row.node.state ≡ true → (reported : Result Reply Refusal) → IfOk reported (ReportsProgress files)
       → IfOk reported (λ reply. judge_status world number id ≡ Answered reply)
   of_progress files assembled is (Ok reply) reports =
       reported_there ∙ ap Answered (sym (reports world has.profile has.parent has.modified has.name has.content assembled has.there has.at (unfinished_there world number id row has is)))
@@ -61,7 +61,7 @@ module _ (setting : Setting) (world : World) (number id : ℕ) (row : FileRow) (
 
   -- of an unfinished file its assembly says
   pub unfinished_reported : (old new : Holdings) (stamp : Stamp) → Stays setting world old new → HasAssemblies world old.files → is_unfinished row.node.state ≡ true
-      → (reported : Result Reply Refusal) → IfOk reported (TellsProgress old.files) → IsOk reported
+      → (reported : Result Reply Refusal) → IfOk reported (ReportsProgress old.files) → IsOk reported
       → Comes setting world old new stamp (judge_status world number id) (answered reported)
   unfinished_reported old new stamp stays assembled is reported reports reports_it = comes_reported setting world old new stamp _ stays reported (of_progress old.files assembled is reported reports) reports_it
 

@@ -26,7 +26,7 @@ some_missing version hash content missing unfinished reported is =
 pub none_missing : (version : ℕ) (hash : HashKind) (content : Content) → content.finished ≡ false → is_carried version hash ≡ true → missing_of content ≡ count_of content → refusal_of (finish_checks version hash content) ≡ None
 none_missing version hash content unfinished reported is = rw (unfinished, reported, le-ltb (missing_of content) (count_of content) (omega (arith, is))) refl
 
--- what the fault of who identifies it is reported as is the file's refusal, or a want
+-- a fault of identification is reported as the file's refusal, or as out of memory
 pub reported_of_fault : (version : ℕ) (hash : HashKind) (content : Content) (fault : IdentifyFault) (refusal : Refusal) → content.finished ≡ false → is_carried version hash ≡ true
     → ((first : ℕ) → fault ≡ faults.Incomplete first → (first ≡ missing_of content) × (first < count_of content))
     → refusal ≡ reported_as fault → MatchBool (is_out_of_memory_of refusal) ⊤ (refusal_of (finish_checks version hash content) ≡ Some refusal)

@@ -32,7 +32,7 @@ use Rattle.droid_core.specs.store.declared.rows.ProfileRow.{ProfileRow}
 use Rattle.droid_core.specs.store.Rows as stores
 use Rattle.droid_core.specs.store.Rows.{Rows}
 
-module _ (setting : Setting) (bare : Bare) (old : Holdings) (history : History) (entry : Entry) (stamp : Stamp) (reply : Reply) (was : Recovers setting bare old history) (told : reply ≡ entry.reply) where
+module _ (setting : Setting) (bare : Bare) (old : Holdings) (history : History) (entry : Entry) (stamp : Stamp) (reply : Reply) (was : Recovers setting bare old history) (same_reply : reply ≡ entry.reply) where
   abbrev there : World
   there = bare_world bare (world_of setting history)
 
@@ -41,10 +41,10 @@ module _ (setting : Setting) (bare : Bare) (old : Holdings) (history : History) 
     piece_recovered store spelled stored =
         let accepted = subst (λ (r : Request). judge setting (world_of setting history) entry.frame.version r ≡ Accepted entry.reply is.may.after) is.asks is.may.accepted in
         let after = piece_only_counted setting bare (world_of setting history) is.may.after entry.frame.version is.profile is.file is.index is.bytes entry.reply is.is_bare accepted in
-        let row : stamped stamp reply ≡ entry_row entry = ap (stamped stamp) told ∙ row_is setting history entry is.may stamp is.stamped in
+        let row : stamped stamp reply ≡ entry_row entry = ap (stamped stamp) same_reply ∙ row_is setting history entry is.may stamp is.stamped in
         goes_on setting bare old (record old { store = store }) history entry is.may was
         (ap (λ (rows : Rows). rows.replies) stored ∙ ap (λ (row : rows.Entry). old.store.replies ++ row ∷ []) row)
-        (subst (λ (s : Stamp). HasReplySpelling s.version entry.reply) is.stamped (subst (HasReplySpelling stamp.version) told spelled))
+        (subst (λ (s : Stamp). HasReplySpelling s.version entry.reply) is.stamped (subst (HasReplySpelling stamp.version) same_reply spelled))
         (subst (λ (w : World). IsIn setting w (record old { store = store })) (sym after) (counted setting there old store (stamped stamp reply) was.world stored))
 
   module _ (number id : ℕ) (is : IsBareFinish setting bare history entry stamp number id) where
@@ -57,9 +57,9 @@ module _ (setting : Setting) (bare : Bare) (old : Holdings) (history : History) 
     pub found_there : Finding
     found_there = finding_of setting finishes.its finishes.name finishes.content
 
-    pub told_found : reply ≡ finished_reply found_there
+    pub found_reply : reply ≡ finished_reply found_there
     unfolding found_there
-    told_found = told ∙ finishes.replied
+    found_reply = same_reply ∙ finishes.replied
 
     pub has_assembly : (open_at number id old.files.files ≡ None) → ⊥
     has_assembly none =
@@ -88,10 +88,10 @@ module _ (setting : Setting) (bare : Bare) (old : Holdings) (history : History) 
         → Recovers setting bare (record old { store = store; files = files }) (history ++ entry ∷ [])
     unfolding found_there
     finish_recovered store files place spelled stored_is at_place removed =
-        let row : stamped stamp reply ≡ entry_row entry = ap (stamped stamp) told ∙ row_is setting history entry is.may stamp is.stamped in
+        let row : stamped stamp reply ≡ entry_row entry = ap (stamped stamp) same_reply ∙ row_is setting history entry is.may stamp is.stamped in
         goes_on setting bare old (record old { store = store; files = files }) history entry is.may was
         (ap (λ (rows : Rows). rows.replies) stored_is ∙ ap (λ (row : rows.Entry). old.store.replies ++ row ∷ []) row)
-        (subst (λ (s : Stamp). HasReplySpelling s.version entry.reply) is.stamped (subst (HasReplySpelling stamp.version) told spelled))
+        (subst (λ (s : Stamp). HasReplySpelling s.version entry.reply) is.stamped (subst (HasReplySpelling stamp.version) same_reply spelled))
         (subst (λ (w : World). IsIn setting w (record old { store = store; files = files })) (sym finishes.left)
         (finished setting there old store files (stamped stamp reply) number finishes.its id finishes.parent finishes.modified finishes.name finishes.content place
         was.world finishes.there finishes.at finishes.unfinished stored_is at_place removed))

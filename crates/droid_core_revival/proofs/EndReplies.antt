@@ -52,8 +52,8 @@ finish_is_finished setting bare world after version number id reply is_bare acce
 
 pub finish_finds_words : (setting : Setting) (bare : Bare) (world after : World) (version number id : ℕ) (reply : Reply) → FindsWords setting → bare number id ≡ true → judge setting world version (Finish number id) ≡ Accepted reply after
     → (finding : Finding) → reply ≡ finished_reply finding → AllByRecursion IsWord finding.puids
-finish_finds_words setting bare world after version number id reply words is_bare accepted finding told =
+finish_finds_words setting bare world after version number id reply words is_bare accepted finding same_reply =
     let it = finishes_bare setting bare world after version number id reply is_bare accepted in
     let its = finding_of setting it.its it.name it.content in
-    let same : its.puids ≡ finding.puids = same_puids its finding (sym it.replied ∙ told) in
+    let same : its.puids ≡ finding.puids = same_puids its finding (sym it.replied ∙ same_reply) in
     subst (AllByRecursion IsWord) same (words it.name (bytes_of it.content) it.its.scan_limit it.its.match_all)

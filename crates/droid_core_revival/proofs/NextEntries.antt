@@ -102,9 +102,9 @@ contrary b is isnt = cc
 
 by_verdict : (setting : Setting) (world : World) (old new : Holdings) (stamp : Stamp) (request : Request) (verdict : Verdict) (reply : Reply) → MayCome world request verdict → is_refused reply ≡ true → reply ≡ verdict_reply verdict
     → Leaves setting world old new stamp verdict → Stays setting world old new
-by_verdict setting world old new stamp request (Accepted its after) reply may refused told leaves = absurd (contrary (is_refused its) (ap (λ (r : Reply). is_refused r) (sym told) ∙ refused) may.no_refusal)
-by_verdict setting world old new stamp request (Answered its) reply may refused told leaves = leaves
-by_verdict setting world old new stamp request (Refuses refusal) reply may refused told leaves = leaves
+by_verdict setting world old new stamp request (Accepted its after) reply may refused same_reply leaves = absurd (contrary (is_refused its) (ap (λ (r : Reply). is_refused r) (sym same_reply) ∙ refused) may.no_refusal)
+by_verdict setting world old new stamp request (Answered its) reply may refused same_reply leaves = leaves
+by_verdict setting world old new stamp request (Refuses refusal) reply may refused same_reply leaves = leaves
 
 either_stays : (b : Bool) {P Q R : Type 0} → MatchBool b P (Q × R) → (Q → R → P) → P
 either_stays true came stays = came
@@ -115,7 +115,7 @@ pub refused_still : (setting : Setting) (bare : Bare) (old new : Holdings) (hist
 refused_still setting bare old new history stamp version request reply was refused comes =
     let world = bare_world bare (world_of setting history) in
     stays_so setting bare old new history was
-    (either_stays (is_out_of_memory reply) comes (λ told leaves. by_verdict setting world old new stamp request (judge setting world version request) reply (judged setting world version request) refused told leaves))
+    (either_stays (is_out_of_memory reply) comes (λ same_reply leaves. by_verdict setting world old new stamp request (judge setting world version request) reply (judged setting world version request) refused same_reply leaves))
 
 -- ---- a command that needs no bytes, as the code has it
 

@@ -16,7 +16,7 @@ use Rattle.droid_frame_bodies.specs.Frames.{frame_bytes}
 use Rattle.droid_frame_bodies.specs.Versions.{is_version}
 use Rattle.droid_frame.specs.Headers.{header_bytes}
 use Rattle.droid_frame.specs.Streams.{IsReadable, BeginsNoFrame, header_size, why}
-use Rattle.droid_frame.specs.StreamReads.{IsGoodHeader, NamesSomeBody, ReadsNoFrame, Brings, EndsBy, Tells, UnlessRefused, IsHeader, HeaderCame, BodyCame, judged, Arrives}
+use Rattle.droid_frame.specs.StreamReads.{IsGoodHeader, NamesSomeBody, ReadsNoFrame, Brings, EndsBy, ImpliedBy, UnlessRefused, IsHeader, HeaderCame, BodyCame, judged, Arrives}
 use Rattle.droid_frame.proofs.FrameLaws.{reported_frame}
 use Rattle.droid_frame.proofs.StreamFrames.{Judged, other_version, too_long, good, judged_is, length_in-header, why_nothing, why_short, why_whole, no_frame_in_short, no_frame_of_version, no_frame_too_long, no_frame_cut}
 
@@ -48,17 +48,17 @@ short_reported bytes some short = record { no_frame = no_frame_in_short bytes sh
 
 pub header_fault : (old new : Option (List ℕ)) (fault : FrameFault) → HeaderCame old new (Err fault) → Arrives old new (Err fault)
 header_fault old new Truncated came = (
-  at_end_all old new came.bytes (Tells Truncated) came.consumed came.at_end (short_reported came.bytes (omega (arith, came.some)) came.short),
+  at_end_all old new came.bytes (ImpliedBy Truncated) came.consumed came.at_end (short_reported came.bytes (omega (arith, came.some)) came.short),
   record { bytes = came.bytes; consumed = came.consumed; no_frame = no_frame_in_short came.bytes came.short; within = inl (omega (arith, came.short)) },
 )
-header_fault old new Read came = (begun_all old new came.bytes (Tells Read) came.consumed (λ left. tt), record { bytes = came.bytes; consumed = came.consumed; no_frame = no_frame_in_short came.bytes came.fewer; within = inl (omega (arith, came.fewer)) })
+header_fault old new Read came = (begun_all old new came.bytes (ImpliedBy Read) came.consumed (λ left. tt), record { bytes = came.bytes; consumed = came.consumed; no_frame = no_frame_in_short came.bytes came.fewer; within = inl (omega (arith, came.fewer)) })
 header_fault old new BadVersion came = absurd came
 header_fault old new TooLong came = absurd came
 header_fault old new Memory came = absurd came
 
 -- ---- where the header was refused
 
-refused_reported : (h : Header) (fault : FrameFault) (left : List ℕ) → IsHeader h → Judged h (Err fault) → Tells fault (header_bytes h ++ left)
+refused_reported : (h : Header) (fault : FrameFault) (left : List ℕ) → IsHeader h → Judged h (Err fault) → ImpliedBy fault (header_bytes h ++ left)
 refused_reported h BadVersion left is (other_version o) = record {
   no_frame = no_frame_of_version h left is o;
   reason = why_whole h left false (ltb (body_limit h.version) h.length) is o refl;
@@ -74,11 +74,11 @@ refused_reported h Read left is j = elim j [ ]
 -- a header that is refused is all that was read
 refused_by : (old new : Option (List ℕ)) (h : Header) (fault : FrameFault) → IsHeader h → Consumes old new (header_bytes h) → Judged h (Err fault) → Arrives old new (Err fault)
 refused_by old new h BadVersion is read (other_version o) = (
-  begun_all old new (header_bytes h) (Tells BadVersion) read (λ left. refused_reported h BadVersion left is (other_version o)),
+  begun_all old new (header_bytes h) (ImpliedBy BadVersion) read (λ left. refused_reported h BadVersion left is (other_version o)),
   record { bytes = header_bytes h; consumed = read; no_frame = no_frame_of_version h [] is o; within = inl (omega arith) },
 )
 refused_by old new h TooLong is read (too_long o l) = (
-  begun_all old new (header_bytes h) (Tells TooLong) read (λ left. refused_reported h TooLong left is (too_long o l)),
+  begun_all old new (header_bytes h) (ImpliedBy TooLong) read (λ left. refused_reported h TooLong left is (too_long o l)),
   record { bytes = header_bytes h; consumed = read; no_frame = no_frame_too_long h [] is (ltb-true (body_limit h.version) h.length l); within = inl (omega arith) },
 )
 refused_by old new h Truncated is read j = elim j [ ]
@@ -129,17 +129,17 @@ unfolding cut_body
 body_fault old mid new h n Truncated is read came =
     let all = header_bytes h ++ came.bytes in
     let cut = cut_body old mid new h n came.bytes is read came.consumed came.short in
-    (at_end_all old new all (Tells Truncated) cut.consumed came.at_end (record { no_frame = cut.no_frame; reason = why_whole h came.bytes true false is.is_header is.one is.fits }), cut)
+    (at_end_all old new all (ImpliedBy Truncated) cut.consumed came.at_end (record { no_frame = cut.no_frame; reason = why_whole h came.bytes true false is.is_header is.one is.fits }), cut)
 body_fault old mid new h n Memory is read came =
     let cut = cut_body old mid new h n [] is read came.0 came.1 in
     let names = names_some h n [] is came.1 in (
-      begun_all old new (header_bytes h) (Tells Memory) cut.consumed (λ left. names_some h n left is came.1),
+      begun_all old new (header_bytes h) (ImpliedBy Memory) cut.consumed (λ left. names_some h n left is came.1),
       cut,
       record { bytes = header_bytes h; consumed = cut.consumed; size = refl; names_body = names },
     )
 body_fault old mid new h n Read is read came =
     let cut = cut_body old mid new h n came.bytes is read came.consumed came.fewer in
-    (begun_all old new (header_bytes h ++ came.bytes) (Tells Read) cut.consumed (λ left. tt), cut)
+    (begun_all old new (header_bytes h ++ came.bytes) (ImpliedBy Read) cut.consumed (λ left. tt), cut)
 body_fault old mid new h n BadVersion is read came = absurd came
 body_fault old mid new h n TooLong is read came = absurd came
 

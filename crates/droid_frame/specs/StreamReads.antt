@@ -61,12 +61,12 @@ pub record EndsBy (input : List ℕ) (why_it_ends : Result Arrival FrameFault) :
   pub reason : why input ≡ why_it_ends
 
 -- the property of the input that each fault implies
-abbrev pub Tells : FrameFault → List ℕ → Type 0
-Tells Truncated input = EndsBy input (Err Truncated)
-Tells BadVersion input = EndsBy input (Err BadVersion)
-Tells TooLong input = EndsBy input (Err TooLong)
-Tells Memory input = NamesSomeBody input
-Tells Read input = Unit {0}
+abbrev pub ImpliedBy : FrameFault → List ℕ → Type 0
+ImpliedBy Truncated input = EndsBy input (Err Truncated)
+ImpliedBy BadVersion input = EndsBy input (Err BadVersion)
+ImpliedBy TooLong input = EndsBy input (Err TooLong)
+ImpliedBy Memory input = NamesSomeBody input
+ImpliedBy Read input = Unit {0}
 
 -- P holds, unless memory ran out or the reader failed
 abbrev pub UnlessRefused : Result Arrival FrameFault → Type 0 → Type 0
@@ -130,5 +130,5 @@ judged header =
 -- the whole effect of reading one frame
 abbrev pub Arrives : Option (List ℕ) → Option (List ℕ) → Result Arrival FrameFault → Type 0
 Arrives old new (Ok arrival) = Brings old new arrival
-Arrives old new (Err Memory) = IfSome old (Tells Memory) × ReadsNoFrame old new × ReadsGoodHeader old new
-Arrives old new (Err fault) = IfSome old (Tells fault) × ReadsNoFrame old new
+Arrives old new (Err Memory) = IfSome old (ImpliedBy Memory) × ReadsNoFrame old new × ReadsGoodHeader old new
+Arrives old new (Err fault) = IfSome old (ImpliedBy fault) × ReadsNoFrame old new

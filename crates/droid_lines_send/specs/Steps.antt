@@ -3,7 +3,7 @@ use Rattle.std.specs.Prelude.{◌≡◌, ◌≢◌, ℕ, ◌^◌, ◌⊎◌, Lis
 use Rattle.std.specs.Io.KnownBytes.{Appends, Consumes, IsAtEnd, Keeps}
 use Rattle.droid_frame.specs.Frames.{frame_bytes}
 use Rattle.droid_frame.specs.Replies.{SpellsReply}
-use Rattle.droid_frame.specs.StreamReads.{ReadsNoFrame, Tells}
+use Rattle.droid_frame.specs.StreamReads.{ReadsNoFrame, ImpliedBy}
 use Rattle.droid_frame.specs.types.frame.Frame.{Frame}
 use Rattle.droid_frame.specs.types.reply.Reply.{Reply}
 use Rattle.droid_lines.specs.declared.parser.VersionedRequest.{VersionedRequest}
@@ -30,7 +30,7 @@ RequestGoes core asked old new after (Err _) = ⊥
 abbrev pub ReplyComes : Option (List ℕ) → Option (List ℕ) → Result Frame SendFault → Type 0
 ReplyComes input left (Ok frame) = ReadsOne input left frame
 ReplyComes input left (Err Closed) = IsAtEnd input × Consumes input left []
-ReplyComes input left (Err (Replies fault)) = IfSome input (Tells fault) × ReadsNoFrame input left
+ReplyComes input left (Err (Replies fault)) = IfSome input (ImpliedBy fault) × ReadsNoFrame input left
 ReplyComes input left (Err _) = ⊥
 
 -- the core takes a reply, which prints `text`

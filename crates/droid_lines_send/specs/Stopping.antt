@@ -3,7 +3,7 @@ use Rattle.std.specs.Prelude.{◌≡◌, ◌≢◌, ℕ, ◌^◌, ◌<◌, ◌�
 use Rattle.std.specs.Io.KnownBytes.{Appends, Consumes, IsAtEnd, Keeps}
 use Rattle.droid_frame.specs.Frames.{frame_bytes}
 use Rattle.droid_frame.specs.Replies.{SpellsReply}
-use Rattle.droid_frame.specs.StreamReads.{ReadsNoFrame, Tells}
+use Rattle.droid_frame.specs.StreamReads.{ReadsNoFrame, ImpliedBy}
 use Rattle.droid_frame.specs.Streams.{IsReadable}
 use Rattle.droid_frame.specs.types.frame.Frame.{Frame}
 use Rattle.droid_frame.specs.types.reply.Reply.{Reply}
@@ -74,7 +74,7 @@ RequestStops Frames core asked input left old new after = Unwritten core asked i
 -- the replies ended where one was due
 RequestStops Closed core asked input left old new after = Unheard core asked old new after × IsAtEnd input × Consumes input left []
 -- the rest of the replies begins with no frame, for this reason
-RequestStops (Replies fault) core asked input left old new after = Unheard core asked old new after × IfSome input (Tells fault) × ReadsNoFrame input left
+RequestStops (Replies fault) core asked input left old new after = Unheard core asked old new after × IfSome input (ImpliedBy fault) × ReadsNoFrame input left
 -- a frame came that holds no reply
 RequestStops Malformed core asked input left old new after =
     Unheard core asked old new after × (frame : Frame) × ReadsOne input left frame × ((reply : Reply) → ¬ SpellsReply frame.version frame.kind frame.body reply)

@@ -49,7 +49,7 @@ numbers_go_on given more before after (NextNumber number its next same) on =
 -- ---- one entry
 
 module _ (registry : Contents) (options : Options) (readings : Readings) where
-  -- this came of the next entry: rows and files tell it, if the files are read like this
+  -- the next entry gave this kid: the rows and files show it, if the files are read like this
   pub record KidTaken (entry : FolderEntry) (kid : Kid) (scan scan_after : Scan) (rows rows_after : List Row) (files files_after : List FileRow) : Type 0 where
     pub its : entry_of kid ≡ entry
     pub may : MayCome scan.folder.path kid

@@ -23,22 +23,22 @@ set_bit word k j below =
           (λ h. inl (sym stays ∙ h), λ h. ⊎_elim (λ e. stays ∙ e) (λ e. absurd (other e)) h)
     ]
 
--- the first bits of a word, so many of them, say what T says
-abbrev pub Tells : (ℕ → Type 0) → ℕ → ℕ → Type 0
-Tells T count word = (i : ℕ) → i < 64 → (bit_at word i ≡ 1) ↔ ((i < count) × T i)
+-- of the first `count` bits of a word those are set of which T holds; no later bit is set
+abbrev pub HasBitsOf : (ℕ → Type 0) → ℕ → ℕ → Type 0
+HasBitsOf T count word = (i : ℕ) → i < 64 → (bit_at word i ≡ 1) ↔ ((i < count) × T i)
 
-pub reports_none : (T : ℕ → Type 0) → Tells T 0 0
-reports_none T i below = (λ h. absurd (omega (arith, bit_at-zero i)), λ h. absurd (omega (arith, h.0)))
+pub bits_none : (T : ℕ → Type 0) → HasBitsOf T 0 0
+bits_none T i below = (λ h. absurd (omega (arith, bit_at-zero i)), λ h. absurd (omega (arith, h.0)))
 
-pub reports_set : (T : ℕ → Type 0) (count word : ℕ) → count < 64 → T count → Tells T count word → Tells T (count + 1) (bit_or word (1 * 2 ^ count % 2 ^ 64))
-reports_set T count word small here so_far i below =
+pub bits_set : (T : ℕ → Type 0) (count word : ℕ) → count < 64 → T count → HasBitsOf T count word → HasBitsOf T (count + 1) (bit_or word (1 * 2 ^ count % 2 ^ 64))
+bits_set T count word small here so_far i below =
     let set = set_bit word count i small in (
       λ h. ⊎_elim (λ a. let w = (so_far i below).0 a in (omega (arith, w.0), w.1)) (λ e. (omega arith, rw e here)) (set.0 h),
       λ (near, w). elim (cases_lt i count) [ inl before ↦ set.1 (inl ((so_far i below).1 (before, w))) | inr from ↦ set.1 (inr (omega arith)) ],
     )
 
-pub reports_unset : (T : ℕ → Type 0) (count word : ℕ) → (T count → ⊥) → Tells T count word → Tells T (count + 1) word
-reports_unset T count word not_here so_far i below = (
+pub bits_unset : (T : ℕ → Type 0) (count word : ℕ) → (T count → ⊥) → HasBitsOf T count word → HasBitsOf T (count + 1) word
+bits_unset T count word not_here so_far i below = (
   λ h. let w = (so_far i below).0 h in (omega (arith, w.0), w.1),
   λ (near, w). elim (cases_lt i count) [ inl before ↦ (so_far i below).1 (before, w) | inr from ↦ let same : i ≡ count = omega arith in absurd (not_here (rw same at w)) ],
 )

@@ -73,4 +73,4 @@ next_depth (suc depth) (Instruction target text) = omega arith
 -- what the kept pieces say is what the document says
 pub says_file : (parts kept : List Part) (outcome : Result FileRecord Wrong) → kept ≡ meaningful 0 parts → said kept ≡ outcome → signature_file parts ≡ outcome
 unfolding signature_file
-says_file parts kept outcome is told = ap said (sym is) ∙ told
+says_file parts kept outcome is reported = ap said (sym is) ∙ reported

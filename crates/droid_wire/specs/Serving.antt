@@ -2,7 +2,7 @@
 use Rattle.std.specs.Prelude.{◌≡◌, ℕ, ◌<◌, ◌≤◌, List, [], ◌∷◌, ◌++◌, length, take, Option, Some, Result, Ok, Err}
 use Rattle.std.specs.Io.KnownBytes.{Appends}
 use Rattle.std.specs.List.{AllByRecursion, flat_map}
-use Rattle.droid_frame.specs.StreamReads.{Tells, ReadsNoFrame}
+use Rattle.droid_frame.specs.StreamReads.{ImpliedBy, ReadsNoFrame}
 use Rattle.droid_frame.specs.Streams.{IsReadable}
 use Rattle.droid_frame.specs.Frames.{frame_bytes}
 use Rattle.droid_frame.specs.types.frame.Frame.{Frame}
@@ -56,7 +56,7 @@ abbrev pub Outcome : Setting → History → ℕ → List ℕ → Option (List �
 Outcome setting history turns input left old new after (Ok Turns) = Serves setting history input old new after (λ count rest. (count ≡ turns) × (left ≡ Some rest))
 Outcome setting history turns input left old new after (Ok Closed) = Serves setting history input old new after (λ count rest. (count < turns) × (rest ≡ []) × (left ≡ Some []))
 Outcome setting history turns input left old new after (Err (faults.Frame fault)) =
-    Serves setting history input old new after (λ count rest. (count < turns) × Tells fault rest × ReadsNoFrame (Some rest) left)
+    Serves setting history input old new after (λ count rest. (count < turns) × ImpliedBy fault rest × ReadsNoFrame (Some rest) left)
 Outcome setting history turns input left old new after (Err (faults.Write written)) = ServesCut setting history turns input left old new after written
 
 -- at most `most` more requests were handled, in order and each with one reply; the service stands for the history after

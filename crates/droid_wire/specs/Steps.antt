@@ -4,7 +4,7 @@ use Rattle.std.specs.Io.KnownBytes.{Appends}
 use Rattle.droid_frame.specs.Frames.{frame_bytes}
 use Rattle.droid_frame.specs.Replies.{HasReplySpelling}
 use Rattle.droid_frame.specs.ReplyFrames.{reply_frame}
-use Rattle.droid_frame.specs.StreamReads.{Tells, ReadsNoFrame}
+use Rattle.droid_frame.specs.StreamReads.{ImpliedBy, ReadsNoFrame}
 use Rattle.droid_frame.specs.Streams.{IsReadable}
 use Rattle.droid_frame.specs.types.frame.Frame.{Frame}
 use Rattle.droid_frame.specs.types.reply.Reply.{Reply}
@@ -49,5 +49,5 @@ pub record Idle (before after : Service) (old new : Option (List ℕ)) : Type 0 
 abbrev pub TurnGives : Setting → History → List ℕ → Option (List ℕ) → Option (List ℕ) → Option (List ℕ) → Service → Service → ℕ → Result (Option ℕ) ServeFault → Type 0
 TurnGives setting history input left old new before after count (Ok (Some size)) = Answered setting history input left old new after size
 TurnGives setting history input left old new before after count (Ok None) = Idle before after old new × (input ≡ []) × (left ≡ Some [])
-TurnGives setting history input left old new before after count (Err (faults.Frame fault)) = Idle before after old new × Tells fault input × ReadsNoFrame (Some input) left
+TurnGives setting history input left old new before after count (Err (faults.Frame fault)) = Idle before after old new × ImpliedBy fault input × ReadsNoFrame (Some input) left
 TurnGives setting history input left old new before after count (Err (faults.Write written)) = (count ≤ written) × Cut setting history input left old new after (written - count)

@@ -45,24 +45,15 @@ no_document text parts others place e has is document =
     let run : Run has.0 others document.2.0 = subst (λ (first : Place). Run first others document.2.0) (sym same) document.2.1 in
     no_rest parts others has.0 place document.2.0 e has.2 is run document.2.2
 
--- what a fault says of the text
-pub fault_told : (text : List ℕ) (parts : List Part) (place : Place) (fault : Fault) → HasRead text parts place → Fails fault (next_at place) → IsFaultOf text fault
-fault_told text parts place faults.Memory has is = tt
-fault_told text parts place (faults.Problem problem line) has is = inr (has.0, has.1, (parts, place, has.2, is))
+-- a fault behind the parts that were read is a fault of the text
+pub fault_of_rest : (text : List ℕ) (parts : List Part) (place : Place) (fault : Fault) → HasRead text parts place → Fails fault (next_at place) → IsFaultOf text fault
+fault_of_rest text parts place faults.Memory has is = tt
+fault_of_rest text parts place (faults.Problem problem line) has is = inr (has.0, has.1, (parts, place, has.2, is))
 
 -- nothing but memory stands in the way of a document
 pub only_memory : (text : List ℕ) (parts others : List Part) (place : Place) (fault : Fault) → HasRead text parts place → Fails fault (next_at place) → IsDocument text others → IsMemory fault
 only_memory text parts others place faults.Memory has is document = tt
 only_memory text parts others place (faults.Problem problem line) has is document = no_document text parts others place (problem, line) has is document
-
--- the same where it doesn't even begin
-pub start_told : (text : List ℕ) (fault : Fault) → Fails fault (start_of text) → IsFaultOf text fault
-start_told text faults.Memory is = tt
-start_told text (faults.Problem problem line) is = inl is
-
-pub no_start : (text : List ℕ) (others : List Part) (fault : Fault) → Fails fault (start_of text) → IsDocument text others → IsMemory fault
-no_start text others faults.Memory is document = tt
-no_start text others (faults.Problem problem line) is document = let start = document.1 in absurd cc
 
 -- a text has the pieces of one document at most
 pub one_document : (text : List ℕ) (parts others : List Part) → IsDocument text parts → IsDocument text others → parts ≡ others

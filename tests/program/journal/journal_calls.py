@@ -184,16 +184,16 @@ class Failing(Noted):
     def closes(self, before, asked):
         """With each call failing: what was answered is in the file, the program ends by its journal, and the next one goes on."""
         due = due_to(asked)
-        earlier, told = read(before).records if before else [], set()
+        earlier, reported = read(before).records if before else [], set()
         for call, (status, written, said) in self.each_in_turn(before, lambda env: run_journal(self.path, b"".join(asked), env=env)):
             named = b"".join(line for line in said.splitlines(True) if not line.startswith(b"journal: "))
-            told |= self.ends_by(status, named, sentences(call), call)
+            reported |= self.ends_by(status, named, sentences(call), call)
             self.assertTrue(due.startswith(written), call)
             left = contents(self.path) if os.path.exists(self.path) else b""
             kept = b"".join(it.reply for it in read(left).records[len(earlier) :]) if left else b""
             self.assertTrue(kept.startswith(written) and due.startswith(kept), call)
             self.assertEqual(run_journal(self.path, b"".join(asked))[:2], (0, due), call)
-        self.assertEqual(told, {UNOPENED, UNREAD, UNWRITTEN})
+        self.assertEqual(reported, {UNOPENED, UNREAD, UNWRITTEN})
 
     def ends_by(self, status, said, may, call):
         """The command ended by its journal, and one of these sentences was printed: that one, in a set."""
@@ -213,10 +213,10 @@ class Failing(Noted):
         self.assertEqual(run_journal(self.path, b"".join(ASKED))[0], 0)
         old = contents(self.path)
         new = smaller_of(old)
-        renamed, told = False, set()
+        renamed, reported = False, set()
         for call, (status, _, said) in self.each_in_turn(old, lambda env: compact(self.path, env=env)):
             sentence = self.ends_by(status, said, smaller_sentences(call), call)
-            told |= sentence
+            reported |= sentence
             found = contents(self.path)
             self.assertIn(found, (old, new), call)
             renamed |= found == new
@@ -225,7 +225,7 @@ class Failing(Noted):
             self.assertEqual(compact(self.path, "--quiet")[0], 0, call)
             self.assertEqual((contents(self.path), os.listdir(self.folder)), (new, [FILE]), call)
         self.assertTrue(renamed)
-        self.assertEqual(told, {UNOPENED, UNREAD, NOT_BESIDE, NO_ROOM_BESIDE, NOT_EXCHANGED})
+        self.assertEqual(reported, {UNOPENED, UNREAD, NOT_BESIDE, NO_ROOM_BESIDE, NOT_EXCHANGED})
 
     def test_serve(self):
         """A write or a sync fails while two connections are open: both are closed, and the service ends."""

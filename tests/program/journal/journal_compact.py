@@ -38,7 +38,7 @@ def smaller_of(data):
     return smaller(data[: header_size()], read(data).records)
 
 
-def told(path, old, new):
+def made_small(path, old, new):
     """What is printed of a journal that had these bytes and has now those."""
     sizes = (len(read(old).records), len(old), len(read(new).records), len(new))
     return b"journal: %s had %d records and %d bytes, and has now %d records and %d bytes\n" % (os.fsencode(path), *sizes)
@@ -55,7 +55,7 @@ class Compaction(AskedByModel):
         path = path or self.path
         old = contents(path)
         new = smaller_of(old)
-        self.assertEqual(compact(path), (0, b"", told(path, old, new)))
+        self.assertEqual(compact(path), (0, b"", made_small(path, old, new)))
         self.assertEqual(contents(path), new)
         self.assertFalse(os.path.exists(path + ".new"))
         return new
@@ -127,7 +127,7 @@ class Compaction(AskedByModel):
         old = self.make(ASKED)
         store(self.path, old + b"\1\0\0")
         status, out, said = compact(self.path)
-        self.assertEqual((status, out, said), (0, b"", cut_off(3, self.path) + told(self.path, old, smaller_of(old))))
+        self.assertEqual((status, out, said), (0, b"", cut_off(3, self.path) + made_small(self.path, old, smaller_of(old))))
         self.assertEqual((contents(self.path), contents(self.path + ".torn")), (smaller_of(old), b"\1\0\0"))
 
     def test_faults_of_a_start(self):
@@ -323,7 +323,7 @@ class BeforeServing(InJournal):
         old = contents(self.path)
         self.assertGreater(len(old), LARGE)
         new = smaller_of(old)
-        self.assertEqual(self.answers(asked, replies), told(self.path, old, new))
+        self.assertEqual(self.answers(asked, replies), made_small(self.path, old, new))
         self.goes_on_with(new)
         self.assertEqual(os.listdir(self.folder), ["desk.journal"])
         # and the pieces come again
@@ -362,7 +362,7 @@ class BeforeServing(InJournal):
         asked, replies = self.files(17, 0)
         old = contents(self.path)
         store(self.path, old + bytes(9))
-        self.assertEqual(self.answers(asked, replies), cut_off(9, self.path) + told(self.path, old, smaller_of(old)))
+        self.assertEqual(self.answers(asked, replies), cut_off(9, self.path) + made_small(self.path, old, smaller_of(old)))
         self.goes_on_with(smaller_of(old))
 
 

@@ -164,7 +164,7 @@ class Modes(InJournal):
 
 class Endings(InJournal):
     def test_standard_error_is_full(self):
-        """What is cut off is saved; that it can't be told is no fault."""
+        """What is cut off is saved; that it can't be printed is no fault."""
         self.assertEqual(run_journal(self.path, create(1))[0], 0)
         store(self.path, contents(self.path) + b"\1\0\0")
         with open("/dev/full", "wb") as full:

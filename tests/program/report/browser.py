@@ -169,8 +169,8 @@ def see(browser, path, name, csv_text):
     with a title and numbers, nothing to scroll to the side."""
     for width in (1200, 400):
         browser.open(path, width)
-        told = [event for event in browser.events if event.get("method") in ("Runtime.consoleAPICalled", "Runtime.exceptionThrown", "Log.entryAdded")]
-        assert not told, told
+        reported = [event for event in browser.events if event.get("method") in ("Runtime.consoleAPICalled", "Runtime.exceptionThrown", "Log.entryAdded")]
+        assert not reported, reported
         asked = [event["params"]["request"]["url"] for event in browser.events if event.get("method") == "Network.requestWillBeSent"]
         assert asked == ["file://" + path], asked
         wide = browser.value("document.documentElement.scrollWidth")

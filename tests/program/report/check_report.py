@@ -179,8 +179,8 @@ def faults():
         assert run(place.csv, "--output", place.page).returncode == 0
         with open(place.page, "rb") as file:
             page = file.read()
-        told = run(place.csv)
-        assert told.returncode == 0 and len(told.stdout) == len(page)
+        made = run(place.csv)
+        assert made.returncode == 0 and len(made.stdout) == len(page)
         assert Page(page.decode()).title == "p.csv"
         full = subprocess.run(["sh", "-c", '"$0" report "$1" >/dev/full', PROGRAM, place.csv], capture_output=True, timeout=120)
         assert full.returncode == 4 and full.stderr.startswith(b"fault: Write\n"), full.stderr

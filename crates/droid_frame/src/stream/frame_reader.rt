@@ -4,7 +4,7 @@ ghost use Rattle.std.specs.Prelude.{◌≡◌, ◌++◌, ℕ, List, Some, Err, I
 ghost use Rattle.droid_frame_bodies.specs.Frames.{frame_bytes};
 ghost use Rattle.droid_frame.specs.Streams.{IsReadable, BeginsNoFrame, why};
 ghost use Rattle.droid_frame_stream.specs.Seen.{Counts, IsSound, ReportsFault};
-ghost use Rattle.droid_frame.specs.StreamReads.{Arrives, BodyCame, Brings, HeaderCame, ReadsGoodHeader, ReadsNoFrame, ReadsOn, Tells, UnlessRefused, judged};
+ghost use Rattle.droid_frame.specs.StreamReads.{Arrives, BodyCame, Brings, HeaderCame, ImpliedBy, ReadsGoodHeader, ReadsNoFrame, ReadsOn, UnlessRefused, judged};
 
 use super::arrival::Arrival;
 use super::fault::FrameFault;
@@ -24,7 +24,7 @@ pub fn read_frame<R: SteadyRead>(alloc: Global, reader: &mut R) -> Result<Arriva
     // If the input begins with no frame, the result is the end or the fault that `why` defines.
     ensures ended { (input : List ℕ) → R.remaining reader.old ≡ Some input → BeginsNoFrame input → UnlessRefused result (result ≡ why input) }
     // So each fault has its cause in the input. `Memory` comes only after a valid header with a body.
-    ensures reported { IfErr result (λ fault. IfSome (R.remaining reader.old) (Tells fault)) }
+    ensures reported { IfErr result (λ fault. IfSome (R.remaining reader.old) (ImpliedBy fault)) }
     // The bytes read before a fault contain no whole frame: at most a header, or a valid header and less than the body
     // that it announces. Before `Memory`, exactly a valid header was read, and its body is not empty.
     ensures fault { OnErr result (ReadsNoFrame (R.remaining reader.old) (R.remaining reader.new)) }

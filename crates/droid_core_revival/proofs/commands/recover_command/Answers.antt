@@ -32,6 +32,6 @@ returns-in-Ok-Some-clause-again c = λ setting bare history entry was small ther
 pub returns-clause-recovers : goal.returns-clause-recovers
 returns-clause-recovers c = λ setting bare history entry was is asked.
     absurd (
-    let told = c.in-Err-Unfit.ensures.memory (stamp_small setting history entry is.may c.args.stamp is.stamped) in
+    let reported = c.in-Err-Unfit.ensures.memory (stamp_small setting history entry is.may c.args.stamp is.stamped) in
     let unfit = c.in-Err-Unfit.field-0-is in
     cc)

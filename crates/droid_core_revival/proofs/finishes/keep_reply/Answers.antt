@@ -5,7 +5,7 @@ use Rattle.droid_core.proofs.state.ShortRows.{finished_fits}
 use Rattle.droid_core_revival.proofs.finishes.keep_reply.Goals as goal
 
 pub returns-in-Err-clause-memory : goal.returns-in-Err-clause-memory
-returns-in-Err-clause-memory c = λ finding told may.
+returns-in-Err-clause-memory c = λ finding same_reply may.
     let spelled = rw c.in-Finished.is at c.requires.spelled in
     c.from.ensures
     ∙ ap of_store (c.in-Err.ensures.memory c.requires.fits

@@ -12,5 +12,5 @@ returns-in-Ok-said c =
 pub returns : goal.returns
 returns c =
     let (parts, document, kept) = c.in-Ok.ensures.found in
-    let told = rw c.in-Err-Wrong.field-0-is at c.in-Err-Wrong.ensures in
-    (parts, document, says_file parts (map part c.in-Ok.pieces.items) (Err c.in-Err-Wrong.wrong) kept (rw c.as_slice.ensures.value at told))
+    let reported = rw c.in-Err-Wrong.field-0-is at c.in-Err-Wrong.ensures in
+    (parts, document, says_file parts (map part c.in-Ok.pieces.items) (Err c.in-Err-Wrong.wrong) kept (rw c.as_slice.ensures.value at reported))

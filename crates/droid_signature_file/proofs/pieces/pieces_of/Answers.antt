@@ -1,13 +1,13 @@
 -- One more piece, the end, and a fault.
 use Rattle.std.proofs.Common.{map, arith}
 use Rattle.droid_xml.specs.Views.{part, place}
-use Rattle.droid_xml.proofs.Reading.{fault_told}
+use Rattle.droid_xml.proofs.Reading.{fault_of_rest}
 use Rattle.droid_signature_file.specs.Tables.{depth_behind}
 use Rattle.droid_signature_file.proofs.KeptPieces.{kept_more, kept_whole, next_depth}
 use Rattle.droid_signature_file.proofs.pieces.pieces_of.Goals as goal
 
 pub returns-in-Err-clause-fault : goal.returns-in-Err-clause-fault
-returns-in-Err-clause-fault c = fault_told c.args.text.now c.loop.invariant.0.parts (place c.loop.reader) c.in-Err.fault c.loop.invariant.0.read c.in-Err.ensures.0
+returns-in-Err-clause-fault c = fault_of_rest c.args.text.now c.loop.invariant.0.parts (place c.loop.reader) c.in-Err.fault c.loop.invariant.0.read c.in-Err.ensures.0
 
 pub returns-in-Ok-None-clause-found : goal.returns-in-Ok-None-clause-found
 returns-in-Ok-None-clause-found c =

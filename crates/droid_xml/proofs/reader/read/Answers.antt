@@ -2,14 +2,14 @@ use Rattle.std.proofs.Common.{[], ◌∷◌, List, map, sym, ap, subst, ◌∙�
 use Rattle.std.proofs.lemmas.List.{map-append}
 use Rattle.droid_xml.specs.Pieces.{Part}
 use Rattle.droid_xml.specs.Views.{part, place}
-use Rattle.droid_xml.proofs.Reading.{HasRead, fault_told, only_memory, read_more, read_only, read_whole}
+use Rattle.droid_xml.proofs.Reading.{HasRead, fault_of_rest, only_memory, read_more, read_only, read_whole}
 use Rattle.droid_xml.proofs.reader.read.Goals as goal
 
 pub returns-in-Err-clause-only : goal.returns-in-Err-clause-only
 returns-in-Err-clause-only c parts document = only_memory c.args.text.now (map part c.loop.pieces.items) parts (place c.loop.reader) c.in-Err.fault c.loop.invariant c.in-Err.ensures.0 document
 
 pub returns-in-Err-clause-fault : goal.returns-in-Err-clause-fault
-returns-in-Err-clause-fault c = fault_told c.args.text.now (map part c.loop.pieces.items) (place c.loop.reader) c.in-Err.fault c.loop.invariant c.in-Err.ensures.0
+returns-in-Err-clause-fault c = fault_of_rest c.args.text.now (map part c.loop.pieces.items) (place c.loop.reader) c.in-Err.fault c.loop.invariant c.in-Err.ensures.0
 
 pub returns-in-Ok-None-clause-found : goal.returns-in-Ok-None-clause-found
 returns-in-Ok-None-clause-found c =
