@@ -22,7 +22,7 @@ FOLDERS = int(os.environ.get("FOLDERS", "20000"))
 ALONE = 2_000
 STARTED = int(os.environ.get("STARTED", "1000000"))
 PIECES = int(os.environ.get("PIECES", str(4 << 30)))
-# so many finished files have these pieces where the journal is made smaller
+# how many finished files have these pieces where the journal is made smaller
 FINISHED = 1_000
 # as long as a sync takes on a common disk that writes before it answers
 SLOW = 2_000
@@ -70,7 +70,7 @@ def folder_frame(number, client):
 
 
 def folders(where, clients, each, *options, env=None):
-    """Seconds that so many clients take for so many folders each, one at a time. The clients are of waiting_clients.c."""
+    """Seconds that `clients` clients take for `each` folders each, one at a time. The clients are of waiting_clients.c."""
     asked = [os.path.join(where, f"asked-{client}") for client in range(1, clients + 1)]
     for client, path in enumerate(asked, 1):
         with open(path, "wb") as made:
@@ -130,7 +130,7 @@ def compare_folders(folder, clients, count, wanted, env=None, where="this disk")
 
 
 def many_folders(count):
-    """The frames of so many folders, in as many profiles as they take."""
+    """The frames of `count` folders, in as many profiles as they take."""
     number = 0
     for profile in range(1, -(-count // MOST_NODES) + 1):
         number += 1
@@ -141,7 +141,7 @@ def many_folders(count):
 
 
 def many_pieces(size, pieces=64):
-    """The frames of files of so many pieces of 1 MiB."""
+    """The frames of files of `pieces` pieces of 1 MiB each."""
     content = os.urandom(1 << 20)
     yield create(1)
     number = 1

@@ -1,7 +1,7 @@
 """Many desks at once (`serve --at-once`), each figure beside its peer of the same run.
 
 Usage: compare_many.py [ROUNDS] [PART ..], with the program's path in DROID_DESK and tests/ on Python's path. Prints a
-line for each of five parts, with its limit. The parts `waiting` and `pieces` run so many rounds, 3 if none are named, in
+line for each of five parts, with its limit. The parts `waiting` and `pieces` run ROUNDS rounds, 3 if no number is named, in
 which both settings take turns, and print medians. Ends with status 1 if a desk was refused, or waited for longer than it
 may.
 
@@ -86,7 +86,7 @@ def timed(service, work):
 
 
 def in_turns(rounds, *settings):
-    """Runs each setting in so many rounds, in turns, and returns the runs of the middle by the clock."""
+    """Runs each setting in this number of rounds, in turns, and returns the runs of the middle by the clock."""
     runs = [[setting() for setting in settings] for _ in range(rounds)]
     return [sorted(each)[rounds // 2] for each in zip(*runs)]
 
@@ -168,7 +168,7 @@ def send_ahead():
 
 
 def exchange_all(stream, requests, count):
-    """Sends all requests, and reads so many bytes of replies meanwhile."""
+    """Sends all requests, and reads `count` bytes of replies meanwhile."""
     sender = threading.Thread(target=stream.sendall, args=(requests,), daemon=True)
     sender.start()
     read_all(stream, count)

@@ -109,7 +109,7 @@ def opened():
 
 
 def run_python(counts):
-    """Prints a folder's time, its bytes and a removal's time at so many nodes."""
+    """Prints a folder's time, its bytes and a removal's time at each of these numbers of nodes."""
     before = resident()
     db = opened()
     filled = 0

@@ -7,7 +7,7 @@ processors at once, and is counted."""
 import os
 import time
 
-# a count goes on for so many seconds, of which the best of some is taken
+# how many seconds a count goes on, and of how many counts the best is taken
 SPAN, TRIES = 0.02, 5
 # on processors of two cores a loop keeps at least this part of its pace
 APART = 0.85

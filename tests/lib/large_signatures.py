@@ -189,7 +189,7 @@ def long_fragments(part):
 
 
 def wide_signatures(front, part, count, back=b""):
-    """Signatures of so many patterns of nearly 4,096 bytes each, which a format names."""
+    """Signatures of `count` patterns of nearly 4,096 bytes each, which a format names."""
     whole = front + b"(" + b"|".join([part] * count) + b")" + back
     inner = b"<ByteSequence Reference='BOFoffset'>" + LONG_SUBSEQUENCE % (1, whole) + b"</ByteSequence>"
     many = BYTES // (len(inner) + 100)

@@ -1,5 +1,5 @@
 """Runs tests of the crates again and again, and refuses another of their allocations each time. Such a test asks again
-where memory was refused, so it passes whichever allocation it was.
+where memory ran out, so it passes whichever allocation it was.
 
 The tests are those that `rt ci` or `rt test` left in the crates' out/. As many run at once as there are processors. The
 variable REFUSING has the path of the built refuse.c.

@@ -74,7 +74,7 @@ class Refused(unittest.TestCase):
 
     def is_right(self, before, requests, stored):
         """Whether an end is right, where records of these requests were there, which the file has as `stored`: nothing of them is
-        gone, each accepted command that was answered is there, and nothing else. What memory was refused to has changed nothing for
+        gone, each accepted command that was answered is there, and nothing else. A command that ran out of memory has changed nothing for
         those behind it."""
         whole = dict(zip(stored, before))
 

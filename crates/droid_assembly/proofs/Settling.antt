@@ -61,7 +61,7 @@ settled a piece front waiting from reserved = record {
 }
 
 module _ (a : State) (old new : Front) (waiting : List (Option (List ℕ))) (k : ℕ) (piece : Piece) where
-  -- what became of the fields: they went along from the first missing piece over k pieces, and stopped
+  -- the settling went from the first missing piece over k pieces, and stopped
   pub record Went : Type 0 where
     pub sound : IsConsistent a old
     pub same : IsOf a old

@@ -20,7 +20,7 @@ slice_get-past [] place past = refl
 slice_get-past (p ∷ pieces) zero past = absurd (omega arith)
 slice_get-past (p ∷ pieces) (suc place) past = slice_get-past pieces place (omega arith)
 
--- there are so many
+-- the first `count` places have `count` pieces
 pub length_shown : (places : List (Option (List ℕ))) (count : ℕ) → count ≤ length places → length (map bytes_of (take count places)) ≡ count
 length_shown [] zero within = refl
 length_shown [] (suc count) within = absurd (omega arith)

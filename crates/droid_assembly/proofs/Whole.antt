@@ -19,7 +19,7 @@ length-complete a front pieces sound complete stands =
     length-whole a.size a.piece_size pieces sound.sizes.piece_size_positive stands.are_due
     (λ k below. missing_before (count_of a) pieces k (omega (arith, below, complete, stands.least)))
 
--- those before the first missing one have so many
+-- how many bytes the pieces before the first missing one have
 pub length-before : (a : State) (front : Front) (pieces : List Piece) → StandsFor a pieces → length (file_bytes a.first_missing pieces) ≡ min a.size (a.first_missing * a.piece_size)
 length-before a front pieces stands =
     length-file_bytes a.size a.piece_size a.first_missing pieces stands.are_due
@@ -83,12 +83,12 @@ each_waiting a front sound =
     ap (λ n. get_or a.waiting n None) (sym is.2) ∙ sound.stands.waits index is.0 is.1 in
     rw at (weight_le a.size a.piece_size index (bytes_at sound.pieces index) (bytes_at-all (IsDue a.size a.piece_size) sound.pieces index sound.stands.are_due)))
 
--- the waiting pieces have at most so many bytes
+-- the waiting pieces have at most 16 pieces' bytes
 pub waiting_le : (a : State) (front : Front) → IsConsistent a front → sum_by weight a.waiting ≤ 16 * a.piece_size
 waiting_le a front sound =
     omega (arith, sum_by-le weight a.piece_size a.waiting (each_waiting a front sound), ap (λ n. n * a.piece_size) sound.places)
 
--- and so many with the pending one, which has one of their places
+-- the same bound holds with the pending one, which has one of their places
 with_pending_le : (a : State) (front : Front) (piece : Piece) → IsConsistent a front → IsFree a piece → sum_by weight a.waiting + length piece.1 ≤ 16 * a.piece_size
 with_pending_le a front piece sound free =
     let none : Option (List ℕ) = None in

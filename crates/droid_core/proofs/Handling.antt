@@ -73,7 +73,7 @@ out_of_memory : (b : Bool) (P Q : Type 0) → b ≡ true → P → MatchBool b P
 out_of_memory true P Q is it = it
 out_of_memory false P Q is it = absurd cc
 
--- memory was refused, and nothing is changed
+-- memory ran out, and nothing is changed
 pub handles_memory_fault : (setting : Setting) (service : Holdings) (history : History) (frame : Frame) (refusal : Refusal) → IsSome (command frame) → IsTrue (is_out_of_memory_of refusal) → Stand setting service history
     → Handles setting history frame (Refused refusal) (Stand setting service)
 handles_memory_fault setting service history frame refusal asked failure stands = out_of_memory (is_out_of_memory_of refusal) _ _ failure (asked, stands)

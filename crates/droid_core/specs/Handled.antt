@@ -16,7 +16,7 @@ use Rattle.droid_core.specs.Standing.{StandsFor, limits_of, registry_of}
 use Rattle.droid_core.specs.declared.service.Service.{Service}
 
 -- For each history that the service stands for, the reply is its answer and the service then stands for the next one, or
--- memory was refused. The reply has a spelling in the request's version; the limits, the registry and the size of the cache
+-- memory ran out. The reply has a spelling in the request's version; the limits, the registry and the size of the cache
 -- stay. After a new Export that leaves something of a text unread the service keeps that text, unless it is too long.
 pub record IsHandled (stamp : Stamp) (request : Request) (before after : Service) (reply : Reply) : Type 0 where
   pub handles : (setting : Setting) (history : History) (frame : Frame) → stamp ≡ stamp_of frame → command frame ≡ Some request → StandsFor setting before history → Handles setting history frame reply (StandsFor setting after)

@@ -81,7 +81,7 @@ module _ (setting : Setting) (world : World) (rows : Rows) (number : ℕ) (profi
       let missing = no_row_said setting number profile (suc place) (slice_get profile.nodes place) (is ∙ ap (option_map row_of) (node_is (suc place))) in
       λ more. rw missing refl
 
-  -- the row is missing, or memory was refused
+  -- the row is missing, or memory ran out
   pub nothing_finds : (id : ℕ) (refusal : Refusal) → id ≢ 0 → MatchBool (is_out_of_memory_of refusal) ⊤ ((refusal ≡ NoSuchNode) × (node_at number id rows ≡ None)) → FindsFolder profile id (Err refusal)
   nothing_finds id refusal below none = if_refused (is_out_of_memory_of refusal)
       (λ (it : (refusal ≡ NoSuchNode) × (node_at number id rows ≡ None)) more. no_row_finds id below (ap (option_map row_of) (sym it.1)) more ∙ ap Some (sym it.0)) none

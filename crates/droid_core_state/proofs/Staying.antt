@@ -37,7 +37,7 @@ read_only setting world service rows same is_in = rw same (record { world_is = i
 
 -- ---- a refusal
 
--- memory was refused, or what follows from the refusal
+-- memory ran out, or what follows from the refusal
 pub if_refused : (b : Bool) {P Q : Type 0} → (P → Q) → MatchBool b ⊤ P → MatchBool b ⊤ Q
 if_refused true f p = p
 if_refused false f p = f p
@@ -52,7 +52,7 @@ refused_or_out_of_memory : (b : Bool) (setting : Setting) (world : World) (old n
 refused_or_out_of_memory true setting world old new stamp verdict refusal is same = same
 refused_or_out_of_memory false setting world old new stamp verdict refusal is same = rw is (refl, same)
 
--- the refusal is the verdict's, or memory was refused
+-- the refusal is the verdict's, or memory ran out
 pub comes_refused : (setting : Setting) (world : World) (old new : Holdings) (stamp : Stamp) (verdict : Verdict) (refusal : Refusal) → MatchBool (is_out_of_memory_of refusal) ⊤ (verdict ≡ Refuses refusal) → Stays setting world old new
     → Comes setting world old new stamp verdict (Refused refusal)
 comes_refused setting world old new stamp verdict refusal is same = refused_or_out_of_memory (is_out_of_memory_of refusal) setting world old new stamp verdict refusal is same

@@ -75,7 +75,7 @@ fn is_reply_at(reply: &Reply, place: usize) -> bool {
     }
 }
 
-/// Whether the service answers a list of so many requests at once, each as it would be answered alone.
+/// Whether the service answers a list of `count` requests at once, each as it would be answered alone.
 fn answers_all(alloc: Global, service: &mut Service, count: usize) -> Option<bool> {
     let mut frames = Vec::new(alloc);
     for place in 0..count {

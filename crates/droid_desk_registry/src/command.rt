@@ -25,7 +25,7 @@ where
 
 /// Makes a registry of a signature file.
 pub fn convert_file<P: Places>(alloc: Global, places: &mut P, quiet: bool) -> RegistryEnding
-    // All that was done outside, in order, and the ending that says what came of it.
+    // All that was done outside, in order, and the ending that follows from it.
     ensures { Runs P.does quiet places.old result places.new }
 {
     let bytes = match places.read_file(alloc) {

@@ -32,7 +32,7 @@ impl ClearLine for Silent {
     fn clear_line(&self) {}
 }
 
-/// What came of a comparison.
+/// The result of a comparison.
 #[derive(Drop)]
 struct Run {
     ending: VerifyEnding,

@@ -103,7 +103,7 @@ before_year y =
     let back : y + 1 - 1 ≡ y = omega arith in
     rw back refl
 
--- forward: what lies so many days after
+-- forward: the date this number of days after the first
 pub forward : (n y m d : ℕ) → IsDay y m d → days_from_civil (pos y) m d ≡ pos n → days_after n ≡ date_at y m d
 unfolding days_after
 forward zero y m d h e = at_epoch y m d h e
@@ -138,7 +138,7 @@ forward (suc n) y m d h e = elim (cases_order 1 d) [
   ]
 ]
 
--- backward: what lies so many days before
+-- backward: the date this number of days before the first
 pub backward : (n y m d : ℕ) → IsDay y m d → days_from_civil (pos y) m d ≡ neg_ℤ (pos n) → days_before n ≡ date_at y m d
 unfolding days_before
 backward zero y m d h e = at_epoch y m d h e
@@ -169,7 +169,7 @@ backward (suc n) y m d h e = elim (cases_order d (days_in_month (pos y) m)) [
   ]
 ]
 
--- the date that `jiff` counts so many days for
+-- the date for which `jiff` counts this number of days
 pub civil_is : (z : ℤ) (y m d : ℕ) → IsDay y m d → days_from_civil (pos y) m d ≡ z → civil z ≡ date_at y m d
 civil_is (pos n) y m d h e = forward n y m d h e
 civil_is (negsuc n) y m d h e = backward (suc n) y m d h e

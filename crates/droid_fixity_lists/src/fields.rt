@@ -130,8 +130,8 @@ fn sha256_of(text: &[u8]) -> Option<HashValue>
     }
 }
 
-/// Decodes hexadecimal digits, and returns whether they are so many, and all of them digits. Unlike `hex` it looks at no digit
-/// before it goes on: which digits a hash has cannot be foretold, and each wrong guess of the processor costs as much as ten.
+/// Fills `bytes` from hexadecimal digits; returns whether there were exactly enough digits. Unlike `hex` it looks at no digit
+/// before it goes on: which digits a hash has cannot be predicted, and each wrong guess of the processor costs as much as ten.
 fn is_decoded(text: &[u8], bytes: &mut [u8]) -> bool
     ensures { IsTrue result → decode_sized text.now (length bytes.old) ≡ Ok bytes.new }
 {

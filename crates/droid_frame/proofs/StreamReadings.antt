@@ -136,7 +136,7 @@ next_or_none bytes are =
           subst (λ (l : List ℕ). Next l ⊎ BeginsNoFrame l) (sym there.parts) (behind_header there.header there.rest (judged there.header) there.is_header there.bytes_follow (judged_is there.header (judged there.header) refl)))
     ]
 
--- ---- all of them, one after the other: the stream has at most so many bytes
+-- ---- all frames, one after the other: by recursion over a bound of the stream's length
 
 with_next : (most : ℕ) (stream : List ℕ) → length stream ≤ suc most → ((rest : List ℕ) → IsBytes rest → length rest ≤ most → HasFrames rest) → Next stream → HasFrames stream
 with_next most stream fits behind next =

@@ -10,7 +10,7 @@ use Rattle.droid_frame_stream.specs.Writes.{StopsWithin}
 
 -- ---- the parts of a frame, one after the other
 
--- since the start known bytes grew by these, and so many they are
+-- since the start the known bytes grew by `front`, which has `written` bytes
 pub record Sent (start now : Option (List ℕ)) (front : List ℕ) (written : ℕ) : Type 0 where
   pub counted : written ≡ length front
   pub appended : Appends start now front

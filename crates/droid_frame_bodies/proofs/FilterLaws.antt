@@ -26,7 +26,7 @@ use Rattle.droid_frame_bodies.proofs.TextListLaws.{sized_text_field}
 abbrev Leaves : {A : Type 0} → (A → List ℕ) → (A → Type 0) → List ℕ → A × List ℕ → Type 0
 Leaves spelled HasOne bytes x = IsFront bytes (spelled x.0) x.1 × HasOne x.0
 
--- ---- so many after their count
+-- ---- values behind their count
 
 counted_reads : {A : Type 0} (at : List ℕ → Option (A × List ℕ)) (spelled : A → List ℕ) (HasOne : A → Type 0) → IsField at spelled HasOne
     → (bytes : List ℕ) (x : List A × List ℕ) → IsBytes bytes → counted_at at bytes ≡ Some x → IsFront bytes (counted_bytes spelled x.0) x.1 × ((length x.0 < 256) × AllByRecursion HasOne x.0)

@@ -14,7 +14,7 @@ front_then bytes first middle second rest a b = record {
   bytes_follow = b.bytes_follow;
 }
 
--- so many, each of which has a spelling
+-- `count` values, each of which has a spelling
 abbrev pub AreMany : {A : Type 0} → (A → Type 0) → ℕ → List A → Type 0
 AreMany HasOne count values = (length values ≡ count) × AllByRecursion HasOne values
 

@@ -67,10 +67,10 @@ sized_text_again least most text rest is =
 pub sized_text_field : (least most : ℕ) → IsField (sized_text_at least most) sized_bytes (IsSizedText least most)
 sized_text_field least most = record { reads = sized_text_reads least most; again = sized_text_again least most }
 
--- so many texts, each of so many bytes
+-- `count` texts, each of `least` to `most` bytes
 abbrev pub AreTexts : ℕ → ℕ → ℕ → List (List ℕ) → Type 0
 AreTexts count least most texts = AreMany (IsSizedText least most) count texts
 
--- so many texts, one after the other
+-- `count` texts, one after the other
 pub texts_field : (count least most : ℕ) → IsField (texts_at count least most) texts_bytes (AreTexts count least most)
 texts_field count least most = sequence_field (sized_text_at least most) sized_bytes (IsSizedText least most) (sized_text_field least most) count

@@ -13,7 +13,7 @@ use droid_frame::{FrameFault, HEADER_LENGTH};
 use std::alloc::Global;
 use std::mem;
 
-/// What came of a frame: the first `filled` bytes of its header, and those of its body.
+/// The bytes of a frame that came: the first `filled` bytes of its header, and those of its body.
 #[derive(Drop)]
 pub(crate) struct Parts {
     pub(crate) header: [u8; HEADER_LENGTH],

@@ -13,18 +13,18 @@ over_more {S} {A} seen effect first [] middle item last over does lasts =
 over_more {S} {A} seen effect first (x ∷ items) middle item last over does lasts =
     (over.0, over.1, over.2, over_more seen effect over.0 items middle item last over.3 does lasts)
 
--- a stream did so many items whole, and hasn't failed
-pub record OverSoMany {S A : Type 0} (seen : S → Seen) (effect : Effect S A) (first now : S) (count : ℕ) : Type 0 where
+-- a stream did `count` items whole, and hasn't failed
+pub record OverItems {S A : Type 0} (seen : S → Seen) (effect : Effect S A) (first now : S) (count : ℕ) : Type 0 where
   pub items : List A
   pub counted : length items ≡ count
   pub over : GoesOver seen effect first items now
   pub sound : IsSound (seen now)
 
-pub over_none : {S A : Type 0} (seen : S → Seen) (effect : Effect S A) (first : S) (count : ℕ) → count ≡ 0 → IsSound (seen first) → OverSoMany seen effect first first count
+pub over_none : {S A : Type 0} (seen : S → Seen) (effect : Effect S A) (first : S) (count : ℕ) → count ≡ 0 → IsSound (seen first) → OverItems seen effect first first count
 over_none {S} {A} seen effect first count none sound = record { items = []; counted = sym none; over = refl; sound = sound }
 
 pub over_next : {S A : Type 0} (seen : S → Seen) (effect : Effect S A) (first now later : S) (count next : ℕ) (item : A) → next ≡ count + 1
-    → OverSoMany seen effect first now count → effect.whole item now later → Lasts (seen now).interruptions (seen later) → OverSoMany seen effect first later next
+    → OverItems seen effect first now count → effect.whole item now later → Lasts (seen now).interruptions (seen later) → OverItems seen effect first later next
 over_next {S} {A} seen effect first now later count next item one so_far does lasts = record {
   items = so_far.items ++ item ∷ [];
   counted = omega (arith, one, so_far.counted, length-append so_far.items (item ∷ []));
@@ -51,15 +51,15 @@ one_reported_as {S} {A} seen effect old new P Q (inr (inl unused)) to from = inr
 one_reported_as {S} {A} seen effect old new P Q (inr (inr part)) to from =
     inr (inr (part.0, record { fault = λ p. part.1.fault (to p); otherwise = λ not. part.1.otherwise (λ q. not (from q)) }))
 
--- after so many items the stream wasn't used
+-- after `count` items the stream wasn't used
 pub reported_idle : {S A : Type 0} (seen : S → Seen) (effect : Effect S A) (MayBe : ℕ → Type 0) (first now : S) (count : ℕ) (P : Type 0)
-    → OverSoMany seen effect first now count → MayBe count → (P → ⊥) → ReportsFaultInTurn seen effect MayBe first now P
+    → OverItems seen effect first now count → MayBe count → (P → ⊥) → ReportsFaultInTurn seen effect MayBe first now P
 reported_idle {S} {A} seen effect MayBe first now count P so_far may not =
     record { items = so_far.items; middle = now; over = so_far.over; ends = inl (subst MayBe (sym so_far.counted) may, refl, not) }
 
--- after so many items, at most one more
+-- after `count` items, at most one more
 pub reported_next : {S A : Type 0} (seen : S → Seen) (effect : Effect S A) (MayBe : ℕ → Type 0) (first now last : S) (count : ℕ) (P Q : Type 0)
-    → OverSoMany seen effect first now count → MayBe count → MayBe (count + 1) → ReportsFaultInOne seen effect now last Q → (P → Q) → (Q → P)
+    → OverItems seen effect first now count → MayBe count → MayBe (count + 1) → ReportsFaultInOne seen effect now last Q → (P → Q) → (Q → P)
     → ReportsFaultInTurn seen effect MayBe first last P
 reported_next {S} {A} seen effect MayBe first now last count P Q so_far none may (inl whole) to from =
     reported_idle seen effect MayBe first last (count + 1) P (over_next seen effect first now last count (count + 1) whole.0 refl so_far whole.1 whole.2) may (λ p. whole.3 (to p))

@@ -9,7 +9,7 @@ pub takes_none : (room : Option ℕ) → Takes room room 0
 takes_none None = tt
 takes_none (Some room) = omega arith
 
--- so many bytes went out, and then so many more
+-- two writes took the sum of what each took
 pub takes_more : (old mid new : Option ℕ) (first next : ℕ) → Takes old mid first → Takes mid new next → Takes old new (first + next)
 takes_more None None None first next p q = tt
 takes_more None None (Some c) first next p q = absurd q

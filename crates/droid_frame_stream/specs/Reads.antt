@@ -19,7 +19,7 @@ pub record ConsumesFewer (old new : Option (List ℕ)) (wanted : ℕ) : Type 0 w
   pub fewer : length bytes < wanted
 
 -- known bytes lost exactly `count` bytes at their front
-pub record ConsumesSoMany (old new : Option (List ℕ)) (count : ℕ) : Type 0 where
+pub record ConsumesCount (old new : Option (List ℕ)) (count : ℕ) : Type 0 where
   pub bytes : List ℕ
   pub consumed : Consumes old new bytes
   pub counted : length bytes ≡ count
@@ -27,6 +27,6 @@ pub record ConsumesSoMany (old new : Option (List ℕ)) (count : ℕ) : Type 0 w
 -- what was read where an input of at most `limit` bytes could not be read: `limit` + 1 bytes if it is too long, else at
 -- most `limit`
 abbrev pub ReadsNoInput : InputFault → Option (List ℕ) → Option (List ℕ) → ℕ → Type 0
-ReadsNoInput TooLong old new limit = ConsumesSoMany old new (limit + 1)
+ReadsNoInput TooLong old new limit = ConsumesCount old new (limit + 1)
 ReadsNoInput Memory old new limit = ConsumesFewer old new (limit + 1)
 ReadsNoInput Read old new limit = ConsumesFewer old new (limit + 1)

@@ -143,7 +143,7 @@ fn longest_comes(alloc: Global, bytes: &[u8], length: usize) -> bool {
     }
 }
 
-// Reads again if memory was refused, so it passes whichever allocation is refused. Only the header was read then.
+// Reads again if memory ran out, so it passes whichever allocation is refused. Only the header was read then.
 #[test]
 fn growths_refused(rt: HostRuntime) {
     each_growth_refused(&rt, rt.alloc(), &VECTORS);

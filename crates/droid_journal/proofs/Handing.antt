@@ -119,7 +119,7 @@ module _ {S M : Type 0} (stands : S → M → List Record → Type 0) (gives : S
 -- ---- records that were written later
 
 module _ (start : List ℕ) where
-  -- such a record is whole in so many bytes
+  -- the front of a later record is one too, if it has room for the longest record
   later_front : (m : ℕ) (y : List ℕ) → 8388624 ≤ m → IsLater start y → IsLater start (take m y)
   later_front m y most later =
       let one : List ℕ = record_bytes start later.check later.it in

@@ -24,7 +24,7 @@ pub record Stands {F M : Type 0} (has : F → List ℕ → Type 0) (kept : F →
 abbrev pub IsSettled : {F M : Type 0} (has : F → List ℕ → Type 0) (kept : F → List ℕ) (stands : M → List Record → Type 0) (header : List ℕ) (journal : Journal F M) → List Record → Type 0
 IsSettled has kept stands header journal records = Stands has kept stands header journal records records
 
--- Whatever came of a call: the file has all records and one more for the request, or a front of their bytes.
+-- However a call ended: the file has all records and one more for the request, or a front of their bytes.
 pub record WroteOne {F : Type 0} (has : F → List ℕ → Type 0) (gives : List Record → Frame → Reply → Bool → Type 0) (header : List ℕ) (file : F) (synced all : List Record) (frame : Frame) : Type 0 where
   pub written : List Record
   pub turn : IsTurn synced written
@@ -33,7 +33,7 @@ pub record WroteOne {F : Type 0} (has : F → List ℕ → Type 0) (gives : List
   pub front : IsFront bytes (journal_bytes header written)
   pub which : (written ≡ all) ⊎ ((first : Bool) × (reply : Reply) × gives all frame reply true × (written ≡ all ++ record_of first frame reply ∷ []))
 
--- Whatever became of the last call: the first of what was written are on the disk.
+-- However the last call ended: the first records that were written are on the disk.
 pub record Keeps {F : Type 0} (kept : F → List ℕ) (header : List ℕ) (file : F) (synced written : List Record) : Type 0 where
   pub on_disk : kept file ≡ journal_bytes header synced
   pub turn : IsTurn synced written

@@ -28,7 +28,7 @@ pub record StandsForHistory {F : Type 0} (has : F → List ℕ → Type 0) (kept
   pub on_disk : IsHistoryBehind setting base first synced
   pub accepted : IsHistoryBehind setting base records all
 
--- Whatever became of the last call: this history is on the disk, and no more than that was written.
+-- However the last call ended: this history is on the disk, and no more than that was written.
 pub record KeepsHistory {F : Type 0} (kept : F → List ℕ) (setting : Setting) (header : List ℕ) (file : F) (written : List Record) (synced all : History) : Type 0 where
   pub base : Base setting
   pub first : List Record

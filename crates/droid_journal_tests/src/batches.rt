@@ -42,7 +42,7 @@ fn request(alloc: Global, kind: u8, number: u64, body: &[u8]) -> Result<Frame, F
     })
 }
 
-// A piece with so many bytes, as it was sent or bare.
+// A piece of `size` bytes, as it was sent or bare.
 fn piece(alloc: Global, place: usize, size: usize, bare: bool) -> Result<Frame, Fail> {
     let number = place as u64;
     let byte = (place % 251) as u8;

@@ -45,7 +45,7 @@ mod tests {
         }
     }
 
-    // The fault of opening a file with these bytes and this header by a machine that accepts so many requests.
+    // The fault of opening a file with these bytes and this header by a machine that accepts this number of requests.
     fn fault_of(
         alloc: Global,
         bytes: &[u8],
@@ -59,7 +59,7 @@ mod tests {
         }
     }
 
-    // The bytes of a file after turns of so many requests.
+    // The bytes of a file after turns with these numbers of requests.
     fn written(alloc: Global, turns: &[u64]) -> Result<Vec<u8>, Fail> {
         let mut file = MemoryLog::new(Vec::new(alloc), 99);
         let Ok(opened) = open(alloc, &mut file, HEADER, Counter::new(99)) else {

@@ -23,7 +23,7 @@ fn made(
 }
 
 // Whether the smaller journal of these bytes is that of the sample, all of it on the disk under the name for sure. The one
-// has so many records, and the other 10.
+// has `records` records, and the other 10.
 fn gives_the_smaller(alloc: Global, bytes: &[u8], records: u64) -> Result<bool, Fail> {
     let mut name = MemoryName::new(2);
     let Ok(smaller) = made(alloc, bytes, HEADER, 2, &mut name)? else {
@@ -36,7 +36,7 @@ fn gives_the_smaller(alloc: Global, bytes: &[u8], records: u64) -> Result<bool, 
     Ok(file.bytes.as_slice() == SMALLER.as_slice() && file.synced == SMALLER.len() && name.is_kept)
 }
 
-// Whether the size is that of these bytes, with so many records.
+// Whether the size is that of these bytes, with this number of records.
 fn is_size(size: Size, records: u64, bytes: &[u8]) -> bool {
     size.records == records && size.bytes == bytes.len() as u64
 }
@@ -68,7 +68,7 @@ fn fault_of(
     }
 }
 
-// How many of the records are whole in so many bytes.
+// How many of the records are whole in the first `len` bytes.
 fn records_in(len: usize) -> u64 {
     let ends = ENDS.iter().filter(|end| **end <= len).count();
     ends.saturating_sub(1) as u64
@@ -99,7 +99,7 @@ fn each_front_is_read(rt: HostRuntime) -> Result<(), Fail> {
     Ok(())
 }
 
-// Whether the fault says that bytes stand behind so many records.
+// Whether the fault says that bytes stand behind this number of records.
 fn is_behind(fault: Option<RewriteFault>, records: u64) -> bool {
     match fault {
         Some(RewriteFault::Behind(count)) => count == records,

@@ -211,7 +211,7 @@ pub all_lines : (before now : Service) (input rest : List ℕ) (tally : Tally) (
     → (so_far : Progress before now input rest tally old new) → lines_of rest ≡ [] → lines_of input ≡ so_far.front
 all_lines before now input rest tally old new so_far none = so_far.cut ∙ (ap (λ (l : List (List ℕ)). so_far.front ++ l) none ∙ append-nil so_far.front)
 
--- so many lines ran, and one is left
+-- some lines ran, and one at least is left
 pub line_is_left : (before now : Service) (input rest line after : List ℕ) (tally : Tally) (old new : Option (List ℕ))
     → Progress before now input rest tally old new → lines_of rest ≡ line ∷ lines_of after → tally.lines + 1 ≤ length (lines_of input)
 line_is_left before now input rest line after tally old new so_far cut =

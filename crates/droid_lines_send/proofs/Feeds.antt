@@ -21,7 +21,7 @@ pub none_plain : (xs : List ℕ) (i : ℕ) → position_from is_line_feed i xs �
 none_plain [] i e = tt
 none_plain (x ∷ xs) i e = none_by (is_line_feed x) x xs i (position_from is_line_feed (i + 1) xs) refl e (none_plain xs (i + 1))
 
--- the first line feed stands after so many bytes
+-- the first line feed has this index
 pub record IsCut (xs : List ℕ) (at : ℕ) : Type 0 where
   pub plain : HasNoFeed (take at xs)
   pub cut : xs ≡ take at xs ++ 10 ∷ drop (at + 1) xs
@@ -91,7 +91,7 @@ lines_none : lines_of [] ≡ []
 unfolding lines_of
 lines_none = refl
 
--- ---- what came of a script
+-- ---- the bytes read from a script
 
 -- the line ended at a line feed
 pub gives_fed : (known rem : Option (List ℕ)) (line mid new after : List ℕ) → HasNoFeed line → Consumes known (prepend_known mid rem) line → MovesToFeed mid new line after

@@ -15,7 +15,7 @@ use Rattle.droid_lines_send.specs.Sending.{Sends}
 
 -- ---- one line
 
--- the core is the same client's, and so many requests further
+-- the core is the same client's, and `count` requests further
 record Goes (old new : Core) (count : ℕ) : Type 0 where
   client : new.client ≡ old.client
   next : next_number new ≡ next_number old + count

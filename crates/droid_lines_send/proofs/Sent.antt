@@ -46,7 +46,7 @@ sends_more core middle after lines line bad input left rest old_frames frames ne
 
 -- ---- along the lines
 
--- so many lines of the script were sent, and this is left of it
+-- the first lines of the script were sent, and `rest` is left of it
 pub record SoFar (core : Core) (script rest input left old_frames frames old_text text : Option (List ℕ)) (after : Core) (tally : Tally) : Type 0 where
   pub lines : List (List ℕ)
   pub are : IfSome script (λ known. (unread : List ℕ) × (rest ≡ Some unread) × (lines_of known ≡ lines ++ lines_of unread))

@@ -36,7 +36,7 @@ pub fn send<L: SteadyRead, R: SteadyRead, F: SteadyWrite, T: SteadyWrite>(
     // All lines were sent, and the tally counts them and the bad ones.
     ensures all { IfOk result (λ tally. SendsAll client.old (L.remaining lines.old) (R.remaining replies.old) (R.remaining replies.new)
         (F.contents frames.old) (F.contents frames.new) (T.contents text.old) (T.contents text.new) client.new tally) }
-    // After a fault the first lines were sent, and the fault says what became of the next one.
+    // After a fault the first lines were sent, and the fault says how the next one failed.
     ensures front { IfErr result (λ fault. SendsFront fault client.old (L.remaining lines.old) (R.remaining replies.old) (R.remaining replies.new)
         (F.contents frames.old) (F.contents frames.new) (T.contents text.old) (T.contents text.new) client.new) }
     // `Lines` is returned exactly if their reader failed or was interrupted for the 65th time in all.

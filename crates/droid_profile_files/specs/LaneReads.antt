@@ -59,7 +59,7 @@ ReadsOnce observes hears path entry outcomes.Piece old new tree tree_after watch
 ReadsOnce observes hears path entry outcomes.Last old new tree tree_after watcher watcher_after = ReadsLast observes hears path entry old new tree tree_after watcher watcher_after
 ReadsOnce observes hears path entry (outcomes.Stopped why) old new tree tree_after watcher watcher_after = StopsReading observes hears path entry why old new tree tree_after watcher watcher_after
 
--- what the bytes that came say, of which so many were asked for
+-- what a read of these bytes means, where `wanted` bytes were asked for
 abbrev pub IsJudged : ℕ → ℕ → List ℕ → ℕ → Outcome → Type 0
 IsJudged size from bytes wanted outcomes.Piece = (length bytes ≡ wanted) × (from + length bytes ≤ size)
 IsJudged size from bytes wanted outcomes.Last = IsEnding size from (AtEnd wanted bytes)

@@ -18,7 +18,7 @@ pub record Begins (old new : FileLane) (place len : ℕ) : Type 0 where
   pub size : new.ends.size ≡ len
   pub limit : new.ends.limit ≡ old.ends.limit
 
--- so many more bytes of what is left are hashed
+-- the lane hashed `count` more bytes
 pub record Passes (old new : FileLane) (count : ℕ) : Type 0 where
   pub same : new ≡ record old { hashed = new.hashed }
   pub rest : drop new.hashed old.buffer.items ≡ drop count (drop old.hashed old.buffer.items)
@@ -38,19 +38,19 @@ rest_in (Some lane) = drop lane.hashed lane.buffer.items
 abbrev pub rest_of : List FileLane → ℕ → List ℕ
 rest_of lanes j = rest_in (slice_get lanes j)
 
--- what a lane was before so many more bytes were hashed in it
+-- what a lane was before it hashed `count` more bytes
 pub record WasBefore (old : List FileLane) (j : ℕ) (after : FileLane) (count : ℕ) : Type 0 where
   pub lane : FileLane
   pub there : slice_get old j ≡ Some lane
   pub passes : Passes lane after count
 
--- what a lane is after so many more bytes were hashed in it
+-- what a lane is after it hashed `count` more bytes
 pub record IsAfter (new : List FileLane) (j : ℕ) (lane : FileLane) (count : ℕ) : Type 0 where
   pub after : FileLane
   pub there : slice_get new j ≡ Some after
   pub passes : Passes lane after count
 
--- in each lane so many more bytes of what is left are hashed
+-- each lane hashed `count` more bytes
 pub record AllPass (old new : List FileLane) (count : ℕ) : Type 0 where
   pub counted : length new ≡ length old
   pub each : (j : ℕ) (lane : FileLane) → slice_get old j ≡ Some lane → IsAfter new j lane count

@@ -87,14 +87,14 @@ record Skips (path : List ℕ) (entry : FolderEntry) (why : Skipped) (more : Lis
   seen : seen_of_kid path kid ≡ more
   heard : (registry : Contents) (options : Options) → heard_of_kid registry options path kid ≡ Left (below path entry.name) why ∷ []
 
--- if the files are read like this, this came of the entry
+-- if the files are read like this, the entry has this outcome
 record HasTaken (registry : Contents) (options : Options) (readings : Readings) (entry : FolderEntry) (more : List Observation) (scan scan_after : Scan) (before after : List Row) (files files_after : List FileRow) : Type 0 where
   kid : Kid
   taken : KidTaken registry options readings entry kid scan scan_after before after files files_after
   seen : seen_of_kid scan.folder.path kid ≡ more
   may : MayBeRead readings files
 
--- whatever the files are read as, something came of the entry
+-- however the files are read, the entry has an outcome
 record StepFits (registry : Contents) (options : Options) (entry : FolderEntry) (more : List Observation) (scan scan_after : Scan) (before after : List Row) (files files_after : List FileRow) : Type 0 where
   taken : (readings : Readings) → MayBeRead readings files_after → HasTaken registry options readings entry more scan scan_after before after files files_after
   fresh : AreFresh files_after

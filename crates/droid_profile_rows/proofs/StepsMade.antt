@@ -25,7 +25,7 @@ counts_append {A = A} test xs ys =
 pub counts_one : {A : Type 0} (test : A → Bool) (x : A) → count_by test (x ∷ []) ≤ 1
 counts_one test x = omega (arith, count_by-le-length test (x ∷ []))
 
--- ---- at most so many
+-- ---- a bound of what is added
 
 pub few_none : (scan : Scan) (rows : List Row) → AddsFew 0 scan scan rows rows
 few_none scan rows = record { numbers = omega arith; rows = omega arith }

@@ -8,7 +8,7 @@ use Rattle.droid_tree.specs.declared.pending_folder.PendingFolder.{PendingFolder
 use Rattle.droid_profile_spec.specs.Kids.{Kid, MayCome, entry_of}
 use Rattle.droid_profile_spec.specs.Visits.{Visit, AreListed, Follow, InTurn, IsBegun, subfolders_of}
 
--- this came of one entry more
+-- one more entry has this outcome
 abbrev pub with_kid : Visit → Kid → Visit
 with_kid visit kid = record visit { kids = visit.kids ++ kid ∷ [] }
 

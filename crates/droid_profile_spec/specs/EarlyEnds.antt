@@ -24,7 +24,7 @@ pub record AreFirst {A : Type 0} (first all : List A) : Type 0 where
   pub rest : List A
   pub are : all ≡ first ++ rest
 
--- of each visit something came of each entry, but of the last one some entries may be left
+-- in each visit each entry has an outcome, but in the last one some entries may be left
 abbrev pub AreBegun : List Visit → Type 0
 AreBegun [] = Unit {0}
 AreBegun (visit ∷ []) = (rest : List FolderEntry) × IsBegun rest visit

@@ -22,7 +22,7 @@ use Rattle.droid_tree.specs.declared.skip_reason.Skipped.TheVariants as reasons
 use Rattle.droid_profile_spec.specs.Readings.{Reading, Ending, AtEnd, TooShort, TooLong, NoneCame, OtherFile, NotYet, IsReading, bytes_of, has_ended, is_whole, reads_in}
 use Rattle.droid_profile_spec.specs.declared.options.Options.{Options}
 
--- What came of an entry: a folder with its number; a folder that could not be opened; a file with its number, and how
+-- The outcome of an entry: a folder with its number; a folder that could not be opened; a file with its number, and how
 -- it was read; neither a folder nor a file; a name that is not UTF-8; or a folder or file that no profile can have.
 pub data Kid : Type 0 where
   Subfolder : (entry : FolderEntry) (number : ℕ) → Kid

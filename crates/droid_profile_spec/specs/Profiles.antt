@@ -33,7 +33,7 @@ pub record AreCallsOf (visits : List Visit) (calls : List Call) : Type 0 where
   pub folders : folder_calls calls ≡ flat_map folder_calls_of visits
   pub files : (number : ℕ) → reads_of number calls ≡ flat_map (reads_of_visit number) visits
 
--- What the watcher learned: in one order what came of the folders and entries, in another which bytes were read.
+-- What the watcher learned: in one order the outcomes of folders and entries, in another which bytes were read.
 pub record AreHeardOf (registry : Contents) (options : Options) (visits : List Visit) (calls : List Call) (heard : List Heard) : Type 0 where
   pub entries : filter is_of_entry heard ≡ flat_map (heard_of_visit registry options) visits
   pub bytes : filter is_of_bytes heard ≡ heard_of_calls calls

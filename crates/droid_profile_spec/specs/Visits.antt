@@ -27,12 +27,12 @@ pub record AreListed (observed : Option (List FolderEntry)) (entries repeated : 
   pub in_order : AreInOrder entries
   pub are_repeated : AreRepeated entries repeated
 
--- something came of the first entries, and the rest is still to come
+-- the first entries have outcomes, and the rest is still to come
 pub record IsBegun (rest : List FolderEntry) (visit : Visit) : Type 0 where
   pub listed : AreListed visit.observed (map entry_of visit.kids ++ rest) visit.repeated
   pub kids : AllByRecursion (MayCome visit.folder.path) visit.kids
 
--- something came of each entry
+-- each entry has an outcome
 abbrev pub IsVisit : Visit → Type 0
 IsVisit visit = IsBegun [] visit
 

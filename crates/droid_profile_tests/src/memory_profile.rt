@@ -7,7 +7,7 @@ use droid_profile_csv::{CsvFault, CsvRecipient, Options, Profiler, write_profile
 use droid_pronom::Registry;
 use std::alloc::Global;
 
-/// What came of the writing of a profile.
+/// The result of writing a profile.
 #[derive(Drop)]
 pub struct WrittenProfile<O, M> {
     pub ended: Result<bool, CsvFault>,

@@ -72,7 +72,7 @@ const CASES: [Case; 4] = [
     (&EXCHANGED, Some("/one"), b"/one changed\n", false, 0, 1),
 ];
 
-/// What came of a profile.
+/// The result of a profile.
 #[derive(Drop)]
 struct Seen {
     ended: Result<bool, CsvFault>,

@@ -8,7 +8,7 @@ use Rattle.csv.specs.declared.error.ErrorKind.TheVariants as csv
 use Rattle.csv.specs.declared.reader.Reader.{Reader}
 use Rattle.csv.specs.declared.parser.State.{State}
 use Rattle.csv.proofs.ReadFacts.{rows-more, rows-end}
-use Rattle.droid_frame.specs.Reads.{ConsumesSoMany}
+use Rattle.droid_frame.specs.Reads.{ConsumesCount}
 use Rattle.droid_pronom_formats.specs.Registry.{Contents}
 use Rattle.droid_pronom.specs.RegistryRecords as faults
 use Rattle.droid_pronom.specs.RegistryRecords.{Draft, RecordFault, Step}
@@ -71,7 +71,7 @@ pub outcome_end : (a b : Reader (Bor (List ℕ))) (y : List ℕ) (fields : List 
 outcome_end a b y fields draft config source reads = end (rows-end rest_of a b fields default_config y config source reads)
 
 -- a reader of known bytes that gave one more than a file may have
-pub read_too_long : (old new : Option (List ℕ)) (bytes : List ℕ) → ConsumesSoMany old new 16777217 → old ≡ Some bytes → File bytes (Err registry_faults.TooLong)
+pub read_too_long : (old new : Option (List ℕ)) (bytes : List ℕ) → ConsumesCount old new 16777217 → old ≡ Some bytes → File bytes (Err registry_faults.TooLong)
 read_too_long None new bytes so is = cc
 read_too_long (Some xs) None bytes so is = absurd so.consumed
 read_too_long (Some xs) (Some rest) bytes so is =

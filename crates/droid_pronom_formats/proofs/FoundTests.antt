@@ -34,7 +34,7 @@ decides_filled bytes = Decides-not (bytes_eq bytes []) (bytes_eq-Decides bytes [
 
 -- ---- byte sequences
 
--- a byte sequence hits at an offset from this anchor with so many bytes
+-- a byte sequence hits `count` bytes at an offset from this anchor
 abbrev HitsAt : Anchor → List ℕ → ℕ → ByteSequence → (offset count : ℕ) → Type 0
 HitsAt anchor file scan_limit sequence offset count = ((sequence.offsets.min ≤ offset) × (offset + count ≤ min scan_limit (length file))) × Lang sequence.pattern (part anchor file offset count)
 

@@ -71,7 +71,7 @@ literal_leads literal bytes p h =
     let gone : p + length literal - p ≡ length literal = omega arith in
     record { ordered = omega arith; inside = omega arith; matched = (0, omega arith, rw (gone, OccursAt-part bytes literal p h) refl) }
 
--- where a step over so many bytes begins, if the first of them has this position
+-- where a step of this width begins, if its first byte has this position
 abbrev pub origin : Direction → ℕ → ℕ → ℕ
 origin direction.End width s = s
 origin direction.Start width s = s + width
@@ -81,7 +81,7 @@ abbrev pub shift_of : Direction → ℕ → ℕ
 shift_of direction.End width = width
 shift_of direction.Start width = 0
 
--- A step over so many bytes, of which the first has the position s and passes T.
+-- A step over `width` bytes, of which the first has the position s and passes T.
 abbrev pub FixedStep : Direction → (ℕ → Type 0) → ℕ → ℕ → ℕ → ℕ → Type 0
 FixedStep way T width len p q = (s : ℕ) × (s + width ≤ len) × (p ≡ origin way width s) × T s × (q ≡ s + shift_of way width)
 
@@ -177,7 +177,7 @@ pub one_inside : (T : ℕ → Type 0) (bytes old new : List ℕ)
     → ((q : ℕ) → IsPlace new q ↔ ((p : ℕ) × IsPlace old p × (q ≡ p + 1) × (p < length bytes) × T p)) → IsInside bytes new
 one_inside T bytes old new says q h = let (p, place, next, inside, passes) = (says q).0 h in omega arith
 
--- a gap leads over so many bytes
+-- a gap leads over `least` to `most` bytes
 pub Crosses : Direction → (least most len p q : ℕ) → Type 0
 Crosses direction.End least most len p q = (p + least ≤ q) × (q ≤ p + most) × (q ≤ len)
 Crosses direction.Start least most len p q = (q + least ≤ p) × (p ≤ q + most) × (p ≤ len)

@@ -7,7 +7,7 @@ use Rattle.droid_scan.specs.declared.end_bytes.EndBytes.TheInside.{Inside}
 abbrev pub shown : Inside → Ends
 shown kept = record { limit = kept.limit; size = kept.size; count = kept.count; first = kept.first.items; last = kept.last.items }
 
--- there is room for `limit` bytes of each end, and each end has as many as came of it
+-- there is room for `limit` bytes of each end, and each end holds the bytes read of it
 pub record HasRoom (kept : Inside) : Type 0 where
   pub first_room : kept.limit ≤ vec_capacity kept.first
   pub last_room : kept.limit ≤ vec_capacity kept.last

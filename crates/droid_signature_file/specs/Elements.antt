@@ -13,7 +13,7 @@ pub record Node : Type 0 where
   pub attributes : List Setting
   pub inside : List Part
 
--- how many elements are open behind a piece, where so many were before it; None where it ends the element outside
+-- how many elements are open behind a piece, from how many were open before it; None if it ends the outer element
 abbrev pub deeper : ℕ → Part → Option ℕ
 deeper depth (Start tag) = Some (if tag.is_empty then depth else suc depth)
 deeper zero (End name) = None

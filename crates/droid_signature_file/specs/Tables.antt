@@ -7,7 +7,7 @@ use Rattle.droid_xml.specs.Pieces.{Part, Start, End, Text, Data, Reference, Comm
 abbrev pub is_table : List ℕ → Bool
 is_table name = bytes_eq name (codes "Shift") || bytes_eq name (codes "DefaultShift")
 
--- how many elements are open in a search table behind a piece, the table itself included, where so many were before it
+-- how many elements of a search table, itself included, are open behind a piece, from how many were open before it
 abbrev pub depth_behind : ℕ → Part → ℕ
 depth_behind zero (Start tag) = if tag.is_empty then 0 else if is_table tag.name then 1 else 0
 depth_behind (suc depth) (Start tag) = if tag.is_empty then suc depth else suc (suc depth)
@@ -29,7 +29,7 @@ has_meaning (Reference char) = true
 has_meaning (Comment text) = false
 has_meaning (Instruction target text) = false
 
--- whether a piece is kept, where so many elements are open in a search table
+-- whether a piece is kept, from how many elements of a search table are open
 abbrev pub is_kept : ℕ → Part → Bool
 is_kept zero part = has_meaning part
 is_kept (suc depth) part = false

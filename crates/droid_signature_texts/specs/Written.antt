@@ -27,7 +27,7 @@ abbrev pub marked : {X : Type 0} → (X → List ℕ) → ℕ → List X → Lis
 marked text mark [] = []
 marked text mark (x ∷ xs) = mark ∷ (text x ++ marked text 124 xs)
 
--- the mark behind so many items
+-- the mark behind a number of items, from the mark before the first
 abbrev pub next_mark : ℕ → ℕ → ℕ
 next_mark mark zero = mark
 next_mark mark (suc count) = 124

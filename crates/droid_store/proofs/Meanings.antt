@@ -198,7 +198,7 @@ pub records_plain : IsPlain (understood store_schema LIST_RECORDS.now)
 unfolding understood everything
 records_plain = (refl, refl)
 
--- ---- each text is one statement to its end, with so many parameters
+-- ---- each text is one statement to its end, and has its number of parameters
 
 pub profiles_whole : IsWhole MAKE_PROFILES.now 0 (understood no_schema MAKE_PROFILES.now)
 unfolding understood everything

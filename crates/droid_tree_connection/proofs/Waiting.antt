@@ -25,7 +25,7 @@ use Rattle.droid_tree_connection.specs.declared.transfer_fault.TransferFault.The
 use Rattle.droid_tree_connection.proofs.Counting.{counts_nowhere, in_front, in_rest, take_on, vouched_known, vouched_more}
 use Rattle.droid_tree_connection.proofs.Going.{all_append, all_taken_after, all_taken_before, answered_after, ends_after, explains_after, explains_before, facts_append, goes_in, goes_none, goes_on, goes_one, moves_on, stops_on}
 
--- the next frame is among the first so many
+-- the next frame is among the first `count`
 pub next_in : (place count : ℕ) (xs : List Frame) → place < count → AreIn (take 1 (drop place xs)) (take count xs)
 next_in place count xs below frame there =
     let more : Contains (take (place + 1) xs) frame = subst (λ (l : List Frame). Contains l frame) (take_on place xs) (Contains-append_right (take place xs) (take 1 (drop place xs)) frame there) in

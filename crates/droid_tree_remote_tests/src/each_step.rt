@@ -68,7 +68,7 @@ fn at(step: u32, way: Way) -> Trouble {
     }
 }
 
-/// Breaks each connection after so many steps.
+/// Breaks each connection after `steps` steps.
 fn lives(steps: u32) -> Trouble {
     Trouble {
         breaks_at: 0,
@@ -88,7 +88,7 @@ fn forgets(step: u32, change: Change) -> Trouble {
     }
 }
 
-/// Returns whether the submission goes on over new connections, at most so many with the first, and ends whole.
+/// Returns whether the submission resumes over new connections, at most `most` with the first, and ends whole.
 fn is_sent_again(alloc: Global, trouble: Trouble, most: u32) -> bool {
     let mut service = empty_service(alloc);
     let run = submitted(alloc, &mut service, SMALL, trouble);

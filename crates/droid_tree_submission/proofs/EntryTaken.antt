@@ -1,4 +1,4 @@
--- One entry: what came of it, and how its submission ends early.
+-- One entry: its outcome, and how its submission ends early.
 use Rattle.std.proofs.Common.{◌≡◌, inl, ℕ, Bool, true, false, List, [], ◌∷◌, ◌++◌, refl, sym, ap, subst, ◌∙◌, append-nil}
 use Rattle.std.specs.Prelude.{IsUtf8}
 use Rattle.droid_frame.specs.types.refusal.Refusal.{Refusal}

@@ -30,7 +30,7 @@ pub none_left : (pending : List PendingFolder) → pending ≡ drop 1 pending �
 none_left [] none = refl
 none_left (folder ∷ pending) none = absurd (omega (arith, ap length none, length-drop 1 (folder ∷ pending)))
 
--- the submission so far, after so many turns: these folders were visited, and the pending ones were found
+-- the submission after `turns` turns: these folders were visited, and the pending ones were found
 pub record Submitting {S : Type 0} (does : S → Deed → S → Type 0) (options : Options) (profile turns : ℕ) (whole : Bool) (found : Found) (old now : S) : Type 0 where
   pub visits : List Visit
   pub counted : length visits ≡ turns

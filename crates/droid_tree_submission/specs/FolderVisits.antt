@@ -28,12 +28,12 @@ pub record AreListed (observed : Option (List FolderEntry)) (entries repeated : 
   pub in_order : AreInOrder entries
   pub are_repeated : AreRepeated entries repeated
 
--- a whole visit: something came of each entry
+-- a whole visit: each entry has an outcome
 pub record IsVisit (into : Destination) (visit : Visit) : Type 0 where
   pub listed : AreListed visit.observed (map entry_of visit.kids) visit.repeated
   pub kids : AllByRecursion (MayCome into) visit.kids
 
--- the front of a visit: something came of the first entries
+-- the front of a visit: the first entries have outcomes
 pub record IsBegun (into : Destination) (visit : Visit) : Type 0 where
   pub rest : List FolderEntry
   pub listed : AreListed visit.observed (map entry_of visit.kids ++ rest) visit.repeated

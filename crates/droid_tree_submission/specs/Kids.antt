@@ -22,8 +22,8 @@ use Rattle.droid_tree_upload.specs.declared.upload.Uploaded.{Uploaded}
 use Rattle.droid_tree_upload.specs.declared.upload.Uploaded.TheVariants as uploads
 use Rattle.droid_tree_submission.specs.declared.node.Node.{Node}
 
--- What came of an entry: a folder with its number in the profile; a folder that the service refused; a file, and what
--- came of it; neither a folder nor a file; or an entry whose name is not UTF-8.
+-- The outcome of an entry: a folder with its number in the profile; a folder that the service refused; a file with its
+-- outcome; neither a folder nor a file; or an entry whose name is not UTF-8.
 pub data Kid : Type 0 where
   Subfolder : (entry : FolderEntry) (number : ℕ) → Kid
   RefusedFolder : (entry : FolderEntry) (refusal : Refusal) → Kid

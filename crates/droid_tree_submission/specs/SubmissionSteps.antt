@@ -10,7 +10,7 @@ use Rattle.droid_tree_submission.specs.declared.findings.Found.{Found}
 use Rattle.droid_tree_upload.specs.Deeds.{Deed, Observed}
 use Rattle.droid_tree_upload.specs.declared.upload.Destination.{Destination}
 
--- this came of an entry of this folder; what it is in the profile was found
+-- the outcome of an entry of this folder; what it is in the profile was found
 pub record TakesKid {S : Type 0} (does : S → Deed → S → Type 0) (into : Destination) (folder : PendingFolder) (entry : FolderEntry) (taken : Bool) (old new : S) (found found_after : Found) : Type 0 where
   pub kid : Kid
   pub its : entry_of kid ≡ entry
@@ -20,7 +20,7 @@ pub record TakesKid {S : Type 0} (does : S → Deed → S → Type 0) (into : De
   pub pending : found_after.pending.items ≡ found.pending.items ++ subfolders_of_kid folder.path kid
   pub nodes : found_after.nodes.items ≡ found.nodes.items ++ nodes_of_kid into folder.path kid
 
--- this came of all these entries of this folder
+-- the outcomes of all these entries of this folder
 pub record TakesKids {S : Type 0} (does : S → Deed → S → Type 0) (into : Destination) (folder : PendingFolder) (entries : List FolderEntry) (taken : Bool) (old new : S) (found found_after : Found) : Type 0 where
   pub kids : List Kid
   pub its : map entry_of kids ≡ entries
@@ -30,7 +30,7 @@ pub record TakesKids {S : Type 0} (does : S → Deed → S → Type 0) (into : D
   pub pending : found_after.pending.items ≡ found.pending.items ++ flat_map (subfolders_of_kid folder.path) kids
   pub nodes : found_after.nodes.items ≡ found.nodes.items ++ flat_map (nodes_of_kid into folder.path) kids
 
--- the repeated entries of this folder were reported, and this came of the others
+-- the repeated entries of this folder were reported, and the other entries have these outcomes
 pub record TakesListing {S : Type 0} (does : S → Deed → S → Type 0) (into : Destination) (folder : PendingFolder) (entries repeated : List FolderEntry) (whole : Bool) (old new : S) (found found_after : Found) : Type 0 where
   pub kids : List Kid
   pub its : map entry_of kids ≡ entries

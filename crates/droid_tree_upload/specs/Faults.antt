@@ -72,7 +72,7 @@ abbrev pub asks_for_more : Request → Reply → Bool
 asks_for_more (Finish profile file) reply = is_open reply
 asks_for_more _ reply = false
 
--- what came of a new folder or file, as the reply: its number, or a refusal that skips it
+-- the outcome of a new folder or file, as the reply: its number, or a refusal that skips it
 abbrev pub reply_of_node : Result ℕ Refusal → Reply
 reply_of_node (Ok number) = replies.Node number
 reply_of_node (Err refusal) = replies.Refused refusal

@@ -137,7 +137,7 @@ uploaded_of into entry (HeldFile gone number found) = uploaded_of_end (hash_of_h
 uploaded_of into entry (WholeFile gone number first pieces found) = uploaded_of_end (hash into.hash (joined pieces)) found
 uploaded_of into entry _ = uploadeds.Skipped
 
--- this came of a file
+-- the file has an outcome, and all that was done follows from it
 pub record Uploads {T C W : Type 0} (does : Upload T C W → Deed → Upload T C W → Type 0) (into : Destination) (path : List ℕ) (entry : FolderEntry) (uploaded : Uploaded) (old new : Upload T C W) : Type 0 where
   pub outcome : FileOutcome
   pub may_come : MayComeOfFile into entry outcome

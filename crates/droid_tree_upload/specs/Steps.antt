@@ -101,7 +101,7 @@ module _ (to : Target) (path : List ℕ) (entry : FolderEntry) where
       pub behind : to.first ≤ index
       pub happened : GoesOver does old (other_deeds index bytes) new
 
-    -- this came of one piece
+    -- the outcome of one piece
     abbrev pub PassesPiece : ℕ → Progress → RunningHash → RunningHash → Upload T C W → Upload T C W → Type 0
     PassesPiece index progresses.Done running running_after old new = PassesOne index running running_after old new
     PassesPiece index (progresses.Stopped why) running running_after old new = StopsAt (Sees does) (IsShort (wanted_at index)) path entry (begin index) why old new
@@ -140,13 +140,13 @@ module _ (to : Target) (path : List ℕ) (entry : FolderEntry) where
       pub happened : GoesOver does old (read_deeds (ReadAll pieces)) new
       pub hashed : Hashes (joined pieces) running running_after
 
-    -- this came of the pieces
+    -- the outcome of the pieces
     abbrev pub PassesPieces : Progress → RunningHash → RunningHash → Upload T C W → Upload T C W → Type 0
     PassesPieces progresses.Done running running_after old new = PassesAll running running_after old new
     PassesPieces (progresses.Stopped why) running running_after old new = StopsPart why old new
     PassesPieces progresses.Changed running running_after old new = StopsOther old new
 
-    -- this came of reading a file
+    -- the outcome of reading a file
     abbrev pub ReadsFile : Progress → RunningHash → RunningHash → Upload T C W → Upload T C W → Type 0
     ReadsFile progresses.Done running running_after old new = ReadsWhole running running_after old new
     ReadsFile (progresses.Stopped why) running running_after old new = StopsPart why old new
@@ -239,7 +239,7 @@ module _ (profile number : ℕ) (path : List ℕ) where
 
 -- ---- a file of which the service lacks a piece
 
--- what came of it
+-- the outcome of the rest of a file
 pub data Rest : Type 0 where
   RestWhole : (pieces : List (List ℕ)) (finishing : Finishing) → Rest
   RestPart : (pieces : List (List ℕ)) (stop : Stop) (dropping : Dropping) → Rest
@@ -339,7 +339,7 @@ module _ (into : Destination) (path : List ℕ) (entry : FolderEntry) where
       pub number : ℕ
       pub happened : GoesOver does old (gone_deeds into entry attempt (number ∷ [])) new
 
-    -- this came of one attempt to add the file
+    -- the outcome of one attempt to add the file
     abbrev pub OpensNode : ℕ → Option Opened → Upload T C W → Upload T C W → Type 0
     OpensNode attempt None old new = FindsGone attempt old new
     OpensNode attempt (Some (openeds.Ended uploaded)) old new = EndsOpening attempt uploaded old new
@@ -357,7 +357,7 @@ module _ (into : Destination) (path : List ℕ) (entry : FolderEntry) where
       pub countable : is_countable into.piece_size entry.len ≡ true
       pub happened : GoesOver does old (gone_deeds into entry 0 gone ++ missing_deeds (length gone) number first) new
 
-    -- this came of adding the file
+    -- the outcome of adding the file
     abbrev pub OpensFile : Opened → Upload T C W → Upload T C W → Type 0
     OpensFile (openeds.Ended uploaded) old new = EndsOpenings uploaded old new
     OpensFile (openeds.Begun number first) old new = LacksPiece number first old new
@@ -369,7 +369,7 @@ pub record StopsEmpty (path : List ℕ) (entry : FolderEntry) {T C W : Type 0} (
   pub empty : entry.len ≡ 0
   pub stops : StopsAt (Sees does) IsPastEnd path entry 0 why old new
 
--- what came of a file that was added
+-- the outcome of a file that was added
 pub data Addition : Type 0 where
   NothingSent : (gone : List ℕ) (opening : Opening) → Addition
   SentRest : (gone : List ℕ) (number first : ℕ) (rest : Rest) → Addition

@@ -41,7 +41,7 @@ pub(crate) struct Target {
     pub first: u32,
 }
 
-/// What came of reading and sending.
+/// The outcome of reading and sending.
 #[derive(Clone, Copy)]
 pub(crate) enum Progress {
     /// All was read, and sent unless the service has it.

@@ -1,4 +1,4 @@
-//! Sends one file of a tree to a service, and says what came of it.
+//! Sends one file of a tree to a service, and returns its outcome.
 //!
 //! The caller supplies the tree, the client of the service and a watcher, all traits. So the proofs hold for any tree
 //! and for any service, in this process or remote.

@@ -29,7 +29,7 @@ pub struct Destination {
     pub hash: HashKind,
 }
 
-/// What came of a file.
+/// The outcome of a file.
 #[derive(Clone, Copy, PartialEq, Eq)]
 pub enum Uploaded {
     /// It is in the profile. This is the hash of its bytes as they were read, or `Nothing` if they were not read now.

@@ -60,7 +60,7 @@ handled_more setting history input rest left frames replies before after frame r
 
 -- ---- along the turns
 
--- so many turns gave these frames and replies, of so many bytes, and this is left
+-- the first turns handled these frames and gave these replies, of `written` bytes; `left` is left of the input
 pub record SoFar (setting : Setting) (history : History) (input : List ℕ) (left old new : Option (List ℕ)) (after : Service) (turn written : ℕ) : Type 0 where
   pub frames : List Frame
   pub replies : List Reply

@@ -1,4 +1,4 @@
-//! One submitted request and what came of it.
+//! One submitted request and its answer.
 
 ghost use Rattle.std.specs.Prelude.{◌≡◌, IfSome, IfNone, None, Some, is_some};
 ghost use Rattle.std.specs.Option.{option_copied};

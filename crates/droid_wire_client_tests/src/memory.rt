@@ -64,7 +64,7 @@ fn are_pending(client: &Client, count: usize, refused: Option<Refusal>) -> bool 
         && client.refusal(2).is_none()
 }
 
-// Submits a request after `before` others, and once more if memory was refused and those are unchanged.
+// Submits a request after `before` others, and once more if memory ran out and those are unchanged.
 fn submitted(client: &mut Client, version: u8, before: usize) -> Option<u64> {
     let (first, second) = (finish(), finish());
     if !first.fits(version) || !second.fits(version) {
@@ -79,7 +79,7 @@ fn submitted(client: &mut Client, version: u8, before: usize) -> Option<u64> {
     }
 }
 
-// Takes the answer to the first of two requests, and once more if memory was refused and both are unchanged.
+// Takes the answer to the first of two requests, and once more if memory ran out and both are unchanged.
 fn heard(alloc: Global, client: &mut Client, version: u8) -> Option<Heard> {
     let frame = finished(alloc, version)
         .or_else(|_| finished(alloc, version))

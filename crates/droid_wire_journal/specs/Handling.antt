@@ -12,7 +12,7 @@ use Rattle.droid_journal_service.specs.Standing.{AnswersIn, IsNextOr, KeepsHisto
 use Rattle.droid_journal_service.specs.declared.service_machine.ServiceMachine.{ServiceMachine}
 use Rattle.droid_wire_journal.specs.declared.journal_handler.JournalHandler.{JournalHandler}
 
--- In whatever history it stands for, it answers the frame, or has a fault. Whatever became of it, what was on the disk is
+-- In each history that it stands for, it answers the frame, or has a fault. In either case, what was on the disk is
 -- there, and no more was written than was accepted so far and this frame. After a fault it does nothing. What is noted stays.
 pub record HandlesIn {F : Type 0} (has : F → List ℕ → Type 0) (kept : F → List ℕ) (old : Journal F ServiceMachine) (frame : Frame) (reply : Reply) (new : Journal F ServiceMachine) (was noted : Option Fault) : Type 0 where
   pub handled : (setting : Setting) (header : List ℕ) (synced all : History) → StandsForHistory has kept setting header old synced all

@@ -54,7 +54,7 @@ pub record CameOf (setting : Setting) (history : History) (frames : List (Frame 
   pub answered : Answered setting history first middle
   pub last : (all ≡ middle) ⊎ IsNextOf setting middle others all
 
--- After these steps: `synced` is on the disk, and no more than `all` was written, whatever became of the last call. All that
+-- After these steps: `synced` is on the disk, and no more than `all` was written, however the last call ended. All that
 -- was handled before a write to any connection is on the disk; and nothing was written but frames that were handled.
 pub record Moment {F : Type 0} (kept : F → List ℕ) (setting : Setting) (header : List ℕ) (history : History) (file : F) (steps : List Step) : Type 0 where
   pub written : List Record

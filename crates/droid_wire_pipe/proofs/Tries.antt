@@ -6,7 +6,7 @@ use Rattle.std.specs.declared.io.ErrorKind.TheVariants.{Interrupted}
 use Rattle.droid_frame.specs.Seen.{AddsError, Counts, GivesUp, IsSound}
 use Rattle.droid_frame.specs.stream_types.stream_record.Seen.{Seen}
 
--- so many interruptions so far, and no failure
+-- `count` interruptions so far, and no failure
 pub record Tried (start : ℕ) (seen : Seen) (count : ℕ) : Type 0 where
   pub sound : IsSound seen
   pub counted : seen.interruptions ≡ start + count

@@ -93,7 +93,7 @@ abbrev pub left_behind : Option Departure → Step → Option Departure
 left_behind before (Happens event) = left_by event before
 left_behind before _ = before
 
--- The loop served one connection. What came of it was read, what it took was written, and nothing else. It is known why it
+-- The loop served one connection. What came from it was read, what it took was written, and nothing else. It is known why it
 -- was closed.
 pub record AnswersOne (left left_now wrote wrote_now : Option (List ℕ)) (departure departure_now : Option Departure) (result : Served) (steps : List Step) : Type 0 where
   pub serves : ServesAll rules_of_one result steps

@@ -54,7 +54,7 @@ fn frames_of(alloc: Global, count: u64) -> Result<Vec<u8>, AllocError> {
     Ok(bytes)
 }
 
-/// Whether the bytes are so many replies, with the numbers from 0 on.
+/// Whether the bytes are `count` replies, with the numbers from 0 on.
 fn are_replies(alloc: Global, bytes: &[u8], count: u32) -> bool {
     let mut input = bytes;
     for number in 0..count {

@@ -94,5 +94,5 @@ fn each_growth_of_serving(rt: HostRuntime) -> Result<(), Fail> {
         }
         assert!(rt; is_out_of_memory(ended, written), "{ended:?} {written:?}");
     }
-    panic!(rt; "memory was refused twice");
+    panic!(rt; "memory ran out twice");
 }

@@ -947,7 +947,7 @@ pub record WaitsAndGoes (rules : Rules) (old new : Hall) (limit : ℕ) (steps : 
   pub parts : steps ≡ Happens (Waited limit) ∷ more
   pub turn : TakesTurn rules old new more
 
--- between two turns, after at least so many waits
+-- between two turns, after at least `count` waits
 pub record IsBetween (rules : Rules) (hall : Hall) (count : ℕ) (steps : List Step) : Type 0 where
   pub rest : IsAtRest rules hall steps
   pub begun : (steps ≡ []) ⊎ HasBegun rules steps (turn_of steps)

@@ -28,7 +28,7 @@ serves_same id steps other held queued came_is went_is same serves = record {
   short = serves.short;
 }
 
--- bytes came of it, or it took some
+-- bytes came from it, or it took some
 pub serves_more : (id : ℕ) (steps : List Step) (step : Step) (held queued more out : List ℕ) → bytes_read id step ≡ more → bytes_written id step ≡ out → handled_in id step ≡ [] → length (held ++ more) ≤ held_bound → Serves id steps held (out ++ queued) → Serves id (steps ++ step ∷ []) (held ++ more) queued
 serves_more id steps step held queued more out came_is went_is none few serves =
     let same : handled id (steps ++ step ∷ []) ≡ handled id steps = none_more (handled_in id) steps step none in

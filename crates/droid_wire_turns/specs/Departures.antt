@@ -19,7 +19,7 @@ held_bound = 4259922
 abbrev pub queue_bound : ℕ
 queue_bound = 9437266
 
--- Of one connection: the bytes that came of it are frames that were handled, in order, and then `held`. The bytes that
+-- Of one connection: the bytes that came from it are frames that were handled, in order, and then `held`. The bytes that
 -- it took are the first of the frames of their replies, each in its version, in order; `queued` are the others.
 pub record Serves (id : ℕ) (steps : List Step) (held queued : List ℕ) : Type 0 where
   pub readable : AllByRecursion (λ one. IsReadable one.0) (handled id steps)
@@ -54,7 +54,7 @@ StopsBy id steps held faults.TooLong = IsRefused faults.TooLong held
 StopsBy id steps held faults.Memory = NamesSomeBody held
 StopsBy id steps held faults.Read = Happened (Unread id) steps
 
--- nothing came of it and nothing of it went out for this long
+-- nothing came from it and it took nothing for this long
 pub record IsIdle (idle : ℕ) (times : Times) : Type 0 where
   pub long : idle ≤ times.now - times.active
 

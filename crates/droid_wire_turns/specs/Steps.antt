@@ -55,7 +55,7 @@ abbrev pub handled_in : ℕ → Step → List (Frame × Reply)
 handled_in id (Handles who frame reply) = if who == id then (frame, reply) ∷ [] else []
 handled_in id _ = []
 
--- all bytes that came of it, all that it took, and all its frames that were handled, in order
+-- all bytes that came from it, all that it took, and all its frames that were handled, in order
 abbrev pub came : ℕ → List Step → List ℕ
 came id steps = flat_map (bytes_read id) steps
 

@@ -37,7 +37,7 @@ pub fn frames_of(alloc: Global, client: u32, count: u64) -> Result<Vec<u8>, Allo
     Ok(bytes)
 }
 
-/// A hall of clients that each send so many frames and then end so.
+/// A hall of clients that each send some frames and then end in this way.
 pub fn hall_of(
     alloc: Global,
     seed: u64,

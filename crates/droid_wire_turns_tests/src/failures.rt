@@ -41,7 +41,7 @@ fn hall_of(alloc: Global, size: usize, room: usize, end: End) -> Result<PaperHal
     Ok(hall)
 }
 
-/// Whether a client of the hall got so many replies and left for this reason.
+/// Whether a client of the hall got `count` replies and left for this reason.
 fn left(alloc: Global, hall: &PaperHall, client: u32, count: u64, why: Departure) -> bool {
     let Some(wire) = hall.wires.get(client as usize) else {
         return false;
@@ -88,7 +88,7 @@ fn broken_at_each_byte(rt: HostRuntime) -> Result<(), Fail> {
     Ok(())
 }
 
-// It takes so many bytes and breaks: nothing more is written to it, and nothing twice.
+// A client takes `room` bytes and breaks: nothing more is written to it, and nothing twice.
 #[test]
 fn unwritten_at_each_byte(rt: HostRuntime) -> Result<(), Fail> {
     for room in 0..REPLY_SIZE {

@@ -13,10 +13,10 @@ const SIZE: usize = 57;
 /// The bytes of their replies.
 const REPLY_SIZE: usize = 66;
 
-/// The waits fail after up to so many turns: most frames are handled and answered then.
+/// The most turns after which the waits fail: most frames are handled and answered then.
 const TURNS: u32 = 40;
 
-/// Whether three clients are served of which so many bytes come at once, and that take so many at once.
+/// Whether three clients are served that send at most `reads` bytes at once and take exactly `writes`.
 fn is_served(alloc: Global, reads: usize, writes: usize) -> Result<bool, AllocError> {
     let mut hall = hall_of(alloc, 1, reads, 0, 3, 3, End::Closed)?;
     hall.exact = writes;
@@ -52,7 +52,7 @@ fn is_front(first: &[u8], all: &[u8]) -> bool {
     true
 }
 
-/// Serves three clients, of which the waits fail after so many turns.
+/// Serves three clients, whose waits fail after `waits` turns.
 fn serve_waiting(alloc: Global, seed: u64, waits: u32) -> Result<(PaperHall, Served), AllocError> {
     let mut hall = hall_of(alloc, seed, 12, 4, 3, 3, End::Silent)?;
     hall.waits = waits;

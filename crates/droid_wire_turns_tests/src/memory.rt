@@ -48,5 +48,5 @@ fn each_growth_of_turns(rt: HostRuntime) -> Result<(), Fail> {
         }
         assert!(rt; is_short_of_memory(served, &hall));
     }
-    panic!(rt; "memory was refused twice");
+    panic!(rt; "memory ran out twice");
 }

@@ -48,9 +48,9 @@ pub struct PaperHall {
     pub clock: u64,
     /// The most bytes that are given or taken at once.
     pub width: usize,
-    /// If it isn't 0, exactly `width` bytes are given at once, if there are as many, and so many are taken.
+    /// If it isn't 0, a read gives exactly `width` bytes, if there are as many, and a write takes exactly `exact`.
     pub exact: usize,
-    /// One in so many reads and writes does nothing. 0: none.
+    /// One in `rests` reads and writes does nothing. 0: none.
     pub rests: u64,
     /// How many waits there are before waiting fails.
     pub waits: u32,

@@ -66,7 +66,7 @@ enum Outcome {
     Lost,
 }
 
-/// Whether a connection took no more bytes than the replies to so many frames have, and was closed since settling failed.
+/// Whether a connection took no more bytes than the replies to `frames` frames, and was closed since settling failed.
 fn took_at_most(wire: &Wire, frames: u32) -> bool {
     let most = REPLY_SIZE.wrapping_mul(frames as usize);
     wire.output.len() <= most && wire.closed == Some(Departure::Unsettled)

@@ -21,7 +21,7 @@ class Calls(InFolder):
         self.assertEqual(profile(self.top, "--output", self.listed, "--quiet")[0], 0)
 
     def each_in_turn(self, command, for_a_file=4):
-        """Runs a command with each of its calls failing, and yields what came of it. There are at least so many for a file."""
+        """Runs a command with each of its calls failing, and yields its result. A file takes at least `for_a_file` calls."""
         counted = self.work + b"/calls"
         how = os.environ | {"LD_PRELOAD": os.environ["PRELOAD_CALLS"], "CALLS_FROM": os.fsdecode(self.top)}
         command(how | {"CALLS_FILE": os.fsdecode(counted)})

@@ -25,7 +25,7 @@ from service import DIGESTS  # noqa: E402
 SEED = 50
 HASHES = ("none", "md5", "sha256")
 LIMITS = (1, 2, 3, 5, 64, 65_536)
-# so many trees for each hash, limit and mode
+# how many trees there are for each hash, limit and mode
 TREES = 3
 WORKERS = 4
 NAMES = [b"a.txt", b"b.MSG", b"c.abc", b"d.alp", b"e.let", b"f", b".q", b"g.q.", b'h".q', "\u00e9, i.abc".encode(), b"j\nk.let", b"l.x"]

@@ -5,7 +5,7 @@ import unittest
 
 from lib.trees import SKIPPED, InFolder, lines, profile, walk
 
-# so many bytes are read at once
+# how many bytes are read at once
 PIECE = 1 << 16
 
 

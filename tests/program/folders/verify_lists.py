@@ -156,7 +156,7 @@ def fields_of(text):
 
 # the forms of a list: a profile's CSV, a list of checksums, and the manifest of a bag
 FORMS = [("csv", "none"), *itertools.product(("csv", "list", "bag"), HASHES)]
-# so many random pairs of trees are compared, by a fixed seed
+# how many random pairs of trees are compared, by a fixed seed
 SEED, PAIRS, WORKERS = 54, 2_000, 4
 
 

@@ -152,7 +152,7 @@ class Failing(WorkingFolder):
         return dict(line.rsplit(b": ", 1) for line in lines(said, SKIPPED))
 
     def check(self, number, status, out, said):
-        """Checks what came of a profile of which this change failed."""
+        """Checks the result of a profile of which this change failed."""
         if number == TRIED or number % 2 == 0:
             self.assertEqual((status, out), self.due[:2])
             return

@@ -164,7 +164,7 @@ class Failing(Noted):
     """Each call fails in turn, and no other one."""
 
     def each_in_turn(self, before, command):
-        """Runs a command over a file of these bytes, or none, with each of its calls failing: what came of it each time."""
+        """Runs a command over a file of these bytes, or none, with each of its calls failing: the results."""
         self.lay(before)
         command(self.noting())
         counted = without_answers(self.noted())

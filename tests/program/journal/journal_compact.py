@@ -106,7 +106,7 @@ class Compaction(AskedByModel):
             self.asks(asked + [EXPORT_ALL], path)
 
     def test_the_size(self):
-        """A submission of files, of which the last one goes on: each command takes so many bytes at most, beside the names and
+        """A submission of files, of which the last one goes on: each command takes a bounded number of bytes, beside the names and
         what the file has that goes on."""
         chance = random.Random(SEED)
         asked, names = [create(1)], 0
@@ -292,7 +292,7 @@ class BeforeServing(InJournal):
     SIZE = 4 << 20
 
     def files(self, finished, others):
-        """Makes a journal of so many files of 4 MiB, and returns the requests and their replies."""
+        """Makes a journal of files of 4 MiB, some of them finished, and returns the requests and their replies."""
         chance = random.Random(SEED)
         asked = [create(1, version=2)]
         for node in range(1, finished + others + 1):

@@ -90,7 +90,7 @@ class Damage(InJournal):
         self.all_start(changed)
 
     def end_of(self, count, last):
-        """A size of the file that has so many whole records."""
+        """A size of the file that has `count` whole records."""
         size = last
         while len(read(self.whole[:size]).records) < count:
             size += 1
@@ -104,7 +104,7 @@ def replies_to(asked):
 
 
 def export_behind(count):
-    """The model's export behind so many of the requests."""
+    """The model's export behind the first `count` requests."""
     return replies_to(ASKED[:count] + [EXPORT_ALL])[-1]
 
 

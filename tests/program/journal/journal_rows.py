@@ -53,11 +53,11 @@ class Session:
             at += 1
 
     def end_of(self, count):
-        """Where so many records end."""
+        """Where the first `count` records end."""
         return header_size() + sum(25 + len(it.request) + len(it.reply) for it in self.records[:count])
 
     def turn_behind(self, count):
-        """The bytes of the records behind so many, up to the end of the turn."""
+        """The bytes of the records behind the first `count`, up to the end of the turn."""
         last = count + 1
         while last < len(self.records) and not self.records[last].first:
             last += 1
@@ -65,7 +65,7 @@ class Session:
 
 
 def left_by(session, count, chance):
-    """What a crash behind so many records may leave; or these records in a journal that was made smaller."""
+    """What a crash behind `count` records may leave; or these records in a journal that was made smaller."""
     front, behind = session.data[: session.end_of(count)], session.turn_behind(count)
     if chance < 0.3:
         return smaller(front[: header_size()], session.records[:count])
@@ -80,7 +80,7 @@ def left_by(session, count, chance):
 
 class Rows(InJournal):
     def crashed(self, session, number, count, place, chance):
-        """What is wrong where it crashed behind so many records, of which the last has this place in the session."""
+        """What is wrong where it crashed behind `count` records, of which the last has this place in the session."""
         path = f"{session.path}-{number}"
         store(path, left_by(session, count, chance))
         found = run(session.options, path, b"".join(session.sent[place:]))

@@ -48,7 +48,7 @@ def without_notes(said):
 
 
 def cut_off(count, path):
-    """What is printed where so many bytes were cut off."""
+    """What is printed where `count` bytes were cut off."""
     return f"journal: {count} bytes behind the last whole record are now in {path}.torn\n".encode("ascii") if count else b""
 
 

@@ -21,7 +21,7 @@ class SharedSyncs(InJournal):
         self.env = preloaded("PACED", WAITS=self.waits, SYNC_MICROSECONDS=SYNC)
 
     def asked_in_turn(self, clients):
-        """Connects so many clients, and has them ask for folders one after the other. Returns what the service waited for."""
+        """Connects `clients` clients, and has them ask for folders one after the other. Returns what the service waited for."""
         with serving(self.path, "--forever", env=self.env, killed=True) as service:
             streams = [connect(service.port) for _ in range(clients)]
             self.assertEqual(self.ask(streams[0], create(1)), MADE)

@@ -14,7 +14,7 @@ def digits(some):
 
 
 def one_of(random, count):
-    """Whether one of so many cases has come."""
+    """Returns True in one of `count` cases, by chance."""
     return random.randrange(count) == 0
 
 

@@ -72,7 +72,7 @@ def bytes_of(count, byte="61"):
 
 
 def long_ways(count):
-    """Five alternatives of so many bytes and any byte, which are patterns of their own."""
+    """Five alternatives of `count` bytes and any byte, which are patterns of their own."""
     return "(" + "|".join([bytes_of(count) + "??"] * 5) + ")"
 
 

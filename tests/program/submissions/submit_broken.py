@@ -8,7 +8,7 @@ from lib.program import Serve
 from lib.submissions import Proxy, WithSmallTree, WithTree, cuts_by, submit
 from lib.trees import walk
 
-# so many services at a time, and so often each one's connections are cut at least
+# how many services run at a time, and how often each one's connections are cut at least
 SERVICES, CUTS = 5, 40
 # the first cuts of a submission come while pieces are sent: a piece and its reply have some 600 bytes, and all together
 # 25,000; the export has some 6,000 bytes, in one reply

@@ -132,7 +132,7 @@ class ServeAtOnce(unittest.TestCase):
             self.assertRegex(line.decode(), rf": {asked} frames, {asked * len(NOTHING)} bytes in, \d+ bytes out, idle\n$")
 
     def test_a_byte_now_and_then(self):
-        """A desk that sends a byte every half second is not idle; one that takes so many gets all replies; and neither holds
+        """A desk that sends a byte every half second is not idle; one that takes a byte as often gets all replies; and neither holds
         up another one."""
         asked, times = 200_000, 6
         with lasting(4, "--idle", "2") as impatient, lasting(4) as service:

@@ -156,7 +156,7 @@ class Verbose(unittest.TestCase):
         self.assertEqual((came, went), (frames * SIZE, frames * REPLY_SIZE))
 
     def lines_of(self, service, frames):
-        """Returns the numbers in the lines until they have so many frames."""
+        """Returns the numbers in the lines until they have `frames` frames."""
         lines = []
         while sum(line[2] for line in lines) < frames:
             line = next_line(service, b"connections: ")

@@ -107,7 +107,7 @@ class SteadyConnections(unittest.TestCase):
 
 
 class ManyConnections(unittest.TestCase):
-    """Of each connection that is open at once (`--at-once`): twice what came of a frame, 64 KiB for reading, and 9 MiB of
+    """Of each connection that is open at once (`--at-once`): twice the bytes of a frame that came, 64 KiB for reading, and 9 MiB of
     replies that wait."""
 
     SEATS = 64
@@ -116,7 +116,7 @@ class ManyConnections(unittest.TestCase):
     BUFFER, WAITING = 65_536, 9 << 20
     # beside these a connection has some small things, and the allocator its own
     ROOM = 16_384
-    # pages of an allocator are not counted exactly: a bound is so many times what is promised, and what is excluded costs more
+    # pages of an allocator are not counted exactly: a bound is TIMES times what is promised, and what is excluded costs more
     TIMES = 3
     ASKED, FOLDERS = 300, 400
 

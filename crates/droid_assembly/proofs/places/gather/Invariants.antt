@@ -1,4 +1,4 @@
--- the pieces before this index were taken out, and they have so many bytes
+-- the pieces before this index were taken out, and the sum is that of their bytes
 use Rattle.std.proofs.Common.{◌≡◌, ℕ, ◌+◌, ◌-◌, ◌^◌, ◌<◌, ◌≤◌, List, None, length, min}
 use Rattle.std.specs.List.{concat}
 use Rattle.droid_assembly.specs.Pieces.{Piece}

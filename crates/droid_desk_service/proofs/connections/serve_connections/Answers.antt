@@ -8,9 +8,9 @@ use Rattle.droid_desk_service.proofs.connections.serve_connections.Goals as goal
 one_more : (count turns now : ℕ) → now ≡ turns → count * turns + now ≤ (count + 1) * turns
 one_more count turns now same = omega (arith, same, add-mul count 1 turns)
 
--- so many came
-so_many : (old new count turns : ℕ) → new ≡ old + count → count * turns ≡ (new - old) * turns
-so_many old new count turns came = let same : count ≡ new - old = omega (arith, came) in ap (λ (n : ℕ). n * turns) same
+-- the connections that came, in turns
+turns_counted : (old new count turns : ℕ) → new ≡ old + count → count * turns ≡ (new - old) * turns
+turns_counted old new count turns came = let same : count ≡ new - old = omega (arith, came) in ap (λ (n : ℕ). n * turns) same
 
 pub loop-init : goal.loop-init
 loop-init g c = record {
@@ -39,7 +39,7 @@ pub returns-in-Err-clause-goes_on : goal.returns-in-Err-clause-goes_on
 returns-in-Err-clause-goes_on g c = λ setting history stands.
     let turns = g.C.Connections.turns c.args.connections.now in
     let none = c.in-Err.ensures.none in
-    let came = so_many (g.C.Connections.taken c.args.connections.now) (g.C.Connections.taken c.serve_next.new.self) c.loop.counter turns (none.0 ∙ c.loop.invariant.came) in
+    let came = turns_counted (g.C.Connections.taken c.args.connections.now) (g.C.Connections.taken c.serve_next.new.self) c.loop.counter turns (none.0 ∙ c.loop.invariant.came) in
     subst (λ (s : Service). GoesOnFrom setting history ((g.C.Connections.taken c.serve_next.new.self - g.C.Connections.taken c.args.connections.now) * turns) s) (sym none.1)
     (subst (λ (n : ℕ). GoesOnFrom setting history n c.loop.service) came (c.loop.invariant.goes_on setting history stands))
 
@@ -47,4 +47,4 @@ pub returns-clause-goes_on : goal.returns-clause-goes_on
 returns-clause-goes_on g c = λ setting history stands.
     let turns = g.C.Connections.turns c.args.connections.now in
     subst (λ (n : ℕ). GoesOnFrom setting history n c.loop.service)
-    (so_many (g.C.Connections.taken c.args.connections.now) (g.C.Connections.taken c.loop.connections) c.loop.counter turns c.loop.invariant.came) (c.loop.invariant.goes_on setting history stands)
+    (turns_counted (g.C.Connections.taken c.args.connections.now) (g.C.Connections.taken c.loop.connections) c.loop.counter turns c.loop.invariant.came) (c.loop.invariant.goes_on setting history stands)

@@ -1,4 +1,4 @@
--- The first criteria are short enough, and so many bytes spell them.
+-- The first criteria are short enough, and the sum is the length of their spelling.
 use Rattle.std.proofs.Common.{◌≡◌, ◌+◌, ◌*◌, ◌≤◌, take, length}
 use Rattle.std.specs.List.{AllByRecursion, flat_map}
 use Rattle.droid_frame_values.specs.Filters.{CriterionFits, criterion_bytes}

@@ -1,4 +1,4 @@
--- The first texts are short enough, and so many bytes spell them.
+-- The first texts are short enough, and the sum is the length of their spelling.
 use Rattle.std.proofs.Common.{◌≡◌, ◌+◌, ◌*◌, ◌≤◌, take, length}
 use Rattle.std.specs.List.{AllByRecursion}
 use Rattle.droid_frame_values.specs.TextLists.{texts_bytes}

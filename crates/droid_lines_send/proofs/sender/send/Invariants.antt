@@ -2,7 +2,7 @@
 use Rattle.std.proofs.Common.{◌≡◌, ◌≤◌, None}
 use Rattle.std.specs.Io.KnownBytes.{prepend_known}
 use Rattle.droid_frame.specs.Seen.{Counts, IsSound}
-use Rattle.droid_frame.proofs.InTurn.{OverSoMany}
+use Rattle.droid_frame.proofs.InTurn.{OverItems}
 use Rattle.droid_lines_send.specs.Along.{ReadsReply, WritesPrinted, WritesRequest}
 use Rattle.droid_lines_send.proofs.Sent.{SoFar}
 use Rattle.droid_lines_send.proofs.sender.send.Given as goal
@@ -14,9 +14,9 @@ invariant-loop g l = record {
   counted : l.tally.lines ≡ l.counter;
   bad : l.tally.bad ≤ l.tally.lines;
   reads : IsSound (g.L.SteadyRead.seen l.fn.lines) → Counts (g.L.SteadyRead.seen l.fn.lines).interruptions (g.L.SteadyRead.seen l.lines) l.retries;
-  hears : IsSound (g.R.SteadyRead.seen l.fn.replies) → OverSoMany g.R.SteadyRead.seen (ReadsReply g.R.Read.remaining) l.fn.replies l.replies l.tally.lines;
+  hears : IsSound (g.R.SteadyRead.seen l.fn.replies) → OverItems g.R.SteadyRead.seen (ReadsReply g.R.Read.remaining) l.fn.replies l.replies l.tally.lines;
   sends : IsSound (g.F.SteadyWrite.seen l.fn.frames) → g.F.SteadyWrite.room l.fn.frames ≡ None →
-      OverSoMany g.F.SteadyWrite.seen (WritesRequest g.F.Write.contents) l.fn.frames l.frames l.tally.lines × (g.F.SteadyWrite.room l.frames ≡ None);
+      OverItems g.F.SteadyWrite.seen (WritesRequest g.F.Write.contents) l.fn.frames l.frames l.tally.lines × (g.F.SteadyWrite.room l.frames ≡ None);
   prints : IsSound (g.T.SteadyWrite.seen l.fn.text) → g.T.SteadyWrite.room l.fn.text ≡ None →
-      OverSoMany g.T.SteadyWrite.seen (WritesPrinted g.T.Write.contents) l.fn.text l.text l.tally.lines × (g.T.SteadyWrite.room l.text ≡ None);
+      OverItems g.T.SteadyWrite.seen (WritesPrinted g.T.Write.contents) l.fn.text l.text l.tally.lines × (g.T.SteadyWrite.room l.text ≡ None);
 }

@@ -1,4 +1,4 @@
--- so many lanes were made
+-- the first lanes were made
 use Rattle.std.proofs.Common.{◌≡◌, ℕ, Some, length, slice_get}
 use Rattle.droid_profile_files.specs.declared.file_lane.FileLane.{FileLane}
 use Rattle.droid_profile_files.proofs.batch.idle_lanes.Given as goal

@@ -6,7 +6,7 @@ use Rattle.droid_wire_journal.specs.core.Histories.{History}
 use Rattle.droid_wire_journal.specs.core.Setting.{Setting}
 use Rattle.droid_wire.specs.Turns.{ReadsFrame, WritesReply}
 use Rattle.droid_wire.specs.Serving.{GoesOnFrom}
-use Rattle.droid_frame.proofs.InTurn.{OverSoMany}
+use Rattle.droid_frame.proofs.InTurn.{OverItems}
 use Rattle.droid_wire.proofs.SoFar.{SoFar}
 use Rattle.droid_wire.proofs.server.serve.Given as goal
 
@@ -16,9 +16,9 @@ invariant-loop g l = record {
       SoFar setting history input (g.R.Read.remaining l.reader) (g.W.Write.contents l.fn.writer) (g.W.Write.contents l.writer) l.service l.counter l.written);
   room : l.written ≤ l.counter * 1048658;
   within : l.counter ≤ l.fn.turns;
-  reads : IsSound (g.R.SteadyRead.seen l.fn.reader) → OverSoMany g.R.SteadyRead.seen (ReadsFrame g.R.Read.remaining) l.fn.reader l.reader l.counter;
+  reads : IsSound (g.R.SteadyRead.seen l.fn.reader) → OverItems g.R.SteadyRead.seen (ReadsFrame g.R.Read.remaining) l.fn.reader l.reader l.counter;
   writes : IsSound (g.W.SteadyWrite.seen l.fn.writer) → g.W.SteadyWrite.room l.fn.writer ≡ None →
-      OverSoMany g.W.SteadyWrite.seen (WritesReply g.W.Write.contents) l.fn.writer l.writer l.counter × (g.W.SteadyWrite.room l.writer ≡ None);
+      OverItems g.W.SteadyWrite.seen (WritesReply g.W.Write.contents) l.fn.writer l.writer l.counter × (g.W.SteadyWrite.room l.writer ≡ None);
   goes_on : (setting : Setting) (history : History) → StandsFor setting l.fn.service history → GoesOnFrom setting history l.counter l.service;
   limits : limits_of l.service ≡ limits_of l.fn.service;
   registry : registry_of l.service ≡ registry_of l.fn.service;

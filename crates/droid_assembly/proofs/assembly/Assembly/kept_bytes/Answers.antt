@@ -7,7 +7,7 @@ use Rattle.droid_assembly.proofs.Whole.{settled_is, waiting_le, pending_le, leng
 use Rattle.droid_assembly.proofs.assembly.Assembly.kept_bytes.Goals as goal
 use Rattle.droid_assembly.proofs.assembly.Assembly.kept_bytes.Goals.{After-min-windows, After-pending_bytes}
 
--- so many bytes were passed
+-- how many bytes were passed
 passed_is : (c : After-min-windows) → c.min-passed.result ≡ min c.self.inside.size (c.self.inside.missing * c.self.inside.piece_size)
 passed_is c =
     let size = c.self.inside.size in
