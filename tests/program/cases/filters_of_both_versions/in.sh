@@ -3,7 +3,7 @@
 repeated() { awk -v count="$1" -v text="$2" 'BEGIN { for (n = 0; n < count; n++) printf "%s", text }'; }
 text=$(repeated 255 e)
 full=" ext=$(repeated 254 "$text,")$text"
-# MARK LISTS TEXTS BYTES: so many whole lists, so many whole texts in one more, and one of so many bytes
+# MARK LISTS TEXTS BYTES: the number of whole lists, of whole texts in one more, and of bytes in one text more
 filter() { echo "$1""1 2 export 1 0 1 any$(repeated "$2" "$full") ext=$(repeated "$3" "$text,")$(repeated "$4" e)"; }
 echo "1 1 create 65536 0"
 filter '' 16 16 11

@@ -1,4 +1,4 @@
-# so many folders, every other one in version 2, that early replies are no longer at hand; early and late requests again,
+# enough folders, every other one in version 2, that early replies are no longer cached; early and late requests again,
 # first in the other version
 other() { case $1 in v2) shift; echo "$@" ;; *) echo "v2 $*" ;; esac; }
 again() { other "$@"; echo "$@"; }
