@@ -3,7 +3,7 @@
 use crate::steps::{CREATE, LARGEST, Step, is_answered, service};
 use droid_core::Service;
 use droid_pronom::Registry;
-use droid_pronom_sample::SAMPLE;
+use droid_testing::SAMPLE;
 use std::alloc::Global;
 
 /// How many of the replies under these numbers are cached.

@@ -4,7 +4,7 @@ use droid_core::{Limits, Service};
 use droid_frame::{Frame, Reply, mark, request_frame};
 use droid_lines::{parse_line, print_answer};
 use droid_pronom::Registry;
-use droid_pronom_sample::SAMPLE;
+use droid_testing::SAMPLE;
 use std::alloc::Global;
 use std::num::NonZeroUsize;
 use std::process::Abort;

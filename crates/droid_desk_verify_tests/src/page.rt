@@ -6,7 +6,7 @@ use droid_desk_comparison::{ItemKeeper, Profiler, Recorder, Registry};
 use droid_desk_report::{PageTexts, page_of_csv};
 use droid_desk_verify::{VerifyEnding, read_lists, verify_tree};
 use droid_frame::Noted;
-use droid_pronom_sample::SAMPLE;
+use droid_testing::SAMPLE;
 use std::test::Fail;
 
 #[test]

@@ -6,7 +6,7 @@ use crate::rows::STEPS;
 use crate::runs::{Came, judge};
 use droid_desk_comparison::Registry;
 use droid_frame::HashKind;
-use droid_pronom_sample::SAMPLE;
+use droid_testing::SAMPLE;
 use std::alloc::{AllocError, Global};
 use std::test::Fail;
 

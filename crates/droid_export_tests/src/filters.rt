@@ -7,7 +7,7 @@ use crate::nodes::{Identified, MD5_OF_NOTHING, file, folder, message, texts};
 use droid_export::{export_text, meets};
 use droid_frame::{Criteria, Criterion, Filter, HashKind, Method, NodeKind, Record};
 use droid_pronom::Registry;
-use droid_pronom_sample::SAMPLE;
+use droid_testing::SAMPLE;
 use std::alloc::{AllocError, Global};
 use std::test::Fail;
 

@@ -8,7 +8,7 @@ use crate::nodes::{folder, message, texts};
 use droid_export::{export, export_text, moment_text, uri};
 use droid_frame::{Criteria, Criterion, Filter, HashKind, NodeKind, Noted, Record};
 use droid_pronom::{Registry, RegistryFault};
-use droid_pronom_sample::SAMPLE;
+use droid_testing::SAMPLE;
 use std::alloc::{AllocError, Global};
 use std::test::Fail;
 

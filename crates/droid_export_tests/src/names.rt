@@ -5,7 +5,7 @@ use crate::nodes::{everything, folder};
 use droid_export::{export_text, uri};
 use droid_frame::{HashKind, NodeKind};
 use droid_pronom::Registry;
-use droid_pronom_sample::SAMPLE;
+use droid_testing::SAMPLE;
 use std::alloc::{AllocError, Global};
 use std::test::Fail;
 

@@ -4,7 +4,7 @@ use crate::nodes::{folder, message};
 use droid_export::export_text;
 use droid_frame::{Criteria, Criterion, Filter, HashKind, NodeKind};
 use droid_pronom::Registry;
-use droid_pronom_sample::SAMPLE;
+use droid_testing::SAMPLE;
 use std::test::Fail;
 
 #[test]

@@ -4,9 +4,9 @@ use crate::columns::HEADER;
 use crate::nodes::{Identified, MD5_OF_NOTHING, file, folder};
 use droid_export::{RowText, text_goes_by_records};
 use droid_frame::{HashKind, Method, Noted, Record, WriteFault};
-use droid_frame_shaky::{STEADY, ShakyWriter, Stop};
+use droid_testing::{STEADY, ShakyWriter, Stop};
 use droid_pronom::{Registry, RegistryFault};
-use droid_pronom_sample::SAMPLE;
+use droid_testing::SAMPLE;
 use std::alloc::{AllocError, Global};
 use std::test::Fail;
 

@@ -5,7 +5,7 @@ use crate::nodes::{Identified, MD5_OF_NOTHING, everything, file, folder};
 use droid_export::{export_text, text_is_read_back};
 use droid_frame::{HashKind, Method, Record, Text};
 use droid_pronom::Registry;
-use droid_pronom_sample::SAMPLE;
+use droid_testing::SAMPLE;
 use std::alloc::Global;
 use std::test::Fail;
 

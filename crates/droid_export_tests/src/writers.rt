@@ -6,9 +6,9 @@ ghost use Rattle.droid_export.specs.Text.{HaveMoments};
 use crate::nodes::{everything, folder, message};
 use droid_export::{ExportFault, export, export_text};
 use droid_frame::{Blob, HashKind, Noted, Record};
-use droid_frame_shaky::{Manner, STEADY, ShakyWriter, Stop};
+use droid_testing::{Manner, STEADY, ShakyWriter, Stop};
 use droid_pronom::Registry;
-use droid_pronom_sample::SAMPLE;
+use droid_testing::SAMPLE;
 use std::alloc::{AllocError, Global};
 use std::test::Fail;
 

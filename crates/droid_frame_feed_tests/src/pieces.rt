@@ -2,7 +2,7 @@
 
 use droid_frame::{Frame, FrameFault};
 use droid_frame_feed::{Fed, FrameFeed};
-use droid_frame_vectors::{VECTORS, Vector, body_of};
+use droid_testing::{VECTORS, Vector, body_of};
 use std::alloc::{AllocError, Global};
 use std::test::Fail;
 

@@ -6,11 +6,11 @@ use droid_frame::{
     Condition, InputFault, Noted, ReadFault, Retries, Seen, SteadyRead, WriteFault, WriteState,
     read_some, read_to_end, write_all,
 };
-use droid_frame_shaky::{
+use droid_testing::{
     BYTE_BY_BYTE, Manner, NOWHERE, Place, STEADY, ShakyReader, ShakyWriter, Stop,
 };
 use droid_frame_stream::fill;
-use droid_frame_vectors::reader_of;
+use droid_testing::reader_of;
 use std::alloc::{AllocError, Global};
 use std::io::{Write, sink};
 use std::process::Abort;

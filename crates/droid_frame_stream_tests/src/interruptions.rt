@@ -1,7 +1,7 @@
 //! Interruptions of streams, and what was noted of them.
 
 use droid_frame::{Condition, Seen};
-use droid_frame_shaky::{Manner, Place, STEADY};
+use droid_testing::{Manner, Place, STEADY};
 
 /// Interruptions of one frame, and the position of the last.
 pub type Row = ([Place; 3], usize);

@@ -3,8 +3,8 @@
 use crate::interruptions::{Row, once_more};
 use crate::writers::{ended, interrupted, took};
 use droid_frame::{Arrival, Condition, Noted, WriteFault, read_frame, reply_of, write_reply};
-use droid_frame_shaky::{BYTE_BY_BYTE, Manner, NOWHERE, Place, STEADY, ShakyWriter, Stop};
-use droid_frame_vectors::{FINISHED, FINISHED_WITH_SHA256, MADE, NODES_REACHED};
+use droid_testing::{BYTE_BY_BYTE, Manner, NOWHERE, Place, STEADY, ShakyWriter, Stop};
+use droid_testing::{FINISHED, FINISHED_WITH_SHA256, MADE, NODES_REACHED};
 use std::alloc::Global;
 use std::process::Abort;
 

@@ -3,8 +3,8 @@
 use crate::interruptions::{Row, is_seen, once_more, with_places};
 use crate::writers::{ended, interrupted, took};
 use droid_frame::{Condition, FrameFault, Noted, WriteFault, body_limit, write_frame};
-use droid_frame_shaky::{BYTE_BY_BYTE, Manner, NOWHERE, STEADY, ShakyReader, ShakyWriter, Stop};
-use droid_frame_vectors::{FOLDER, VECTORS, Vector, comes, fault_of, frame_of, is_end, reader_of};
+use droid_testing::{BYTE_BY_BYTE, Manner, NOWHERE, STEADY, ShakyReader, ShakyWriter, Stop};
+use droid_testing::{FOLDER, VECTORS, Vector, comes, fault_of, frame_of, is_end, reader_of};
 use std::alloc::Global;
 use std::process::Abort;
 use std::test::Fail;

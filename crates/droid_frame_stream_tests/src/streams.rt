@@ -1,8 +1,8 @@
 //! Frames on streams: whole, in pieces, cut short, and with headers that are refused.
 
 use droid_frame::{Arrival, FrameFault, WriteFault, body_limit, read_frame, write_frame};
-use droid_frame_shaky::{BYTE_BY_BYTE, Manner, STEADY};
-use droid_frame_vectors::{VECTORS, Vector, body_of, comes, fault_of, frame_of, is_end, reader_of};
+use droid_testing::{BYTE_BY_BYTE, Manner, STEADY};
+use droid_testing::{VECTORS, Vector, body_of, comes, fault_of, frame_of, is_end, reader_of};
 use std::alloc::Global;
 use std::process::Abort;
 use std::test::Fail;

@@ -2,7 +2,7 @@
 
 use crate::interruptions::with_places;
 use droid_frame::WriteFault;
-use droid_frame_shaky::{Place, ShakyWriter, Stop};
+use droid_testing::{Place, ShakyWriter, Stop};
 use std::alloc::Global;
 
 /// Makes a writer that takes all, with these interruptions.

@@ -2,7 +2,7 @@
 //! Out of memory: a call reports it, and the same call succeeds when it is made again.
 
 use droid_frame::{BodyFault, Frame, Reply, Request, Texts, reply_of, request_frame, request_of};
-use droid_frame_vectors::frame;
+use droid_testing::frame;
 use std::alloc::{AllocError, Global};
 use std::test::Fail;
 

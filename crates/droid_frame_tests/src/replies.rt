@@ -8,7 +8,7 @@ use droid_frame::{
     Arrival, Frame, HashValue, Method, NodeKind, Record, Reply, Text, Texts, read_frame,
     reply_body, reply_of, write_reply,
 };
-use droid_frame_vectors::{
+use droid_testing::{
     BAD_OPTION_IN_TWO, FINISHED, FINISHED_WITH_MD5, FINISHED_WITH_NOTHING, FINISHED_WITH_SHA256,
     INCOMPLETE, MADE, MADE_IN_TWO, MALFORMED, NODE, NODES_REACHED, NUMBER_REUSED, body_of,
 };

@@ -2,7 +2,7 @@
 
 use crate::replies::{MD5_OF_NOTHING, reply_with};
 use droid_frame::{BodyFault, PART_LIMIT, Reply, reply_of};
-use droid_frame_vectors::{VECTORS, Vector, body_of, frame};
+use droid_testing::{VECTORS, Vector, body_of, frame};
 use std::alloc::Global;
 use std::process::Abort;
 use std::test::Fail;

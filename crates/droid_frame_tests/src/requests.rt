@@ -4,7 +4,7 @@ use crate::request_texts::is_shown_as;
 use droid_frame::{
     Blob, BodyFault, Frame, HashKind, NUMBER_LIMIT, Request, mark, request_frame, request_of,
 };
-use droid_frame_vectors::frame;
+use droid_testing::frame;
 use std::alloc::Global;
 use std::process::Abort;
 use std::test::Fail;

@@ -4,7 +4,7 @@
 use crate::frames::{CREATE, FOLDER, joined};
 use crate::session::{LINES, PRINTED, Streams, replies, sent, steady};
 use droid_frame::FrameFault;
-use droid_frame_shaky::{BYTE_BY_BYTE, Manner, NOWHERE, STEADY, ShakyReader, ShakyWriter, Stop};
+use droid_testing::{BYTE_BY_BYTE, Manner, NOWHERE, STEADY, ShakyReader, ShakyWriter, Stop};
 use droid_lines::Tally;
 use droid_lines_send::SendFault;
 use std::alloc::Global;

@@ -4,7 +4,7 @@ use crate::frames::{
     CREATE, CREATE_2, FINISH_2, FINISHED_2, FOLDER, MADE, MADE_2, NODE, REFUSED, joined,
 };
 use crate::session::{LINES, Outcome, Streams, sent, steady};
-use droid_frame_shaky::{STEADY, ShakyReader, Stop};
+use droid_testing::{STEADY, ShakyReader, Stop};
 use droid_lines::Tally;
 use droid_lines_send::SendFault;
 use std::alloc::Global;

@@ -2,7 +2,7 @@
 
 use crate::frames::{MADE, NODE, joined};
 use droid_frame::Noted;
-use droid_frame_shaky::{STEADY, ShakyReader, ShakyWriter, Stop};
+use droid_testing::{STEADY, ShakyReader, ShakyWriter, Stop};
 use droid_lines::Tally;
 use droid_lines_send::{SendFault, send};
 use droid_wire::Client;

@@ -5,7 +5,7 @@ use crate::profiles::{LIST, ROWS, TEXT};
 use droid_frame::HashKind;
 use droid_profile_csv::CsvFault;
 use droid_pronom::Registry;
-use droid_pronom_sample::SAMPLE;
+use droid_testing::SAMPLE;
 use std::alloc::Global;
 use std::test::Fail;
 

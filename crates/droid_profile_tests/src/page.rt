@@ -7,7 +7,7 @@ use crate::profiles::ROWS;
 use droid_frame::HashKind;
 use droid_profile_csv::{CsvRecipient, Options, Profiler, profile};
 use droid_pronom::Registry;
-use droid_pronom_sample::SAMPLE;
+use droid_testing::SAMPLE;
 use std::test::Fail;
 
 const OPTIONS: Options = Options {

@@ -4,7 +4,7 @@ use crate::memory_profile::{Memory, WrittenProfile, memory, written};
 use crate::memory_tree::Row;
 use droid_frame::HashKind;
 use droid_pronom::Registry;
-use droid_pronom_sample::SAMPLE;
+use droid_testing::SAMPLE;
 use droid_tree::EntryKind;
 use std::test::Fail;
 

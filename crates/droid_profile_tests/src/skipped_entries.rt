@@ -7,7 +7,7 @@ use crate::noting_watcher::NotingWatcher;
 use droid_frame::HashKind;
 use droid_profile_csv::{CsvFault, CsvRecipient, Options, Profiler, write_profile};
 use droid_pronom::Registry;
-use droid_pronom_sample::SAMPLE;
+use droid_testing::SAMPLE;
 use droid_tree::EntryKind;
 use std::alloc::Global;
 use std::test::Fail;

@@ -3,7 +3,7 @@
 
 use droid_frame::Method;
 use droid_pronom::{Found, Registry, RegistryFault};
-use droid_pronom_sample::SAMPLE;
+use droid_testing::SAMPLE;
 use std::alloc::{AllocError, Global};
 use std::test::Fail;
 

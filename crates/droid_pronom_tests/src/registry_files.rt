@@ -2,7 +2,7 @@
 
 use droid_frame::Noted;
 use droid_pronom::{Registry, RegistryFault};
-use droid_pronom_sample::SAMPLE;
+use droid_testing::SAMPLE;
 use std::alloc::{AllocError, Global};
 use std::io;
 use std::io::{Error, ErrorKind, Read};

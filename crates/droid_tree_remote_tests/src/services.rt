@@ -3,7 +3,7 @@
 use droid_core::{Limits, Service};
 use droid_frame::{Blob, Frame, Reply};
 use droid_pronom::Registry;
-use droid_pronom_sample::SAMPLE;
+use droid_testing::SAMPLE;
 use std::alloc::Global;
 
 /// The other client.

@@ -1,7 +1,7 @@
 //! Connections that take few bytes at a time.
 
 use droid_frame::{Arrival, read_frame, reply_of};
-use droid_frame_vectors::{
+use droid_testing::{
     FINISHED, FINISHED_WITH_SHA256, INCOMPLETE, MADE, NODE, NODES_REACHED, NUMBER_REUSED,
 };
 use droid_wire_queue::ReplyQueue;

@@ -4,7 +4,7 @@
 use crate::vectors::{service, session};
 use droid_core::Service;
 use droid_frame::{FrameFault, Noted};
-use droid_frame_shaky::{BYTE_BY_BYTE, Manner, STEADY, ShakyReader, ShakyWriter, Stop};
+use droid_testing::{BYTE_BY_BYTE, Manner, STEADY, ShakyReader, ShakyWriter, Stop};
 use droid_wire::{Ended, ServeFault, serve};
 use std::alloc::Global;
 use std::process::Abort;

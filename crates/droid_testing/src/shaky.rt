@@ -1,5 +1,4 @@
 //! Streams for tests: a reader and a writer that are interrupted, give or take few bytes at a time, and stop once.
-#![tactic(auto)]
 
 use std::io::{self, ErrorKind, Read, Write};
 

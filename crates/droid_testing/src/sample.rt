@@ -1,5 +1,4 @@
 //! The sample registry, which tests identify files with.
-#![tactic(auto)]
 
 /// A registry file of four formats with invented PUIDs: the same bytes as tests/program/sample_registry.csv.
 pub const SAMPLE: &str = "F,dev/1,Message,1,,\n\

@@ -2,7 +2,7 @@
 
 use crate::vectors::{Vector, body_of};
 use droid_frame::{Arrival, Frame, FrameFault, Noted, SteadyRead, read_frame};
-use droid_frame_shaky::{Manner, ShakyReader, Stop};
+use crate::shaky::{Manner, ShakyReader, Stop};
 use std::alloc::Global;
 
 /// Makes a reader of these bytes that then ends.
