@@ -1,55 +1,81 @@
 #!/usr/bin/env python3
-"""Installs the built program below a folder: install.py PROGRAM FOLDER. The program goes to FOLDER/bin, its manual
-page to FOLDER/share/man/man1, and its completions for bash to FOLDER/share/bash-completion/completions.
-`install.py --remove FOLDER` removes these three files."""
+"""Installs a program below a folder: install.py PROGRAM FOLDER. The program goes to FOLDER/bin, its manual page to
+FOLDER/share/man/man1, its completions for bash to FOLDER/share/bash-completion/completions, and the licences of what
+it is made of to FOLDER/share/doc/droid_desk. `install.py --remove FOLDER` removes these files."""
+import contextlib
 import os
-import shutil
 import sys
 
 import manual
+from crates import TOP
 
 BINARY = os.path.join("bin", manual.NAME)
 PAGE = os.path.join("share", "man", "man1", manual.NAME + ".1")
 COMPLETIONS = os.path.join("share", "bash-completion", "completions", manual.NAME)
+LICENCES = os.path.join("share", "doc", manual.NAME, "LICENSES.txt")
+FILES = (BINARY, PAGE, COMPLETIONS, LICENCES)
 
 
-def put(path, text):
-    """Writes a text to a file that everybody may read."""
-    with open(path, "w", encoding="utf-8") as file:
-        file.write(text)
-    os.chmod(path, 0o644)
+def content(path):
+    with open(path, "rb") as file:
+        return file.read()
+
+
+def contents(program):
+    """Returns what the installed files have, in their order. It runs the program, so that none is installed that doesn't run."""
+    if not manual.said(program, "--version"):
+        sys.exit(f"{program} does not run here, so nothing was installed")
+    page, completions = manual.page(program), manual.completions(program)
+    return content(program), page.encode(), completions.encode(), content(os.path.join(TOP, "release", "LICENSES.txt"))
+
+
+def put(path, content, mode):
+    """Writes a file beside its place, and returns where."""
+    os.makedirs(os.path.dirname(path), exist_ok=True)
+    room = f"{path}.{os.getpid()}.new"
+    with open(room, "wb") as file:
+        file.write(content)
+    os.chmod(room, mode)
+    return room
 
 
 def install(program, folder):
-    at = [os.path.join(folder, file) for file in (BINARY, PAGE, COMPLETIONS)]
-    # both texts first, so that nothing is installed of a program that doesn't run
-    page, completions = manual.page(program), manual.completions(program)
-    for path in at:
-        os.makedirs(os.path.dirname(path), exist_ok=True)
-    # a program that runs can't be overwritten, but its file can be replaced
-    shutil.copyfile(program, at[0] + ".new")
-    os.chmod(at[0] + ".new", 0o755)
-    os.replace(at[0] + ".new", at[0])
-    put(at[1], page)
-    put(at[2], completions)
-    return at
+    """Installs all files or none, and returns their paths. A program that runs can't be overwritten, but its file can be
+    replaced: so each file is written beside its place, and takes it at the end."""
+    paths, rooms = [os.path.join(folder, file) for file in FILES], []
+    try:
+        for path, text in zip(paths, contents(program)):
+            rooms.append(put(path, text, 0o755 if path == paths[0] else 0o644))
+        for room, path in zip(rooms, paths):
+            os.replace(room, path)
+    finally:
+        for path in paths:
+            with contextlib.suppress(OSError):
+                os.remove(f"{path}.{os.getpid()}.new")
+    return paths
 
 
 def remove(folder):
     """Removes the installed files that are there, and returns their paths."""
-    there = [path for path in (os.path.join(folder, file) for file in (BINARY, PAGE, COMPLETIONS)) if os.path.lexists(path)]
+    there = [path for path in (os.path.join(folder, file) for file in FILES) if os.path.lexists(path)]
     for path in there:
         os.remove(path)
     return there
+
+
+def report(paths, done="installed"):
+    for path in paths:
+        print(f"{done}: {path}")
 
 
 def main():
     if len(sys.argv) != 3:
         sys.exit("usage: install.py PROGRAM FOLDER, or install.py --remove FOLDER")
     first, folder = sys.argv[1:]
-    paths, done = (remove(folder), "removed") if first == "--remove" else (install(first, folder), "installed")
-    for path in paths:
-        print(f"{done}: {path}")
+    try:
+        report(*(remove(folder), "removed") if first == "--remove" else (install(first, folder), "installed"))
+    except OSError as fault:
+        sys.exit(f"{fault.filename or folder}: {fault.strerror}, so nothing {'more was removed' if first == '--remove' else 'was installed'}")
 
 
 if __name__ == "__main__":

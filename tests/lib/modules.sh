@@ -1,7 +1,7 @@
-# Sourced by the runners of tests in Python, `run.sh [PROGRAM]`, which set $tests, the folder tests/. It goes to the
+# Sourced by the runners of tests in Python, `run.sh [PROGRAM]` (by default the released program), which set $tests, the folder tests/. It goes to the
 # runner's folder, exports the program's path as DROID_DESK and the folder tests/ as PYTHONPATH, and makes a folder $work
 # that it removes when the runner ends.
-DROID_DESK=${1:-$tests/../crates/droid_desk/out/droid_desk}
+DROID_DESK=${1:-$(python3 -B "$tests/../tools/release.py" path)} || exit 1
 case $DROID_DESK in
     /*) ;;
     *) DROID_DESK=$PWD/$DROID_DESK ;;

@@ -1,7 +1,5 @@
 #!/bin/sh
-# Refuses memory to the built program and to the tests of the crates that `rt ci` or `rt test` left in their out/, and
-# counts allocations: run.sh [PROGRAM]
-#   growths               tests of crates, with each allocation refused in turn
+# Refuses memory to a built program, by default the released one, and counts allocations: run.sh [PROGRAM]
 #   commands_refused      `script` in both versions, `profile`, `verify` and `registry`, in the same way
 #   requests_refused      streams of frames, in the same way
 #   submissions_refused   `submit`, in the same way
@@ -11,7 +9,8 @@
 #   long_bodies           allocations for a header whose length is past the limit
 #   costs_of_requests     allocations for a request of each kind, by the table costs_of_requests
 #   lasting_memory        memory that is held after long streams
-# MODULES names some of them alone.
+# MODULES names some of them alone, or with a kit, as `make prove` does:
+#   growths               the tests of crates that `rt ci` or `rt test` left in their out/, with each allocation refused in turn
 set -u
 tests=$(cd "$(dirname "$0")/.." && pwd)
 . "$tests/lib/modules.sh"
@@ -19,5 +18,5 @@ export REFUSING="$work/refuse.so"
 build_library refuse.c "$REFUSING"
 # (the modules are words without spaces)
 # shellcheck disable=SC2086
-run_modules ${MODULES:-growths commands_refused requests_refused submissions_refused reports_refused journals_refused large_allocations \
+run_modules ${MODULES:-commands_refused requests_refused submissions_refused reports_refused journals_refused large_allocations \
     long_bodies costs_of_requests lasting_memory}

@@ -12,7 +12,8 @@ import unittest
 TOP = os.path.dirname(os.path.dirname(os.path.dirname(os.path.abspath(__file__))))
 PROGRAM = os.path.abspath(sys.argv.pop(1))
 INSTALL = os.path.join(TOP, "tools", "install.py")
-FILES = ["bin/droid_desk", "share/bash-completion/completions/droid_desk", "share/man/man1/droid_desk.1"]
+BINARY, COMPLETIONS = "bin/droid_desk", "share/bash-completion/completions/droid_desk"
+LICENCES, PAGE = "share/doc/droid_desk/LICENSES.txt", "share/man/man1/droid_desk.1"
 
 
 def run(*words, **more):
@@ -43,22 +44,22 @@ class Install(unittest.TestCase):
 
     def completed(self, *words):
         """Completes the last of these words after `droid_desk`."""
-        script = f'source {self.path(FILES[1])}; COMP_WORDS=(droid_desk "$@"); COMP_CWORD=$#; _droid_desk; printf "%s\\n" "${{COMPREPLY[@]}}"'
+        script = f'source {self.path(COMPLETIONS)}; COMP_WORDS=(droid_desk "$@"); COMP_CWORD=$#; _droid_desk; printf "%s\\n" "${{COMPREPLY[@]}}"'
         return run("bash", "-c", script, "bash", *words).split()
 
     def test_files(self):
-        self.assertEqual(self.there(), FILES)
-        self.assertEqual(run(self.path(FILES[0]), "--help"), run(PROGRAM, "--help"))
+        self.assertEqual(self.there(), [BINARY, COMPLETIONS, LICENCES, PAGE])
+        self.assertEqual(run(self.path(BINARY), "--help"), run(PROGRAM, "--help"))
 
     def test_manual_page(self):
-        with open(self.path(FILES[2]), encoding="utf-8") as file:
+        with open(self.path(PAGE), encoding="utf-8") as file:
             page = file.read()
         for command in COMMANDS:
             self.assertIn(command, page)
         for option in set(re.findall(r"--[a-z][a-z-]+", run(PROGRAM, "profile", "--help"))):
             self.assertIn(option.replace("-", "\\-"), page)
         if shutil.which("groff"):
-            done = subprocess.run(["groff", "-man", "-ww", "-Tutf8", self.path(FILES[2])], capture_output=True, timeout=60)
+            done = subprocess.run(["groff", "-man", "-ww", "-Tutf8", self.path(PAGE)], capture_output=True, timeout=60)
             self.assertEqual((done.returncode, done.stderr), (0, b""))
             self.assertGreater(len(done.stdout), 5_000)
 

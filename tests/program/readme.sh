@@ -22,7 +22,7 @@ ln -s "$program" "$work/bin/droid_desk"
     awk '/^    / { if (!inside) is_output = substr($0, 5, 1) == "\""; inside = 1
                    if (!is_output) print substr($0, 5); next }
          { inside = 0 }' "$page" | grep -vE '^(git|cd|make) ' |
-        sed "s#\(\./\)\{0,1\}crates/droid_desk/out/droid_desk#$program#g; s/4711/$port/g"
+        sed "s#\(\./\)\{0,1\}out/release/droid_desk#$program#g; s/4711/$port/g"
     echo 'for job in $(jobs -p); do wait "$job"; done'
 } >"$work/commands"
 

@@ -1,5 +1,5 @@
 #!/bin/sh
-# Tests the built program, by its command line and its streams alone: run.sh [PROGRAM]
+# Tests a built program, by default the released one, by its command line and its streams alone: run.sh [PROGRAM]
 #   cases.sh      cases, each with its input, its replies and its status
 #   example       the script in examples/
 #   registry.sh   registry files, good and bad
@@ -16,11 +16,12 @@
 #   signatures/run.sh   registries made of signature files, beside a model in Python
 #   identification.py   a file of each shape by random registries, beside the model
 #   install.py    the manual page, the completions and what `make install` writes
+#   release.py    the released program: `make run` and `make install` without the kit, damaged releases, other machines
 #   readme.sh     the commands of README.md and of the program's page, pasted into a shell
 set -u
 top=$(cd "$(dirname "$0")/../.." && pwd)
 tests=$top/tests/program
-program=${1:-$top/crates/droid_desk/out/droid_desk}
+program=${1:-$(python3 -B "$top/tools/release.py" path)} || exit 1
 case $program in
     /*) ;;
     *) program=$PWD/$program ;;
@@ -68,6 +69,7 @@ part sh "$tests/report/run.sh" "$program"
 part sh "$tests/signatures/run.sh" "$program"
 part python3 "$tests/identification.py" "$program"
 part python3 "$tests/install.py" "$program"
+part python3 "$tests/release.py"
 # (0 unless it was ended)
 wait "$!" || echo failed >>"$work/ended"
 failed=$(grep -c failed "$work/ended")

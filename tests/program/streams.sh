@@ -4,7 +4,7 @@
 # fault.
 set -u
 top=$(cd "$(dirname "$0")/../.." && pwd)
-program=${1:-$top/crates/droid_desk/out/droid_desk}
+program=$1
 work=$(mktemp -d) || exit 1
 trap 'rm -rf "$work"' EXIT
 ${CC:-cc} -shared -fPIC -o "$work/streams.so" "$top/tests/program/streams.c" -ldl || exit 1

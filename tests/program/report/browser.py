@@ -1,5 +1,5 @@
 """Opens pages of `report` in headless Chromium: browser.py PROGRAM [FOLDER]. Screenshots go to FOLDER, if it is named.
-Skipped, with a line that says so, where Chromium is not installed and apt-get can't install it."""
+Skipped, with a line that says so, where Chromium is not installed."""
 
 import base64
 import json
@@ -22,20 +22,8 @@ NAMES = ("chromium", "chromium-browser", "chromium-headless-shell", "google-chro
 
 
 def chromium():
-    """Returns the path of Chromium, which Debian's package has, or nothing."""
-    for name in NAMES:
-        if shutil.which(name):
-            return shutil.which(name)
-    if not shutil.which("apt-get") or os.geteuid() != 0:
-        return None
-    for words in (["update", "-qq"], ["install", "-qq", "-y", "--no-install-recommends", "chromium"]):
-        try:
-            done = subprocess.run(["apt-get", *words], capture_output=True, timeout=300, env={**os.environ, "DEBIAN_FRONTEND": "noninteractive"})
-        except subprocess.TimeoutExpired:
-            return None
-        if done.returncode != 0:
-            return None
-    return shutil.which("chromium")
+    """Returns the path of Chromium, or None."""
+    return next(filter(None, map(shutil.which, NAMES)), None)
 
 
 class Browser:
