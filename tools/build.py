@@ -6,41 +6,18 @@ It proves libraries side by side, each as soon as the libraries below it are bui
 the sources and the toolchain says what is up to date, so if nothing has changed, it calls no `rt`. After an interrupt
 the next call resumes the work.
 """
-import fcntl
 import os
 import shutil
 import statistics
-import subprocess
 import sys
-import threading
 import time
 
 import crates
 from crates import TOP, below, folder, named, read
+from lanes import ONE_JOB, alone, run_in, side_by_side
 from standing import RT, Sums, note, stands
 
 SECONDS = os.path.join(TOP, "tools", "seconds.txt")
-# the memory in bytes that one crate in work may take: most take a fifth of it
-EACH = 4 << 30
-# each job loads all that is below: with two or four, a crate takes up to twice the seconds of a processor
-ONE_JOB = ["--jobs", "1"]
-
-
-def memory():
-    """Returns the free memory in bytes."""
-    for line in read("/proc/meminfo").split("\n"):
-        if line.startswith("MemAvailable:"):
-            return int(line.split()[1]) << 10
-    return EACH
-
-
-def run_in(place, words):
-    """Runs a command: its status, its output, and its seconds of a processor."""
-    with subprocess.Popen(words, cwd=place, stdout=subprocess.PIPE, stderr=subprocess.STDOUT, text=True) as run:
-        said = run.stdout.read()
-        _, status, used = os.wait4(run.pid, 0)
-        run.returncode = os.waitstatus_to_exitcode(status)
-    return run.returncode, said, used.ru_utime + used.ru_stime
 
 
 def tree_of(crate):
@@ -80,15 +57,12 @@ def seconds_of(libraries):
 
 
 class Build:
-    """The libraries that wait, and those in work with the time at which each began."""
+    """The libraries that wait, and those in work."""
 
-    def __init__(self, libraries, sums, cores):
-        self.sums, self.cores = sums, cores
-        self.all = len(libraries)
+    def __init__(self, libraries, sums):
+        self.sums, self.all = sums, len(libraries)
         self.waiting = [it for it in libraries if not stands(it, sums)]
-        self.work = {}
-        self.failed = None
-        self.changed = threading.Condition()
+        self.work, self.failed = [], None
         self.begun = time.time()
         self.chains = self.chains_of(libraries)
 
@@ -100,55 +74,36 @@ class Build:
             chains[crate] = seconds[crate] + max(above, default=0)
         return chains
 
-    def ready(self):
-        """Returns the libraries of which all below are built. The longest chain comes first."""
-        unbuilt = {*self.waiting, *self.work}
-        return sorted((it for it in self.waiting if not unbuilt.intersection(below(it))), key=lambda crate: -self.chains[crate])
-
-    def fits(self):
-        return not self.work or (len(self.work) < self.cores and memory() > EACH)
-
     def report(self, what):
         print(f"  {time.time() - self.begun:4.0f} s: {what}", file=sys.stderr, flush=True)
 
-    def run(self, crate):
-        status, said, used = prove_library(crate)
-        with self.changed:
-            took = time.time() - self.work.pop(crate)
-            self.report(f"{crate} took {took:.0f} s, and {used:.0f} s of a processor")
-            if status == 0:
-                note(crate, self.sums)
-            else:
-                self.failed = self.failed or (crate, said)
-            self.changed.notify_all()
-
-    def begin(self, crate):
+    def next(self):
+        """Returns the job for the next library of which all below are built, or None. The longest chain comes first."""
+        unbuilt = {*self.waiting, *self.work}
+        ready = [it for it in self.waiting if not self.failed and not unbuilt.intersection(below(it))]
+        if not ready:
+            return None
+        crate = max(ready, key=lambda it: self.chains[it])
         self.waiting.remove(crate)
-        self.work[crate] = time.time()
-        threading.Thread(target=self.run, args=(crate,)).start()
+        self.work.append(crate)
         done = self.all - len(self.waiting) - len(self.work)
         self.report(f"{done} of {self.all} libraries proved; in work: {', '.join(self.work)}")
+        return self.run, crate
 
-    def all_built(self):
-        """Builds all; returns the first crate that failed with its output, or None."""
-        with self.changed:
-            while (self.waiting and not self.failed) or self.work:
-                ready = self.ready() if not self.failed and self.fits() else []
-                if ready:
-                    self.begin(ready[0])
-                else:
-                    # (memory may become free without a library that ends)
-                    self.changed.wait(5)
-        return self.failed
+    def run(self, crate):
+        begun = time.time()
+        status, said, used = prove_library(crate)
+        if status == 0:
+            note(crate, self.sums)
+        what = "took" if status == 0 else "failed after"
+        return crate, status, said, f"{crate} {what} {time.time() - begun:.0f} s, and {used:.0f} s of a processor"
 
-
-def alone():
-    """Waits until no other build works in this checkout, and returns a lock that keeps others out until it is
-    closed."""
-    os.makedirs(os.path.join(TOP, "out"), exist_ok=True)
-    lock = open(os.path.join(TOP, "out", "build.lock"), "w")
-    fcntl.flock(lock, fcntl.LOCK_EX)
-    return lock
+    def end(self, result):
+        crate, status, said, took = result
+        self.work.remove(crate)
+        self.report(took)
+        if status:
+            self.failed = self.failed or (crate, said)
 
 
 def fail(crate, said):
@@ -170,7 +125,9 @@ def prove(libraries, sums, what):
         bring_back(crate)
     if not all(stands(it, sums) for it in libraries):
         print(f"proving {what} and the crates below it; the first time this takes half an hour or more", file=sys.stderr)
-    return Build(libraries, sums, len(os.sched_getaffinity(0))).all_built()
+    work = Build(libraries, sums)
+    side_by_side(work.next, work.end)
+    return work.failed
 
 
 def build(program, is_program, cpu, sums):

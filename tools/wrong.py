@@ -13,11 +13,9 @@ interrupt or a change it tries only the rest; with --anew it tries all.
 """
 import argparse
 import collections
-import concurrent.futures
 import os
 import re
 import shutil
-import signal
 import sys
 import time
 
@@ -26,6 +24,7 @@ import crates
 from crates import EDITS, SOURCES, TOP, edits_of, folder, listed, touched, write
 from edits import Edit, Texts
 from functions import OF_NAMES, Said, function_of, names_of
+from lanes import ONE_JOB, alone, run_in, side_by_side
 from standing import RT, Sums, note_refusal, was_refused
 
 REFUSED, BY_NAME, BY_LIMIT, MISSED, BAD = range(5)
@@ -108,7 +107,7 @@ def checked(trial, tree):
     for file, text in trial.texts.items():
         write(os.path.join(folder(crate, tree), file), text)
     try:
-        return build.run_in(folder(crate, tree), [RT, "check", *build.ONE_JOB])[:2]
+        return run_in(folder(crate, tree), [RT, "check", *ONE_JOB])[:2]
     finally:
         shutil.rmtree(tree, ignore_errors=True)
 
@@ -142,14 +141,21 @@ def found_alone(status, said):
 
 
 class Trials:
-    """Runs trials, as many at once as processors and memory allow, collects the results, and notes refusals."""
+    """The trials that wait, and the results. It notes refusals."""
 
-    def __init__(self, trials, room, most, sums):
-        self.room, self.most, self.sums, self.begun = room, most, sums, time.time()
+    def __init__(self, trials, room, sums):
+        self.room, self.sums, self.begun = room, sums, time.time()
         self.number, self.found, self.waiting = 0, {}, list(trials)
 
     def report(self, what):
         print(f"  {time.time() - self.begun:4.0f} s: {what}", file=sys.stderr, flush=True)
+
+    def next(self):
+        """Returns the job for the next trial, or None."""
+        if not self.waiting:
+            return None
+        self.number += 1
+        return self.run, self.waiting.pop(0), self.number
 
     def run(self, trial, number):
         edits = list(trial.edits)
@@ -161,26 +167,15 @@ class Trials:
             found = {edits[0]: found_alone(status, said)}
         return trial, found
 
-    def end(self, trial, found):
+    def end(self, result):
         """Collects the results, and queues the rest again in smaller trials."""
+        trial, found = result
         self.found.update(found)
         for edit in [it for it in found if found[it][0] == REFUSED]:
             note_refusal(edit, self.sums)
         left = [edit for edit in trial.edits if edit not in found]
         self.report(f"{trial.crate}: {len(found)} of {len(trial.edits)} settled" + f"; {len(left)} to be tried again" * bool(left))
         self.waiting[:0] = parts_of(trial, left)
-
-    def all_run(self):
-        with concurrent.futures.ThreadPoolExecutor(self.most) as lanes:
-            running = set()
-            while self.waiting or running:
-                while self.waiting and len(running) < self.most and (not running or build.memory() > build.EACH):
-                    self.number += 1
-                    running.add(lanes.submit(self.run, self.waiting.pop(0), self.number))
-                ended, running = concurrent.futures.wait(running, timeout=5, return_when=concurrent.futures.FIRST_COMPLETED)
-                for it in ended:
-                    self.end(*it.result())
-        return self.found
 
 
 def asked():
@@ -207,7 +202,9 @@ def tried(edits, sums):
     seconds = build.seconds_of(chosen)
     trials.sort(key=lambda trial: -len(trial.edits) * seconds[trial.crate])
     with crates.room("wrong") as room:
-        return Trials(trials, room, len(os.sched_getaffinity(0)), sums).all_run()
+        work = Trials(trials, room, sums)
+        side_by_side(work.next, work.end)
+        return work.found
 
 
 def report(edits, found, kept):
@@ -225,10 +222,8 @@ def report(edits, found, kept):
 
 
 def main():
-    for it in (signal.SIGINT, signal.SIGTERM, signal.SIGHUP):
-        signal.signal(it, lambda number, _: sys.exit(128 + number))
     chosen, is_anew = asked()
-    with build.alone():
+    with alone():
         sums = Sums()
         all_edits = [Edit(path) for crate in chosen for path in edits_of(crate)]
         edits = [it for it in all_edits if is_anew or not was_refused(it, sums)]
