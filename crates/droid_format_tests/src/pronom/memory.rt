@@ -1,8 +1,9 @@
 // Each test also passes if any one allocation is refused: tests/memory refuses each in turn.
 //! Out of memory: a call that fails for it works when it is called again.
 
+use crate::registries::registry_of;
 use droid_frame::Method;
-use droid_pronom::{Found, Registry, RegistryFault};
+use droid_pronom::{Found, Registry};
 use droid_testing::SAMPLE;
 use std::alloc::{AllocError, Global};
 use std::test::Fail;
@@ -17,14 +18,6 @@ S,t/2,BOF,0,0,6162\n\
 S,t/3,BOF,0,0,616263\n\
 P,t/1,t/2,,,\n\
 P,t/2,t/3,,,\n";
-
-/// Reads the registry, and reads it again if memory ran out.
-fn registry_of(alloc: Global, text: &str) -> Result<Registry, RegistryFault> {
-    match Registry::parse(alloc, text.as_bytes()) {
-        Err(RegistryFault::Memory) => Registry::parse(alloc, text.as_bytes()),
-        registry => registry,
-    }
-}
 
 /// Identifies a file of three bytes, and does so again if memory ran out.
 fn identify(alloc: Global, registry: &Registry) -> Result<Found, AllocError> {

@@ -4,20 +4,14 @@
 ghost use Rattle.std.specs.Prelude.{IfOk};
 ghost use Rattle.droid_export.specs.Text.{HaveMoments};
 
-use crate::nodes::{folder, message, texts};
+use crate::export::nodes::{folder, message, texts};
+use crate::registries::registry_of;
 use droid_export::{export, export_text, moment_text, uri};
 use droid_frame::{Criteria, Criterion, Filter, HashKind, NodeKind, Noted, Record};
-use droid_pronom::{Registry, RegistryFault};
+use droid_pronom::Registry;
 use droid_testing::SAMPLE;
 use std::alloc::{AllocError, Global};
 use std::test::Fail;
-
-fn registry_of(alloc: Global) -> Result<Registry, RegistryFault> {
-    match Registry::parse(alloc, SAMPLE.as_bytes()) {
-        Ok(registry) => Ok(registry),
-        Err(_) => Registry::parse(alloc, SAMPLE.as_bytes()),
-    }
-}
 
 /// Returns whether the URI is right, at the second call if memory runs out at the first.
 fn has_uri(alloc: Global, path: &str, kind: NodeKind, expected: &str) -> Result<bool, AllocError> {
@@ -97,7 +91,7 @@ fn is_written(alloc: Global, registry: &Registry, filter: &Filter) -> Result<boo
 #[test]
 fn each_growth_of_an_export(rt: HostRuntime) -> Result<(), Fail> {
     let alloc = rt.alloc();
-    let registry = registry_of(alloc)?;
+    let registry = registry_of(alloc, SAMPLE)?;
     let filter = lists_of(alloc)?;
     assert!(rt; is_written(alloc, &registry, &filter)?);
     Ok(())

@@ -1,12 +1,12 @@
 //! Rows that are written as they come.
 
-use crate::columns::HEADER;
-use crate::nodes::{Identified, MD5_OF_NOTHING, file, folder};
+use crate::export::columns::HEADER;
+use crate::export::nodes::{Identified, MD5_OF_NOTHING, file, folder};
+use crate::registries::registry_of;
 use droid_export::{RowText, text_goes_by_records};
 use droid_frame::{HashKind, Method, Noted, Record, WriteFault};
-use droid_testing::{STEADY, ShakyWriter, Stop};
-use droid_pronom::{Registry, RegistryFault};
-use droid_testing::SAMPLE;
+use droid_pronom::Registry;
+use droid_testing::{SAMPLE, STEADY, ShakyWriter, Stop};
 use std::alloc::{AllocError, Global};
 use std::test::Fail;
 
@@ -76,13 +76,6 @@ fn stops_after_each_byte(rt: HostRuntime) -> Result<(), Fail> {
     Ok(())
 }
 
-fn registry_of(alloc: Global) -> Result<Registry, RegistryFault> {
-    match Registry::parse(alloc, SAMPLE.as_bytes()) {
-        Ok(registry) => Ok(registry),
-        Err(_) => Registry::parse(alloc, SAMPLE.as_bytes()),
-    }
-}
-
 fn quoted_again(alloc: Global) -> Result<Record, AllocError> {
     match quoted(alloc) {
         Ok(node) => Ok(node),
@@ -107,7 +100,7 @@ fn added(alloc: Global, registry: &Registry, rows: &mut RowText) -> Result<bool,
 #[test]
 fn each_growth_of_rows(rt: HostRuntime) -> Result<(), Fail> {
     let alloc = rt.alloc();
-    let registry = registry_of(alloc)?;
+    let registry = registry_of(alloc, SAMPLE)?;
     let mut rows = RowText::new(alloc);
     if rows.add_header(HashKind::Md5).is_err() {
         assert!(rt; rows.len() == 0);

@@ -1,6 +1,6 @@
 //! The example of crates/droid_export/README.md.
 
-use crate::nodes::{folder, message};
+use crate::export::nodes::{folder, message};
 use droid_export::export_text;
 use droid_frame::{Criteria, Criterion, Filter, HashKind, NodeKind};
 use droid_pronom::Registry;

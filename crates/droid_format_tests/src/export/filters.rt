@@ -3,7 +3,7 @@
 ghost use Rattle.std.specs.Prelude.{IfOk};
 ghost use Rattle.droid_export.specs.Text.{HaveMoments};
 
-use crate::nodes::{Identified, MD5_OF_NOTHING, file, folder, message, texts};
+use crate::export::nodes::{Identified, MD5_OF_NOTHING, file, folder, message, texts};
 use droid_export::{export_text, meets};
 use droid_frame::{Criteria, Criterion, Filter, HashKind, Method, NodeKind, Record};
 use droid_pronom::Registry;

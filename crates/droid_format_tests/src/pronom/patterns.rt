@@ -1,46 +1,8 @@
-//! Patterns, without a registry.
+//! Patterns, without a registry. (Texts that are no pattern stand in tests/program/registry_rows.)
 
 use droid_pronom::{Pattern, PatternFault};
 use std::alloc::Global;
 use std::test::Fail;
-
-/// Texts that are not patterns.
-const BAD: [&str; 34] = [
-    "",
-    "6",
-    "616",
-    "6g",
-    "?",
-    "{4}",
-    "*",
-    "{2}*",
-    "{1-*}",
-    "{}61",
-    "{a}61",
-    "{-2}61",
-    "{2-}61",
-    "{3-2}61",
-    "{65536}61",
-    "{000001}61",
-    "{1-65536}61",
-    "{1-**}61",
-    "{161",
-    "[62:61]",
-    "[61]",
-    "[61:]",
-    "[61-62]",
-    "[!61:62]",
-    "[!6]",
-    "[61:62",
-    "(61|)",
-    "()",
-    "(|61)",
-    "(61",
-    "(6|61)",
-    "((61))",
-    "61 62",
-    "'61'",
-];
 
 /// A pattern, bytes, and whether a match begins at the first byte and whether one ends after the last.
 const MATCHES: [(&str, &[u8], bool, bool); 41] = [
@@ -86,19 +48,6 @@ const MATCHES: [(&str, &[u8], bool, bool); 41] = [
     ("61*", b"zza", false, true),
     ("61{00000}", b"a", true, true),
 ];
-
-#[test]
-fn texts_that_are_no_pattern(rt: HostRuntime) {
-    for text in &BAD {
-        assert!(rt;
-            matches!(
-                Pattern::read(rt.alloc(), text),
-                Err(PatternFault::BadPattern)
-            ),
-            "at {text}"
-        );
-    }
-}
 
 /// Returns whether a match begins at the first byte, and whether one ends after the last.
 fn ends_of(alloc: Global, text: &str, bytes: &[u8]) -> Result<(bool, bool), PatternFault> {

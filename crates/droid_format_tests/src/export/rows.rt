@@ -1,7 +1,7 @@
 //! Rows of records that no script can make, byte by byte.
 
-use crate::columns::HEADER;
-use crate::nodes::{Identified, MD5_OF_NOTHING, everything, file, folder};
+use crate::export::columns::HEADER;
+use crate::export::nodes::{Identified, MD5_OF_NOTHING, everything, file, folder};
 use droid_export::{export_text, text_is_read_back};
 use droid_frame::{HashKind, Method, Record, Text};
 use droid_pronom::Registry;

@@ -3,12 +3,11 @@
 ghost use Rattle.std.specs.Prelude.{IfOk};
 ghost use Rattle.droid_export.specs.Text.{HaveMoments};
 
-use crate::nodes::{everything, folder, message};
+use crate::export::nodes::{everything, folder, message};
 use droid_export::{ExportFault, export, export_text};
 use droid_frame::{Blob, HashKind, Noted, Record};
-use droid_testing::{Manner, STEADY, ShakyWriter, Stop};
 use droid_pronom::Registry;
-use droid_testing::SAMPLE;
+use droid_testing::{Manner, SAMPLE, STEADY, ShakyWriter, Stop};
 use std::alloc::{AllocError, Global};
 use std::test::Fail;
 
