@@ -36,9 +36,16 @@ TESTS = {
     "droid_wire_tests": ["memory::each_growth_of_serving"],
     "droid_wire_turns_tests": ["memory::each_growth_of_turns"],
     "droid_store_tests": ["memory::each_growth_of_the_store"],
-    "droid_fixity_manifest_tests": ["growths::each_growth_of_a_list", "growths::each_growth_of_a_manifest", "growths::each_growth_of_a_text"],
-    "droid_profile_tests": ["memory::each_allocation"],
-    "droid_fixity_tests": ["memory::each_growth_of_a_report", "memory::each_growth_of_a_list", "memory::each_growth_of_a_profile"],
+    "droid_folder_tests": [
+        "lists::memory::each_growth_of_a_report",
+        "lists::memory::each_growth_of_a_list",
+        "lists::memory::each_growth_of_a_profile",
+        "manifests::memory::each_growth_of_a_list",
+        "manifests::memory::each_growth_of_a_manifest",
+        "manifests::memory::each_growth_of_a_text",
+        "profiles::memory::each_allocation",
+        "verify::memory::each_allocation",
+    ],
 }
 # with fewer allocations, the library did not count them
 FEWEST = 3

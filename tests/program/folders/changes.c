@@ -4,10 +4,13 @@
  *   EXCHANGED_LOOK    counted from 1, or where the number is 0, before it opens the file for the first time,
  *   EXCHANGED_BY      this path is renamed
  *   EXCHANGED_TO      to this one
- *   EXCHANGED_BOTH    and what is there to the first one */
+ *   EXCHANGED_BOTH    and what is there to the first one
+ *   UNOPENED          no file or folder of these names, which have a `/` between them, can be opened
+ *   SHORTENED         a look at the file of this name finds a byte less */
 #define _GNU_SOURCE
 #include <dirent.h>
 #include <dlfcn.h>
+#include <errno.h>
 #include <fcntl.h>
 #include <stdarg.h>
 #include <stdio.h>
@@ -27,6 +30,19 @@ static const char *text(const char *name) {
 static int has_name(const char *path, const char *name) {
     const char *last = strrchr(path, '/');
     return *name && strcmp(last ? last + 1 : path, name) == 0;
+}
+
+/* whether a name is among those that have a `/` between them */
+static int is_among(const char *path, const char *names) {
+    const char *last = strrchr(path, '/');
+    const char *name = last ? last + 1 : path;
+    size_t length = strlen(name);
+    while (*names) {
+        size_t next = strcspn(names, "/");
+        if (next == length && strncmp(names, name, next) == 0) return 1;
+        names += next + (names[next] == '/');
+    }
+    return 0;
 }
 
 static void exchange(void) {
@@ -55,12 +71,18 @@ int statx(int folder, const char *path, int flags, unsigned mask, struct statx *
     int (*real)(int, const char *, int, unsigned, struct statx *) =
         (int (*)(int, const char *, int, unsigned, struct statx *))dlsym(RTLD_NEXT, "statx");
     if (has_name(path, text("EXCHANGED")) && ++looks == atol(text("EXCHANGED_LOOK"))) exchange();
-    return real(folder, path, flags, mask, found);
+    int result = real(folder, path, flags, mask, found);
+    if (result == 0 && has_name(path, text("SHORTENED"))) found->stx_size--;
+    return result;
 }
 
 static int open_by(const char *name, int folder, const char *path, int flags, mode_t mode) {
     int (*real)(int, const char *, int, ...) = (int (*)(int, const char *, int, ...))dlsym(RTLD_NEXT, name);
     if (has_name(path, text("EXCHANGED")) && atol(text("EXCHANGED_LOOK")) == 0) exchange();
+    if (is_among(path, text("UNOPENED"))) {
+        errno = EACCES;
+        return -1;
+    }
     return real(folder, path, flags, mode);
 }
 

@@ -45,6 +45,15 @@ class Reads(InFolder):
         for number, path in (*((number, b"/a.bin") for number in range(1, 5)), (1, b"/b.txt"), (1, b"/c.txt")):
             self.skipped(path, PREAD_OF=path[1:], PREAD_FAILS=str(number))
 
+    def test_failed_in_one_of_two_files(self):
+        # a file that takes two reads, and one that takes one
+        self.top = self.work + b"/two"
+        os.mkdir(self.top)
+        self.file(b"/long", b"x" * 70_000)
+        self.file(b"/short", b"a")
+        for number, path in ((1, b"/long"), (2, b"/long"), (1, b"/short")):
+            self.skipped(path, PREAD_OF=path[1:], PREAD_FAILS=str(number))
+
 
 if __name__ == "__main__":
     unittest.main()

@@ -38,6 +38,24 @@ class Trees(InFolder):
         self.assertEqual(lines(err, b"folders and files: "), [str(len(rows)).encode()])
         self.assertEqual(lines(err, b"bytes read: "), [str(sum(int(row["SIZE"] or 0) for row in rows)).encode()])
 
+    def test_order(self):
+        """Folders come before what they contain, and siblings in the order of their names' bytes."""
+        for path in (b"/b", b"/Zz/inside"):
+            self.folder(path)
+        for path in (b"/aaaa", b"/b/y2345", b"/b/x"):
+            self.file(path)
+        fronts = [
+            b'"1","","file:/Zz/",',
+            b'"2","","file:/aaaa",',
+            b'"3","","file:/b/",',
+            b'"4","1","file:/Zz/inside/",',
+            b'"5","3","file:/b/x",',
+            b'"6","3","file:/b/y2345",',
+        ]
+        status, out, _ = profile(self.top)
+        rows = out.splitlines()[1:]
+        self.assertEqual((status, [row[: len(front)] for row, front in zip(rows, fronts, strict=True)]), (0, fronts))
+
     def test_same_again(self):
         self.nested()
         first = profile(self.top)[1]

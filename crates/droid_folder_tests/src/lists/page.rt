@@ -1,0 +1,61 @@
+//! The examples of the pages README.md of droid_fixity, droid_fixity_lists and droid_fixity_profile.
+
+use crate::lists::profile_rows::NAMES;
+use droid_fixity::{Difference, Inventory, Item, compare};
+use droid_fixity_lists::read_profile;
+use droid_fixity_profile::{item_of_node, see_profile};
+use droid_frame::{Blob, HashValue, NodeKind};
+use std::test::Fail;
+
+#[test]
+fn example_of_fixity(rt: HostRuntime) -> Result<(), Fail> {
+    let alloc = rt.alloc();
+    let path = Blob::copy_of(alloc, b"/letter.txt")?;
+    let mut letter = Vec::new(alloc);
+    letter.push(Item {
+        path,
+        kind: NodeKind::File,
+        length: Some(5),
+        modified: None,
+        hash: HashValue::Nothing,
+    })?;
+    if let Ok(listed) = Inventory::of(letter) {
+        if let Ok(found) = Inventory::of(Vec::new(alloc)) {
+            let report = compare(alloc, &listed, &found)?;
+            assert!(rt; report.len() == 1 && report[0] == Difference::Missing { listed: 0 });
+        }
+    }
+    Ok(())
+}
+
+#[test]
+fn example_of_lists(rt: HostRuntime) -> Result<(), Fail> {
+    let alloc = rt.alloc();
+    let csv = format!(in alloc;
+        "{NAMES}1,,u,/letter.txt,letter.txt,,Done,5,File,txt,,false,,0,,,,\n"
+    )?;
+    let items = read_profile(alloc, csv.as_bytes())?;
+    assert!(rt; items.len() == 1 && items[0].length == Some(5));
+    Ok(())
+}
+
+#[test]
+fn example_of_a_profile(rt: HostRuntime) -> Result<(), Fail> {
+    let alloc = rt.alloc();
+    let letter = item_of_node(
+        alloc,
+        "/letter.txt",
+        NodeKind::File,
+        5,
+        0,
+        HashValue::Nothing,
+    )?;
+    let mut submitted = Vec::new(alloc);
+    if let Some(letter) = letter {
+        submitted.push(letter)?;
+    }
+    let seen = see_profile(alloc, submitted, NAMES.as_bytes())?;
+    let report = &seen.differences;
+    assert!(rt; report.len() == 1 && report[0] == Difference::New { found: 0 });
+    Ok(())
+}
