@@ -2,8 +2,8 @@
 """Holds crates.txt, the map, to the crates' own files: map.py. `make quick` begins with it.
 
 - A crate's line names the libraries that its own files name, and no other.
-- Of another family it names the head alone, but for what stands in BELOW_HEADS. Tests may also name what tests share,
-  and the libraries of a family whose head is a program.
+- Of another family it names the head alone, but for what stands in BELOW_HEADS. Crates of tests go by subject, and may name
+  any library.
 - The program stands on few libraries, few paths lead down from it, and the gate tries few wrong bodies.
 """
 import glob
@@ -13,12 +13,10 @@ import shutil
 import sys
 
 import crates
-from crates import below, edits_of, folder, listed, named, paths, read
+from crates import below, edits_of, listed, named, paths, read
 
 PROGRAM = "droid_desk"
 FAMILIES = ["droid_frame", "droid_lanes", "droid_hash", "droid_scan", "droid_pronom", "droid_xml", "droid_signature", "droid_assembly", "droid_store", "droid_export", "droid_fixity", "droid_page", "droid_report", "droid_core", "droid_wire", "droid_journal", "droid_tree", "droid_profile", "droid_lines", "droid_desk"]
-# a program that is no part of the family whose first words it has
-ALONE = ["droid_desk_bench"]
 # what a crate may name in the place of a head: a sender needs no service, and isn't proved only after one; and only the
 # service for many connections is fed
 BELOW_HEADS = {
@@ -27,7 +25,6 @@ BELOW_HEADS = {
     "droid_wire_journal": ["droid_journal_chain", "droid_journal_service"],
     "droid_journal_recovery": ["droid_core_revival"],
     "droid_journal_smaller": ["droid_core_revival"],
-    "droid_core_tests": ["droid_lines_script"],
     "droid_profile_rows": ["droid_core_spec"],
     "droid_profile_spec": ["droid_core_spec"],
     "droid_profile": ["droid_core_spec"],
@@ -49,14 +46,14 @@ BELOW_HEADS = {
     "droid_desk_service": ["droid_lines_script", "droid_lines_send", "droid_pronom_common", "droid_wire_net"],
 }
 # what tests share
-SHARED = ["droid_frame_shaky", "droid_frame_vectors", "droid_pronom_sample"]
+SHARED = "droid_testing"
 # the kit's libraries that are named as std or a module of it: only a line tells that one of them is meant
 AS_IN_STD = {"std", "core", "io", "os", "libc", "bytes"}
 # `rt` sums up the sources of a crate once for each path to it, at every call
 MOST_PATHS = 1500
 MOST_LIBRARIES = 86
 # each costs the gate a check of its crate
-MOST_EDITS = 45
+MOST_EDITS = 39
 
 
 def libraries():
@@ -96,22 +93,21 @@ def wrong_line(crate, known):
 
 def family(crate):
     """The head of its family."""
-    heads = [head for head in ALONE + FAMILIES if f"{crate}_".startswith(f"{head}_")]
+    heads = [head for head in FAMILIES if f"{crate}_".startswith(f"{head}_")]
     return heads[0] if heads else None
 
 
-def may_name(crate, low):
-    head = family(low)
-    has_no_surface = head and os.path.isfile(os.path.join(folder(head), "src", "main.rt"))
-    for_tests = crate.endswith("_tests") and (low in SHARED or has_no_surface)
-    return low == head or head == family(crate) or for_tests or low in BELOW_HEADS.get(crate, [])
+def is_of_tests(crate):
+    return crate == SHARED or crate.endswith("_tests")
 
 
 def wrong_families(crate):
+    if is_of_tests(crate):
+        return
     if not family(crate):
         yield f"{crate}: its name begins with no family's"
     for low in named()[crate]:
-        if not may_name(crate, low):
+        if low != family(low) and family(low) != family(crate) and low not in BELOW_HEADS.get(crate, []):
             yield f"{crate}: of another family it may name the head {family(low)}, and not {low}"
 
 
