@@ -1,21 +1,15 @@
-//! Tests of frames. They use only the public calls of `droid_frame`.
+//! Tests of frames as bytes, values and streams, of the queue of replies and of the client's end, over public calls alone.
 #![tactic(auto)]
 
 #[cfg(test)]
-mod example;
+mod client;
 #[cfg(test)]
-mod faults;
+mod feed;
 #[cfg(test)]
-mod filters;
+mod frames;
 #[cfg(test)]
-mod lists;
+mod queue;
 #[cfg(test)]
-mod memory;
+mod stream_bytes;
 #[cfg(test)]
-mod replies;
-#[cfg(test)]
-mod reply_bodies;
-#[cfg(test)]
-mod request_texts;
-#[cfg(test)]
-mod requests;
+mod streams;

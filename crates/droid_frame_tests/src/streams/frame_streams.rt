@@ -1,8 +1,11 @@
 //! Frames on streams: whole, in pieces, cut short, and with headers that are refused.
 
+use crate::stream_bytes::{REFUSED, header, stream_of_all};
 use droid_frame::{Arrival, FrameFault, WriteFault, body_limit, read_frame, write_frame};
-use droid_testing::{BYTE_BY_BYTE, Manner, STEADY};
-use droid_testing::{VECTORS, Vector, body_of, comes, fault_of, frame_of, is_end, reader_of};
+use droid_testing::{
+    BYTE_BY_BYTE, Manner, STEADY, VECTORS, Vector, body_of, comes, fault_of, frame_of, is_end,
+    reader_of,
+};
 use std::alloc::Global;
 use std::process::Abort;
 use std::test::Fail;
@@ -44,10 +47,7 @@ fn each_whole_and_cut(rt: &impl Abort, alloc: Global, vectors: &[Vector], manner
 // One after another: each read leaves the next frame.
 #[test]
 fn read_in_turn(rt: HostRuntime) -> Result<(), Fail> {
-    let mut stream = Vec::new(rt.alloc());
-    for vector in &VECTORS {
-        stream.extend_from_slice(vector.bytes)?;
-    }
+    let stream = stream_of_all(rt.alloc())?;
     for manner in [STEADY, BYTE_BY_BYTE] {
         assert!(rt; each_in_turn(rt.alloc(), stream.as_slice(), &VECTORS, manner));
     }
@@ -64,34 +64,20 @@ fn each_in_turn(alloc: Global, stream: &[u8], vectors: &[Vector], manner: Manner
     is_end(alloc, &mut reader)
 }
 
-/// Versions and lengths of bodies in headers, and the fault of each. The version is judged before the length, and the
-/// end of the bytes before both.
-const REFUSED: [(u8, u32, FrameFault); 13] = [
-    (1, 1_048_641, FrameFault::TooLong),
-    (1, 4_194_368, FrameFault::TooLong),
-    (1, 0xffff_ffff, FrameFault::TooLong),
+/// Versions and lengths of bodies in headers behind which the bytes end. None of these is too long.
+const ALONE: [(u8, u32, FrameFault); 3] = [
     (1, 1_048_640, FrameFault::Truncated),
     (2, 1_048_641, FrameFault::Truncated),
     (2, 4_194_368, FrameFault::Truncated),
-    (2, 4_194_369, FrameFault::TooLong),
-    (2, 0xffff_ffff, FrameFault::TooLong),
-    (0, 1, FrameFault::BadVersion),
-    (3, 1, FrameFault::BadVersion),
-    (9, 0, FrameFault::BadVersion),
-    (3, 4_194_369, FrameFault::BadVersion),
-    (0, 0xffff_ffff, FrameFault::BadVersion),
 ];
 
-/// Returns a header with these fields, of client 1 and number 1.
-fn header(version: u8, length: u32) -> [u8; 18] {
-    let [a, b, c, d] = length.to_be_bytes();
-    [version, 5, 0, 0, 0, 1, 0, 0, 0, 0, 0, 0, 0, 1, a, b, c, d]
-}
-
+// The end of the bytes within a header is judged before its version and length.
 #[test]
 fn headers_refused(rt: HostRuntime) {
-    each_refused(&rt, rt.alloc(), &REFUSED, STEADY);
-    each_refused(&rt, rt.alloc(), &REFUSED, BYTE_BY_BYTE);
+    for manner in [STEADY, BYTE_BY_BYTE] {
+        each_refused(&rt, rt.alloc(), &REFUSED, manner);
+        each_refused(&rt, rt.alloc(), &ALONE, manner);
+    }
 }
 
 fn each_refused(rt: &impl Abort, alloc: Global, refused: &[(u8, u32, FrameFault)], manner: Manner) {

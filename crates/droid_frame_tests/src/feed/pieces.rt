@@ -1,9 +1,10 @@
 //! Frames that come in pieces of every length.
 
+use crate::stream_bytes::stream_of_all;
 use droid_frame::{Frame, FrameFault};
 use droid_frame_feed::{Fed, FrameFeed};
 use droid_testing::{VECTORS, Vector, body_of};
-use std::alloc::{AllocError, Global};
+use std::alloc::Global;
 use std::test::Fail;
 
 /// Returns whether this is the frame of the vector.
@@ -128,15 +129,6 @@ fn count_by_width(
     } else {
         None
     }
-}
-
-/// Returns all vectors, one after another.
-fn stream_of_all(alloc: Global) -> Result<Vec<u8>, AllocError> {
-    let mut stream = Vec::new(alloc);
-    for vector in &VECTORS {
-        stream.extend_from_slice(vector.bytes)?;
-    }
-    Ok(stream)
 }
 
 // All vectors, in pieces of many widths.

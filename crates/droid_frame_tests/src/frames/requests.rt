@@ -1,6 +1,6 @@
 //! Requests, from bytes to values and back, and malformed requests.
 
-use crate::request_texts::is_shown_as;
+use crate::frames::request_texts::is_shown_as;
 use droid_frame::{
     Blob, BodyFault, Frame, HashKind, NUMBER_LIMIT, Request, mark, request_frame, request_of,
 };

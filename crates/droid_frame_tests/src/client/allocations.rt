@@ -2,7 +2,8 @@
 //! Out of memory: a request that was not submitted and a reply that was not taken leave the client unchanged, and the
 //! same call again succeeds.
 
-use droid_frame::{Blob, Frame, Refusal, Reply, Request};
+use droid_frame::{Frame, Refusal, Reply, Request};
+use droid_testing::frame;
 use droid_wire_client::{Client, HearFault, Heard, SubmitFault};
 use std::alloc::{AllocError, Global};
 use std::process::Abort;
@@ -20,26 +21,16 @@ const FINISHED_2: [u8; 43] = [
 ];
 
 // A reply to the first request in a version.
-fn reply(alloc: Global, version: u8, kind: u8, body: &[u8]) -> Result<Frame, AllocError> {
-    Ok(Frame {
-        version,
-        kind,
-        client: 1,
-        number: 1,
-        body: Blob::copy_of(alloc, body)?,
-    })
-}
-
 fn finished(alloc: Global, version: u8) -> Result<Frame, AllocError> {
     match version {
-        1 => reply(alloc, version, 132, &FINISHED),
-        _ => reply(alloc, version, 132, &FINISHED_2),
+        1 => frame(alloc, version, 132, 1, &FINISHED),
+        _ => frame(alloc, version, 132, 1, &FINISHED_2),
     }
 }
 
-// A refusal for memory.
+// A refusal of that request for memory.
 fn refusal(alloc: Global, version: u8) -> Result<Frame, AllocError> {
-    reply(alloc, version, 136, &[18])
+    frame(alloc, version, 136, 1, &[18])
 }
 
 fn finish() -> Request {

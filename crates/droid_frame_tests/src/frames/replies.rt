@@ -3,7 +3,7 @@
 ghost use Rattle.droid_frame.specs.Replies.{HasReplySpelling};
 ghost use Rattle.droid_frame.specs.Versions.{IsVersion};
 
-use crate::faults::is_shown;
+use crate::frames::fault_texts::is_shown;
 use droid_frame::{
     Arrival, Frame, HashValue, Method, NodeKind, Record, Reply, Text, Texts, read_frame,
     reply_body, reply_of, write_reply,

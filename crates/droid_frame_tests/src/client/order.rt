@@ -1,6 +1,7 @@
 //! Many requests in both versions, whose answers arrive in another order.
 
-use droid_frame::{Blob, Frame, Reply, Request};
+use crate::client::reply_frames::versioned;
+use droid_frame::{Frame, Reply, Request};
 use droid_wire_client::{Client, Heard};
 use std::alloc::{AllocError, Global};
 use std::process::Abort;
@@ -21,13 +22,8 @@ fn version_of(number: u64) -> u8 {
 
 fn progress(alloc: Global, number: u64) -> Result<Frame, AllocError> {
     let held = (number % 256) as u8;
-    Ok(Frame {
-        version: version_of(number),
-        kind: 134,
-        client: 3,
-        number,
-        body: Blob::copy_of(alloc, &[0, 0, 0, held, 0, 0, 0, 0])?,
-    })
+    let body = [0, 0, 0, held, 0, 0, 0, 0];
+    versioned(alloc, version_of(number), (3, number, 134, &body))
 }
 
 fn submit_all(rt: &impl Abort, client: &mut Client) {

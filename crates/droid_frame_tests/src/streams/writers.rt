@@ -1,6 +1,6 @@
 //! Writers that are interrupted or stop, how writing ends over them, and what they took.
 
-use crate::interruptions::with_places;
+use crate::streams::interruptions::with_places;
 use droid_frame::WriteFault;
 use droid_testing::{Place, ShakyWriter, Stop};
 use std::alloc::Global;

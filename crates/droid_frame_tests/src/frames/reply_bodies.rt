@@ -1,6 +1,6 @@
 //! Bodies of replies at and over their limits, and malformed bodies.
 
-use crate::replies::{MD5_OF_NOTHING, reply_with};
+use crate::frames::replies::{MD5_OF_NOTHING, reply_with};
 use droid_frame::{BodyFault, PART_LIMIT, Reply, reply_of};
 use droid_testing::{VECTORS, Vector, body_of, frame};
 use std::alloc::Global;

@@ -1,16 +1,15 @@
 //! Reading and writing over streams: buffers, inputs and texts that are interrupted, fail or are too long.
 
-use crate::interruptions::{is_seen, with_places};
-use crate::writers::ended;
+use crate::streams::interruptions::{is_seen, with_places};
+use crate::streams::writers::ended;
 use droid_frame::{
     Condition, InputFault, Noted, ReadFault, Retries, Seen, SteadyRead, WriteFault, WriteState,
     read_some, read_to_end, write_all,
 };
-use droid_testing::{
-    BYTE_BY_BYTE, Manner, NOWHERE, Place, STEADY, ShakyReader, ShakyWriter, Stop,
-};
 use droid_frame_stream::fill;
-use droid_testing::reader_of;
+use droid_testing::{
+    BYTE_BY_BYTE, Manner, NOWHERE, Place, STEADY, ShakyReader, ShakyWriter, Stop, reader_of,
+};
 use std::alloc::{AllocError, Global};
 use std::io::{Write, sink};
 use std::process::Abort;

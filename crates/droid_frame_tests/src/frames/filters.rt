@@ -1,6 +1,6 @@
 //! Malformed filters, and filters at and over their limits.
 
-use crate::requests::{EVERY_TAG, is_malformed};
+use crate::frames::requests::{EVERY_TAG, is_malformed};
 use droid_frame::{Criteria, Criterion, Filter, Request, Text, Texts, request_frame, request_of};
 use std::alloc::{AllocError, Global};
 use std::process::Abort;

@@ -1,10 +1,12 @@
 //! Replies over writers that are interrupted or fail.
 
-use crate::interruptions::{Row, once_more};
-use crate::writers::{ended, interrupted, took};
+use crate::streams::interruptions::{Row, once_more};
+use crate::streams::writers::{ended, interrupted, took};
 use droid_frame::{Arrival, Condition, Noted, WriteFault, read_frame, reply_of, write_reply};
-use droid_testing::{BYTE_BY_BYTE, Manner, NOWHERE, Place, STEADY, ShakyWriter, Stop};
-use droid_testing::{FINISHED, FINISHED_WITH_SHA256, MADE, NODES_REACHED};
+use droid_testing::{
+    BYTE_BY_BYTE, FINISHED, FINISHED_WITH_SHA256, MADE, Manner, NODES_REACHED, NOWHERE, Place,
+    STEADY, ShakyWriter, Stop,
+};
 use std::alloc::Global;
 use std::process::Abort;
 

@@ -1,10 +1,12 @@
 //! Frames over streams that are interrupted or fail.
 
-use crate::interruptions::{Row, is_seen, once_more, with_places};
-use crate::writers::{ended, interrupted, took};
+use crate::streams::interruptions::{Row, is_seen, once_more, with_places};
+use crate::streams::writers::{ended, interrupted, took};
 use droid_frame::{Condition, FrameFault, Noted, WriteFault, body_limit, write_frame};
-use droid_testing::{BYTE_BY_BYTE, Manner, NOWHERE, STEADY, ShakyReader, ShakyWriter, Stop};
-use droid_testing::{FOLDER, VECTORS, Vector, comes, fault_of, frame_of, is_end, reader_of};
+use droid_testing::{
+    BYTE_BY_BYTE, FOLDER, Manner, NOWHERE, STEADY, ShakyReader, ShakyWriter, Stop, VECTORS, Vector,
+    comes, fault_of, frame_of, is_end, reader_of,
+};
 use std::alloc::Global;
 use std::process::Abort;
 use std::test::Fail;

@@ -1,27 +1,9 @@
 //! Headers that are refused.
 
+use crate::stream_bytes::{REFUSED, header};
 use droid_frame::FrameFault;
 use droid_frame_feed::FrameFeed;
 use std::alloc::Global;
-
-/// Versions and lengths of bodies in headers, and the fault of each. The version is judged before the length.
-const REFUSED: [(u8, u32, FrameFault); 9] = [
-    (1, 1_048_641, FrameFault::TooLong),
-    (1, 4_194_368, FrameFault::TooLong),
-    (1, 0xffff_ffff, FrameFault::TooLong),
-    (2, 4_194_369, FrameFault::TooLong),
-    (2, 0xffff_ffff, FrameFault::TooLong),
-    (0, 1, FrameFault::BadVersion),
-    (3, 1, FrameFault::BadVersion),
-    (9, 0, FrameFault::BadVersion),
-    (0, 0xffff_ffff, FrameFault::BadVersion),
-];
-
-/// Returns a header with these fields, of client 1 and number 1.
-fn header(version: u8, length: u32) -> [u8; 18] {
-    let [a, b, c, d] = length.to_be_bytes();
-    [version, 5, 0, 0, 0, 1, 0, 0, 0, 0, 0, 0, 0, 1, a, b, c, d]
-}
 
 /// Returns whether the call reports the fault.
 fn fails(feed: &mut FrameFeed, piece: &[u8], fault: FrameFault) -> bool {

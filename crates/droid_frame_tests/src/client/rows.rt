@@ -1,12 +1,10 @@
 //! One request and the replies that arrive for it, step by step. The bodies are those of the format.
 
-use droid_frame::{Blob, Frame, HashKind, Refusal, Reply, Request};
+use crate::client::reply_frames::{Arriving, versioned};
+use droid_frame::{Frame, HashKind, Refusal, Reply, Request};
 use droid_wire_client::{Client, HearFault, Heard, SubmitFault};
 use std::alloc::{AllocError, Global};
 use std::test::Fail;
-
-/// A reply frame: the client and the number of the request, the kind and the body of the reply.
-type Arriving<'a> = (u32, u64, u8, &'a [u8]);
 
 const MADE: u8 = 129;
 
@@ -16,17 +14,6 @@ const REFUSED: u8 = 136;
 
 fn frame(alloc: Global, arriving: Arriving) -> Result<Frame, AllocError> {
     versioned(alloc, 1, arriving)
-}
-
-fn versioned(alloc: Global, version: u8, arriving: Arriving) -> Result<Frame, AllocError> {
-    let (client, number, kind, body) = arriving;
-    Ok(Frame {
-        version,
-        kind,
-        client,
-        number,
-        body: Blob::copy_of(alloc, body)?,
-    })
 }
 
 fn create() -> Request {

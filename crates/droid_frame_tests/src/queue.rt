@@ -1,4 +1,4 @@
-//! Connections that take few bytes at a time.
+//! The queue of replies, over connections that take few bytes at a time.
 
 use droid_frame::{Arrival, read_frame, reply_of};
 use droid_testing::{
