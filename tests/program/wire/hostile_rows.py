@@ -6,7 +6,8 @@ from struct import pack
 
 from lib.connections import connect, read_until_reset, send_until_reset
 from lib.frames import HEADER, LARGEST_FILE, LARGEST_PART, LIMITS, MADE, MOST_PIECES, NODE, PART, REFUSED, TAKEN
-from lib.frames import export_body, file_body, folder_body, frame, in_version, numbers, piece_body, profile_body
+from lib.frames import export_body, file_body, folder_body, frame, in_version, node_body, numbers, piece_body
+from lib.frames import profile_body, refusal
 from lib.program import Serve, run
 from lib.rows import COLUMNS, folder_row
 
@@ -29,6 +30,7 @@ def rows(largest):
     return [
         ("the last number", 1, LAST_NUMBER, profile_body(), MADE, numbers(1)),
         ("a number past the last", 1, LAST_NUMBER + 1, profile_body(), REFUSED, b"\1"),
+        ("a number past the last, of another kind", 5, LAST_NUMBER + 1, node_body(2), REFUSED, b"\1"),
         ("the highest number", 1, 2**64 - 1, profile_body(), REFUSED, b"\1"),
         ("the longest name", 2, 2, folder_body(LONGEST_NAME), NODE, numbers(1)),
         ("a name of a byte more", 2, 3, folder_body(LONGEST_NAME + b"n"), REFUSED, b"\7"),
@@ -55,18 +57,56 @@ def rows(largest):
 
 # malformed bodies of CreateProfile: no truth value, no hash, a byte too few, a byte too many, and in each version
 # what is a profile in the other
-MALFORMED = {
+PROFILES = {
     1: ["00010000 02", "00010000", "00010000 00 00", "00010000 00 01", "00010000 00 02"],
-    2: ["00010000 02 01", "00010000 00 03", "00010000 00 ff", "00010000 00", "00010000 01", "00010000 00 01 00"],
+    2: ["00010000 02", "00010000 02 01", "00010000 00 03", "00010000 00 ff", "00010000 00", "00010000 01", "00010000 00 01 00"],
 }
+# kinds and malformed bodies of both versions: a byte less than the shortest, a byte too many, a name that isn't UTF-8,
+# unknown kinds, and kinds of replies
+MALFORMED = [
+    (2, "00000001 00000000 00000000000000"),
+    (3, "00000001 00000002 ffffffffffffffff 000000000000000e 000000"),
+    (4, "00000001 00000001 000000"),
+    *((kind, "00000001 000000") for kind in (5, 6, 7)),
+    (8, "00000001 0000000000000000 00100000 01 01 07"),
+    *((kind, "00000001 00000002 00") for kind in (5, 6, 7)),
+    (2, "00000001 00000000 0000000000000000 ff"),
+    (0, ""),
+    (9, "00000001 00000002"),
+    (129, "00000001"),
+    (133, ""),
+    (136, "02"),
+    (255, ""),
+]
+# malformed filters of an Export: none, no count, truth values of 2, a method of 3, a kind of 2, tags 0 and 8, too few
+# criteria, a list, a text and a number cut short, a text that isn't UTF-8, and a byte too many
+FILTERS = [
+    "", "01", "02 00", "01 01 04 02", "01 01 01 03", "01 01 07 02", "01 01 00 00", "01 01 08 00", "01 02 04 00",
+    "01 01 03 02 01 61", "01 01 03 01 02 61", "01 01 03 01 01 ff", "01 01 05 00000000000000", "01 00 00",
+]
+# the shortest bodies of four kinds, which are well formed: empty names, an empty piece, and a Status
+SHORTEST = [
+    (2, "00000001 00000000 0000000000000000"),
+    (3, "00000001 00000002 ffffffffffffffff 000000000000000e 00000004"),
+    (4, "00000001 00000001 00000003"),
+    (7, "00000001 00000002"),
+]
+
+
+def judged_by_their_bodies(version):
+    """Returns rows of a kind, a number, a body in hexadecimal, and why it is refused: it is malformed, or there is no
+    profile yet."""
+    malformed = [(1, body) for body in PROFILES[version]] + MALFORMED
+    malformed += [(8, f"00000001 0000000000000009 00000001 {text}") for text in FILTERS]
+    return [(kind, 1, body, 1) for kind, body in malformed] + [(kind, LAST_NUMBER, body, 3) for kind, body in SHORTEST]
 
 
 def frames(version):
     """Returns rows of a name, a frame and its reply."""
     found = []
-    for text in MALFORMED[version]:
-        request = frame(1, 1, 1, bytes.fromhex(text), version)
-        found.append((text, request, frame(REFUSED, 1, 1, b"\1", version)))
+    for kind, number, body, cause in judged_by_their_bodies(version):
+        request = frame(kind, 1, number, bytes.fromhex(body), version)
+        found.append((f"{kind} {body}", request, refusal(number, cause, version=version)))
     for name, kind, number, body, reply, reply_body in rows(LIMITS[version].piece):
         sides = frame(kind, 1, number, body), frame(reply, 1, number, reply_body)
         found.append((name, *(in_version(version, side) for side in sides)))

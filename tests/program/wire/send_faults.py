@@ -66,11 +66,52 @@ def nothing(client, number):
     return b""
 
 
-# bodies of Finished that are malformed in a version: those of the other version, an unknown hash, and a hash cut short
+# bodies of Finished that are malformed in a version: without a hash, those of the other version, unknown hashes, and
+# hashes cut short
 NO_FINISHED = {
-    1: [b"\0\0\0\0\0", b"\0\0\1" + bytes(16) + b"\0\0"],
-    2: [b"\0\0" + bytes(16) + b"\0\0", b"\0\0\3\0\0", b"\0\0\2" + bytes(31) + b"\0\0"],
+    1: [
+        b"\2\0\0\0",
+        *(front + b"\0\0\0" for front in (b"\0\0", b"\2\0")),
+        b"\0\0\1" + bytes(16) + b"\0\0",
+        b"\2\0\2" + b"\7" * 32 + b"\0\0",
+    ],
+    2: [
+        b"\0\0" + bytes(16) + b"\0\0",
+        b"\2\0" + b"\7" * 16 + b"\0\0",
+        *(front + b"\0\0" for front in (b"\0\0\3", b"\2\0\3", b"\2\0\xff")),
+        b"\0\0\2" + bytes(31) + b"\0\0",
+        b"\2\0\2" + b"\7" * 31 + b"\0\0",
+        b"\2\0\1" + b"\7" * 15 + b"\0\0",
+    ],
 }
+# kinds and bodies of replies, which were written by hand: of both versions, and Finished of each
+BODIES = [
+    (129, "00000001"), (130, "00000001"), (131, "00000001"), (133, ""), (134, "00000001 00000001"), (136, "01"), (136, "02"),
+    (136, "0a"), (136, "0f 00000001"), (136, "10 00000001"), (136, "11 02"),
+]
+FINISHED = {
+    1: ["02 00 d41d8cd98f00b204e9800998ecf8427e 0001 05 6465762f34"],
+    2: [
+        "02 00 02 e3b0c44298fc1c149afbf4c8996fb92427ae41e4649b934ca495991b7852b855 0001 05 6465762f34",
+        "02 00 01 d41d8cd98f00b204e9800998ecf8427e 0001 05 6465762f34",
+        "02 00 00 0001 05 6465762f34",
+    ],
+}
+# kinds of requests and unknown kinds, and bodies of each
+NO_KINDS = [*range(9), 128, 137, 255]
+ANY_BODIES = [b"", b"\0\0\0\1", b"\0\1\0\0\0", bytes(8), bytes(20)]
+# numbers of no refusal and of no limit
+NO_NUMBERS = [b"\0", b"\x14", b"\xff", b"\x11\0", b"\x11\4", b"\x11\xff"]
+
+
+def no_replies(version):
+    """Returns kinds and malformed bodies of replies in a version: each with any number of bytes less and with a byte more,
+    of kinds that no reply has, and with numbers that no refusal has. (A Part may be longer.)"""
+    whole = [(kind, bytes.fromhex(body)) for kind, body in BODIES + [(132, body) for body in FINISHED[version]]]
+    shorter = [(kind, body[:count]) for kind, body in [*whole, (135, bytes(16))] for count in range(len(body))]
+    longer = [(kind, body + b"\0") for kind, body in whole]
+    of_no_kind = [(kind, body) for kind in NO_KINDS for body in ANY_BODIES]
+    return sorted({*shorter, *longer, *of_no_kind, *((136, body) for body in NO_NUMBERS)})
 
 
 def sent_in(version, request):
@@ -151,6 +192,14 @@ class Faults(unittest.TestCase):
                         lines = lines_in_version(version, CREATE + line)
                         received = self.ends(lines, answers, printed, fault, closes=closes, version=version)
                         self.assertEqual(received, [sent_in(version, sent) for sent in (CREATED, second)][: len(replies)])
+
+    def test_malformed_replies(self):
+        for version in LIMITS:
+            for kind, body in no_replies(version):
+                with self.subTest(version=version, kind=kind, body=body):
+                    answer = frame(kind, 7, 1, body, version)
+                    lines = lines_in_version(version, CREATE)
+                    self.ends(lines, [lambda *of, answer=answer: answer], b"", "Malformed", version=version)
 
     def test_numbers_used_up(self):
         last = 2**63 - 1

@@ -9,8 +9,9 @@ from lib.rows import COLUMNS, folder_row
 
 # the largest part of an export, and the length of a line
 MEBIBYTE = 1_048_576
-# the bytes of a Piece's body before the piece
-PIECE_FIELDS = 12
+# lengths of pieces, and the versions whose frames hold them: the largest piece of version 1, and the bytes that a body
+# of each version has room for
+HELD = [(1_048_576, (1, 2)), (1_048_628, (1, 2)), (1_048_629, (2,)), (4_194_356, (2,)), (4_194_357, ())]
 LINES = 1_500
 
 
@@ -24,16 +25,16 @@ class SendSizes(unittest.TestCase):
             self.assertEqual(send(service.port, 7, lines), (0, printed, ""))
 
     def test_the_largest_pieces(self):
-        """The last two lines have as many bytes as a frame holds, and one more."""
+        """And pieces of other lengths, of an index that the file doesn't have."""
         for version, limits in LIMITS.items():
             content = bytes(range(256)) * (limits.piece // 256)
-            longest = limits.body - PIECE_FIELDS
             lines = [b"create 65536 0", b"file 1 0 0 %d %d x.bin" % (2 * limits.piece, limits.piece)]
             lines += [b"piece 1 1 %d " % index + content.hex().encode("ascii") for index in (1, 0)]
-            lines += [b"piece 1 1 0 " + b"61" * count for count in (longest, longest + 1)]
+            lines += [b"piece 1 1 2 " + b"61" * count for count, _ in HELD]
             lines += [b"finish 1 1", b""]
             digest = md5(content * 2).hexdigest().encode("ascii")
-            printed = b"made 1\nnode 1\ntaken 1\ntaken 2\nrefused 13\nbad line\nfinished none false %s -\n" % digest
+            answers = b"".join(b"refused 13\n" if version in versions else b"bad line\n" for _, versions in HELD)
+            printed = b"made 1\nnode 1\ntaken 1\ntaken 2\n%sfinished none false %s -\n" % (answers, digest)
             with self.subTest(version=version), Serve() as service:
                 ended = send(service.port, 7, lines_in_version(version, b"\n".join(lines)))
                 self.assertEqual(ended, (5, printed, ""))

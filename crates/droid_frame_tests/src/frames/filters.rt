@@ -1,48 +1,9 @@
-//! Malformed filters, and filters at and over their limits.
+//! Filters at and over their limits.
 
-use crate::frames::requests::{EVERY_TAG, is_malformed};
 use droid_frame::{Criteria, Criterion, Filter, Request, Text, Texts, request_frame, request_of};
 use std::alloc::{AllocError, Global};
 use std::process::Abort;
 use std::test::Fail;
-
-/// Malformed filters, after the fields profile, from and max: truth values of 2, a method of 3, a kind of 2, tags 0 and
-/// 8, too few criteria, a list and a text cut short, a text that is not UTF-8, one byte too many.
-const MALFORMED: [&[u8]; 14] = [
-    &[],
-    &[1],
-    &[2, 0],
-    &[1, 1, 4, 2],
-    &[1, 1, 1, 3],
-    &[1, 1, 7, 2],
-    &[1, 1, 0, 0],
-    &[1, 1, 8, 0],
-    &[1, 2, 4, 0],
-    &[1, 1, 3, 2, 1, 0x61],
-    &[1, 1, 3, 1, 2, 0x61],
-    &[1, 1, 3, 1, 1, 0xff],
-    &[1, 1, 5, 0, 0, 0, 0, 0, 0, 0],
-    &[1, 0, 0],
-];
-
-#[test]
-fn malformed(rt: HostRuntime) -> Result<(), Fail> {
-    each_malformed(&rt, rt.alloc(), &EVERY_TAG[..16], &MALFORMED)
-}
-
-fn each_malformed(
-    rt: &impl Abort,
-    alloc: Global,
-    front: &[u8],
-    filters: &[&[u8]],
-) -> Result<(), Fail> {
-    for filter in filters {
-        let mut body = Vec::from_slice(alloc, front)?;
-        body.extend_from_slice(filter)?;
-        assert!(rt; is_malformed(alloc, 8, 9, body.as_slice())?, "{filter:?}");
-    }
-    Ok(())
-}
 
 /// Makes a text of this many bytes.
 fn text(alloc: Global, len: usize) -> Result<String, AllocError> {

@@ -66,18 +66,27 @@ fn filters(rt: HostRuntime) -> Result<(), Fail> {
     Ok(())
 }
 
+fn are_numbers() -> bool {
+    Refusal::LimitReached(Limit::Nodes).number() == 17
+        && Limit::Nodes.number() == 2
+        && Method::Extension.number() == 2
+        && NodeKind::Folder.number() == 1
+        && HashKind::Nothing.number() == 0
+        && HashKind::Md5.number() == 1
+        && HashKind::Sha256.number() == 2
+}
+
+fn are_hashes() -> bool {
+    HashValue::Nothing.kind().number() == 0
+        && HashValue::Md5([0; 16]).kind().number() == 1
+        && HashValue::Sha256([0; 32]).kind().number() == 2
+        && HashValue::Nothing.as_slice().is_empty()
+        && HashValue::Md5([7; 16]).as_slice() == [7; 16].as_slice()
+        && HashValue::Sha256([9; 32]).as_slice() == [9; 32].as_slice()
+}
+
 #[test]
 fn numbers(rt: HostRuntime) {
-    assert!(rt; Refusal::LimitReached(Limit::Nodes).number() == 17);
-    assert!(rt; Limit::Nodes.number() == 2);
-    assert!(rt; Method::Extension.number() == 2);
-    assert!(rt; NodeKind::Folder.number() == 1);
-    assert!(rt; HashKind::Nothing.number() == 0 && HashKind::Md5.number() == 1);
-    assert!(rt; HashKind::Sha256.number() == 2);
-    assert!(rt; HashValue::Nothing.kind().number() == 0);
-    assert!(rt; HashValue::Md5([0; 16]).kind().number() == 1);
-    assert!(rt; HashValue::Sha256([0; 32]).kind().number() == 2);
-    assert!(rt; HashValue::Nothing.as_slice().is_empty());
-    assert!(rt; HashValue::Md5([7; 16]).as_slice() == [7; 16].as_slice());
-    assert!(rt; HashValue::Sha256([9; 32]).as_slice() == [9; 32].as_slice());
+    assert!(rt; are_numbers());
+    assert!(rt; are_hashes());
 }
