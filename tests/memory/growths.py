@@ -21,7 +21,6 @@ TESTS = {
         "script_memory::each_growth_of_a_script",
         "script_memory::each_growth_of_version_2",
     ],
-    "droid_assembly_tests": ["memory::each_growth_refused"],
     "droid_format_tests": [
         "pronom::memory::each_growth_of_a_registry",
         "pronom::memory::each_growth_of_a_search",
@@ -49,6 +48,7 @@ TESTS = {
         "profiles::memory::each_allocation",
         "verify::memory::each_allocation",
     ],
+    "droid_hash_tests": ["assembly::memory::each_growth_refused"],
 }
 # with fewer allocations, the library did not count them
 FEWEST = 3
@@ -87,7 +87,7 @@ class Growths(unittest.TestCase):
 
     def test_an_assembly_allocates_only_when_it_is_made(self):
         """The test that makes every call allocates as often as the one that makes none."""
-        with_calls, without = (count("droid_assembly_tests", f"memory::{test}") for test in ("each_growth_refused", "growths_without_calls"))
+        with_calls, without = (count("droid_hash_tests", f"assembly::memory::{test}") for test in ("each_growth_refused", "growths_without_calls"))
         self.assertEqual(with_calls, without)
 
 

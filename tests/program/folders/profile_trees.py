@@ -8,6 +8,11 @@ from lib.program import EVERYDAY
 from lib.trees import SKIPPED, InFolder, lines, profile, read, walk
 
 PIECE = 1 << 20
+# the digests of a million letters `a`, and their columns. SHA-256's is an example of FIPS 180-2
+MILLION = {
+    "md5": ("MD5_HASH", "7707d6ae4e027c70eea2a935c2296f21"),
+    "sha256": ("SHA256_HASH", "cdc76e5c9914fb9281a1c7e284d73e67f1809a48a497200e046d39ccc7112cd0"),
+}
 
 
 class Trees(InFolder):
@@ -96,6 +101,20 @@ class Trees(InFolder):
                 digest = row.pop(next(name for name in row if name.endswith("HASH")))
                 row[column] = digest if row["TYPE"] == "Folder" else self.digest(hash, row["FILE_PATH"])
             self.same(out, rows)
+
+    def test_a_million_letters(self):
+        """In sixteen files, twice as many as are read side by side. A shorter one before each lets them begin one after the
+        other."""
+        for number in range(16):
+            self.file(b"/%02d.a" % number, b"a" * 1_000 * number)
+            self.file(b"/%02d.million" % number, b"a" * 1_000_000)
+        for hash, (column, digest) in MILLION.items():
+            status, out, _ = profile(self.top, "--hash", hash)
+            rows = read(out)
+            self.assertEqual((status, len(rows)), (0, 32))
+            for row in rows:
+                due = digest if row["SIZE"] == "1000000" else self.digest(hash, row["FILE_PATH"])
+                self.assertEqual(row[column], due, row["FILE_PATH"])
 
     def digest(self, hash, path):
         if hash == "none":

@@ -1,0 +1,6 @@
+-- no piece is pending
+use Rattle.std.proofs.Common.{◌≡◌, None}
+use Rattle.droid_hash_tests.proofs.assembly.steps.take_steps.Given as goal
+
+abbrev pub invariant-loop-step : goal.invariant-loop-step
+invariant-loop-step g l = l.assembly.pending ≡ None
