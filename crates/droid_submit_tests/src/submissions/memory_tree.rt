@@ -4,7 +4,7 @@ ghost use Rattle.std.specs.Prelude.{◌≡◌, ◌≤◌, IfErr, OnOk, length};
 ghost use Rattle.droid_tree.specs.Observation.{BytesCame};
 ghost use Rattle.droid_tree.specs.declared.fault.TreeFault.TheVariants as faults;
 
-use crate::trees::{ROWS, Row, SEALED};
+use crate::submissions::trees::{ROWS, Row, SEALED};
 use droid_frame::Blob;
 use droid_tree::{EntryKind, FolderEntry, Tree, TreeFault};
 use std::alloc::{AllocError, Global};

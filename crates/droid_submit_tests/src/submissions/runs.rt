@@ -1,11 +1,11 @@
 //! Submissions one after the other, and all that is counted of each.
 
-use crate::breaking_service::{Change, Trouble, Way};
-use crate::export_texts::{FIRST_TEXT, SMALL_TEXT};
-use crate::outcome::Left;
-use crate::services::{empty_service, exports, full_service};
-use crate::submission::{UNBROKEN, submitted};
-use crate::trees::{FIRST, LONGER, SEALED, SMALL, WIDER};
+use crate::submissions::breaking_service::{Change, Trouble, Way};
+use crate::submissions::export_texts::{FIRST_TEXT, SMALL_TEXT};
+use crate::submissions::outcome::Left;
+use crate::submissions::services::{empty_service, exports, full_service};
+use crate::submissions::submission::{UNBROKEN, submitted};
+use crate::submissions::trees::{FIRST, LONGER, SEALED, SMALL, WIDER};
 use droid_core::Service;
 use std::alloc::Global;
 

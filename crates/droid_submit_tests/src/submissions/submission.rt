@@ -1,12 +1,14 @@
 //! A run of `submit` over a connection that breaks.
 
-use crate::breaking_service::{BreakingService, Change, Trouble, Way};
-use crate::memory_tree::MemoryTree;
-use crate::noting_watcher::NotingWatcher;
-use crate::outcome::{Outcome, word_of};
+use crate::submissions::breaking_service::{BreakingService, Change, Trouble, Way};
+use crate::submissions::memory_tree::MemoryTree;
+use crate::submissions::noting_watcher::NotingWatcher;
+use crate::submissions::outcome::{Outcome, word_of};
 use droid_core::Service;
 use droid_frame::{HashKind, Text};
-use droid_tree_remote::{Options, Sender, Upload, submit};
+use droid_tree_remote::{Sender, submit};
+use droid_tree_submission::Options;
+use droid_tree_upload::Upload;
 use std::alloc::Global;
 
 /// The client.

@@ -4,7 +4,7 @@
 //! pieces 3 to 5 (6 to 8), request 6 (9), and the four replies (10 to 13). So the profile is known from step 4 on, and
 //! the node from step 6 on.
 
-use crate::paper_service::{Loss, PaperService, request, sent};
+use crate::connections::paper_service::{Loss, PaperService, request, sent};
 use droid_frame::{Refusal, Reply};
 use droid_tree_connection::{InFlight, TransferFault};
 use std::alloc::Global;

@@ -1,9 +1,9 @@
 //! A service behind a connection that breaks.
 
-use crate::services::{empty_service, leave_place, service_of_another};
+use crate::submissions::services::{empty_service, leave_place, service_of_another};
 use droid_core::Service;
 use droid_frame::{Frame, reply_body};
-use droid_tree_remote::{Broken, Connection};
+use droid_tree_connection::{Broken, Connection};
 use std::alloc::Global;
 use std::collections::VecDeque;
 

@@ -1,18 +1,18 @@
 //! The examples of the pages of `droid_hash`, `droid_tree`, `droid_tree_upload`, `droid_tree_submission` and
 //! `droid_tree_remote`. What they work with is lent to them.
 
-use crate::breaking_service::{Change, Trouble, Way};
-use crate::export_texts::SMALL_TEXT;
-use crate::memory_tree::{MemoryTree, entry_of};
-use crate::services::empty_service;
-use crate::submission::{OPTIONS, Run, UNBROKEN, run_over};
-use crate::trees::{A_TXT, PAGE, SMALL};
+use crate::submissions::breaking_service::{Change, Trouble, Way};
+use crate::submissions::export_texts::SMALL_TEXT;
+use crate::submissions::memory_tree::{MemoryTree, entry_of};
+use crate::submissions::services::empty_service;
+use crate::submissions::submission::{OPTIONS, Run, UNBROKEN, run_over};
+use crate::submissions::trees::{A_TXT, PAGE, SMALL};
 use droid_frame::{HashKind, HashValue, Noted};
 use droid_hash::RunningHash;
 use droid_tree::{FolderEntry, count, name_of, read_folder};
-use droid_tree_remote::{SubmissionFault, export, submit};
+use droid_tree_remote::{export, submit};
 use droid_tree_submission::submit_tree;
-use droid_tree_upload::{Destination, Uploaded, create_profile, upload_file};
+use droid_tree_upload::{Destination, SubmissionFault, Uploaded, create_profile, upload_file};
 use std::test::Fail;
 
 /// The MD5 of `abc` (RFC 1321).

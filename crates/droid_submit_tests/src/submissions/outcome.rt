@@ -1,8 +1,11 @@
 //! What a run of `submit` left.
 
-use crate::breaking_service::Counts;
+use crate::submissions::breaking_service::Counts;
 use droid_frame::Refusal;
-use droid_tree_remote::{RemoteFault, SubmissionFault, Submitted, TransferFault};
+use droid_tree_connection::TransferFault;
+use droid_tree_remote::RemoteFault;
+use droid_tree_submission::Submitted;
+use droid_tree_upload::SubmissionFault;
 
 /// What a run of `submit` left.
 #[derive(Clone, Copy)]

@@ -1,11 +1,11 @@
 //! At each step of a submission the connection breaks, or the submission ends and is resumed, or the service forgets
 //! everything.
 
-use crate::breaking_service::{Change, Trouble, Way};
-use crate::export_texts::{EIGHTEEN_TEXT, SMALL_TEXT};
-use crate::services::{empty_service, exports};
-use crate::submission::{UNBROKEN, submitted};
-use crate::trees::{EIGHTEEN, SMALL};
+use crate::submissions::breaking_service::{Change, Trouble, Way};
+use crate::submissions::export_texts::{EIGHTEEN_TEXT, SMALL_TEXT};
+use crate::submissions::services::{empty_service, exports};
+use crate::submissions::submission::{UNBROKEN, submitted};
+use crate::submissions::trees::{EIGHTEEN, SMALL};
 use std::alloc::Global;
 use std::process::Abort;
 
