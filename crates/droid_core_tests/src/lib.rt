@@ -29,7 +29,3 @@ mod steps;
 mod texts;
 #[cfg(test)]
 mod versions;
-#[cfg(test)]
-mod worked_files;
-#[cfg(test)]
-mod worked_folders;

@@ -1,4 +1,4 @@
-//! Limits of profiles, of nodes and of unfinished files, beside those of the worked rows.
+//! Limits of profiles, of nodes and of unfinished files that are smaller than the program's.
 
 use crate::steps::{CREATE, LARGEST, Step, ask, is_answered, service};
 use droid_core::{Limits, Service};
@@ -8,6 +8,13 @@ const ONE_NODE: Limits = Limits {
     nodes: 1,
     ..LARGEST
 };
+
+const ONE_FOLDER: &[Step] = &[
+    CREATE,
+    ("1 2 folder 1 0 0 in", "node 1\n"),
+    ("1 3 folder 1 0 0 out", "refused 17 nodes\n"),
+    ("1 2 folder 1 0 0 in", "node 1\n"),
+];
 
 const ONE_ABANDONED: &[Step] = &[
     CREATE,
@@ -41,6 +48,21 @@ const ONE_UNFINISHED: Limits = Limits {
     ..LARGEST
 };
 
+// The first file is abandoned, and then the second is finished.
+const ABANDONED_AND_FINISHED: &[Step] = &[
+    CREATE,
+    ("1 2 file 1 0 0 4 4 x", "node 1\n"),
+    ("1 3 file 1 0 0 0 4 y.txt", "refused 17 unfinished\n"),
+    ("1 4 abandon 1 1", "abandoned\n"),
+    ("1 3 file 1 0 0 0 4 y.txt", "node 2\n"),
+    ("1 5 file 1 0 0 4 4 z", "refused 17 unfinished\n"),
+    (
+        "1 6 finish 1 2",
+        "finished Extension false d41d8cd98f00b204e9800998ecf8427e dev/4\n",
+    ),
+    ("1 5 file 1 0 0 4 4 z", "node 3\n"),
+];
+
 const FINISHED: &[Step] = &[
     CREATE,
     ("1 2 file 1 0 0 0 4 x", "node 1\n"),
@@ -60,14 +82,29 @@ const ABANDONED: &[Step] = &[
     ("1 3 file 1 0 0 4 4 y", "node 2\n"),
 ];
 
+/// The name of a script, the limits of the service, and what it is asked.
+type Limited<'a> = (&'a str, Limits, &'a [Step<'a>]);
+
+const LIMITED: &[Limited] = &[
+    ("one folder", ONE_NODE, ONE_FOLDER),
+    ("one abandoned", ONE_NODE, ONE_ABANDONED),
+    ("another profile", ONE_PROFILE, ANOTHER_PROFILE),
+    ("no profile", NOTHING, NO_PROFILE),
+    (
+        "abandoned and finished",
+        ONE_UNFINISHED,
+        ABANDONED_AND_FINISHED,
+    ),
+    ("finished", ONE_UNFINISHED, FINISHED),
+    ("abandoned", ONE_UNFINISHED, ABANDONED),
+];
+
 #[test]
 fn limits(rt: HostRuntime) {
-    let alloc = rt.alloc();
-    ask(&rt, alloc, "one abandoned", ONE_NODE, ONE_ABANDONED);
-    ask(&rt, alloc, "another profile", ONE_PROFILE, ANOTHER_PROFILE);
-    ask(&rt, alloc, "no profile", NOTHING, NO_PROFILE);
-    ask(&rt, alloc, "finished", ONE_UNFINISHED, FINISHED);
-    ask(&rt, alloc, "abandoned", ONE_UNFINISHED, ABANDONED);
+    for limited in LIMITED {
+        let (name, limits, steps) = *limited;
+        ask(&rt, rt.alloc(), name, limits, steps);
+    }
 }
 
 const PROFILES: &[Step] = &[CREATE, ("2 1 create 1 0", "made 2\n")];

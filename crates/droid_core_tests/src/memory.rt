@@ -2,8 +2,8 @@
 //! Out of memory: a refused request is answered so, and the same request again is answered as it would have been.
 
 use crate::runs::{STORED, STORED_IN_2, frames_of};
-use crate::steps::{LARGEST, OUT_OF_MEMORY, Step, answer, is_answered, printed, service};
-use crate::worked_files::PIECES_OUT_OF_ORDER;
+use crate::steps::{CREATE, LARGEST, OUT_OF_MEMORY, Step, answer, is_answered, printed, service};
+use crate::texts::{BOTH_TEXT, MESSAGE_TEXT, NO_RECORDS_TEXT, SECOND_FOLDER_TEXT};
 use droid_core::Service;
 use droid_frame::Reply;
 use std::alloc::Global;
@@ -29,6 +29,36 @@ const OUT_OF_ORDER: &[Step] = &[
     ("1 9 file 1 0 0 14 4 other", "node 2\n"),
     ("1 10 abandon 1 2", "abandoned\n"),
     ("1 11 export 1 0 1", "part 9 530 1\n\""),
+];
+
+/// Pieces out of order, requests after the file's end, and exports by filters.
+const WORKED_ROW: &[Step] = &[
+    CREATE,
+    ("1 2 file 1 0 0 14 4 m.msg", "node 1\n"),
+    ("1 3 piece 1 1 3 7374", "taken 1\n"),
+    ("1 4 piece 1 1 1 61676520", "taken 2\n"),
+    ("1 5 piece 1 1 0 6d657373", "taken 3\n"),
+    ("1 6 piece 1 1 2 64696765", "taken 4\n"),
+    (
+        "1 7 finish 1 1",
+        "finished Signature false f96b697d7cb7938d525a2f31aaf161d0 dev/1,dev/3\n",
+    ),
+    ("1 8 export 1 0 1048576", MESSAGE_TEXT),
+    ("1 8 piece 1 1 0 6d657373", "refused 12\n"),
+    ("1 8 finish 1 1", "refused 12\n"),
+    ("1 8 abandon 1 1", "refused 12\n"),
+    ("1 8 status 1 1", "progress 4 4\n"),
+    (
+        "1 7 finish 1 1",
+        "finished Signature false f96b697d7cb7938d525a2f31aaf161d0 dev/1,dev/3\n",
+    ),
+    ("1 8 folder 1 0 0 in", "node 2\n"),
+    ("1 9 export 1 0 4096 all type=Folder", SECOND_FOLDER_TEXT),
+    ("1 9 export 1 0 4096 any puid=dev/3 type=Folder", BOTH_TEXT),
+    (
+        "1 9 export 1 0 4096 all ext=MSG atleast=15",
+        NO_RECORDS_TEXT,
+    ),
 ];
 
 /// Whether each step is answered as it should be, at once or when it comes again. `None` if the test itself had no memory.
@@ -73,7 +103,7 @@ fn one_after_the_other(rt: HostRuntime) {
 fn worked_row(rt: HostRuntime) {
     for places in [1usize, 256] {
         assert!(rt;
-            passes_in_the_end(rt.alloc(), places, PIECES_OUT_OF_ORDER),
+            passes_in_the_end(rt.alloc(), places, WORKED_ROW),
             "{places}"
         );
     }
