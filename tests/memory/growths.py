@@ -37,7 +37,7 @@ TESTS = {
     "droid_lines_send_tests": ["memory::each_growth_of_a_sending"],
     "droid_wire_tests": ["memory::each_growth_of_serving"],
     "droid_wire_turns_tests": ["memory::each_growth_of_turns"],
-    "droid_store_tests": ["memory::each_growth_of_the_store"],
+    "droid_store_tests": ["store::memory::each_growth_of_the_store"],
     "droid_folder_tests": [
         "lists::memory::each_growth_of_a_report",
         "lists::memory::each_growth_of_a_list",

@@ -1,36 +1,9 @@
-//! Tests of the store, over the public calls of `droid_store` and `droid_frame` alone. Commands and what the store shows
-//! are rows of tables. What isn't as it should be is an error, or the place of the first row that is wrong.
+//! Tests of the store and of the trees of rows in it, over public calls alone.
 #![tactic(auto)]
 
 #[cfg(test)]
-mod cases;
+mod entries;
 #[cfg(test)]
-mod commands;
+mod random_numbers;
 #[cfg(test)]
-mod faults;
-#[cfg(test)]
-mod large;
-#[cfg(test)]
-mod last_values;
-#[cfg(test)]
-mod many;
-#[cfg(test)]
-mod memory;
-#[cfg(test)]
-mod names;
-#[cfg(test)]
-mod one_profile;
-#[cfg(test)]
-mod page;
-#[cfg(test)]
-mod plain;
-#[cfg(test)]
-mod queries;
-#[cfg(test)]
-mod random;
-#[cfg(test)]
-mod rows;
-#[cfg(test)]
-mod three_profiles;
-#[cfg(test)]
-mod words;
+mod store;

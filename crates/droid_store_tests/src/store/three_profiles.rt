@@ -1,8 +1,10 @@
 //! Several profiles side by side: each has its own nodes, numbers and options.
 
-use crate::cases::{Case, Command, Lived, Totals, first_wrong};
-use crate::commands::check;
-use crate::rows::{ABANDONED, Change, FINISHED, FOLDER, MADE, NODE, NOTHING, Options, TAKEN};
+use crate::store::cases::{Case, Command, Lived, Totals, first_wrong};
+use crate::store::commands::check;
+use crate::store::rows::{
+    ABANDONED, Change, FINISHED, FOLDER, MADE, NODE, NOTHING, Options, TAKEN,
+};
 use droid_frame::{HashKind, Method};
 use droid_store::Store;
 use std::test::Fail;

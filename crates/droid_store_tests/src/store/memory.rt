@@ -1,8 +1,8 @@
 // The test also passes if any one allocation is refused: tests/memory refuses each in turn.
 //! Out of memory: a call that fails for it leaves the rows as they were, and the same call again does its work.
 
-use crate::cases::{Case, give, look};
-use crate::one_profile::ONE_PROFILE;
+use crate::store::cases::{Case, give, look};
+use crate::store::one_profile::ONE_PROFILE;
 use droid_store::{Store, StoreFault};
 use std::alloc::Global;
 use std::test::Fail;

@@ -2,28 +2,12 @@
 
 ghost use Rattle.std.specs.Prelude.{◌≡◌};
 
+use crate::random_numbers::{SEED, below, draw_place};
 use droid_store_entries::{Entries, PackedRow};
 use sqlite_value::row::Row;
 use sqlite_value::value::ValueRef;
 use std::alloc::{AllocError, Global};
 use std::test::Fail;
-
-#[derive(Drop)]
-struct Numbers {
-    state: u64,
-}
-
-impl Numbers {
-    /// Returns a number below `limit`, or 0 if that is 0.
-    fn below(&mut self, limit: usize) -> usize {
-        self.state = self
-            .state
-            .wrapping_mul(6_364_136_223_846_793_005)
-            .wrapping_add(1_442_695_040_888_963_407);
-        let drawn = (self.state >> 33) as usize;
-        if limit == 0 { 0 } else { drawn % limit }
-    }
-}
 
 fn row(alloc: Global, number: i64) -> Result<PackedRow, AllocError> {
     let mut row = Row::new(alloc);
@@ -88,13 +72,13 @@ fn set(
 /// Edits the list and the plain one: of ten edits five insert a row, three remove one and two replace one.
 fn edit(
     alloc: Global,
-    numbers: &mut Numbers,
+    state: &mut u64,
     entries: &mut Entries,
     plain: &mut Vec<i64>,
     number: i64,
 ) -> Result<(), AllocError> {
-    let kind = numbers.below(10);
-    let at = numbers.below(plain.len().saturating_add(1));
+    let kind = below(state, 10);
+    let at = draw_place(state, plain.len().saturating_add(1));
     if kind < 5 {
         insert(alloc, entries, plain, at, number)
     } else if kind < 8 {
@@ -107,11 +91,11 @@ fn edit(
 #[test]
 fn random_edits_agree_with_a_plain_list(rt: HostRuntime) -> Result<(), Fail> {
     let alloc = rt.alloc();
-    let mut numbers = Numbers { state: 20_251_125 };
+    let mut state = SEED;
     let mut entries = Entries::new();
     let mut plain: Vec<i64> = Vec::new(alloc);
     for step in 0..20_000i64 {
-        edit(alloc, &mut numbers, &mut entries, &mut plain, step)?;
+        edit(alloc, &mut state, &mut entries, &mut plain, step)?;
         if step % 1_000 == 999 {
             assert!(rt; agrees(&entries, &plain));
         }
@@ -119,7 +103,7 @@ fn random_edits_agree_with_a_plain_list(rt: HostRuntime) -> Result<(), Fail> {
     let before = entries.copy()?;
     let kept = plain.clone()?;
     for _ in 0..kept.len() {
-        let at = numbers.below(plain.len());
+        let at = draw_place(&mut state, plain.len());
         remove(alloc, &mut entries, &mut plain, at)?;
     }
     assert!(rt; agrees(&entries, &[]));

@@ -1,8 +1,8 @@
 //! Numbers about 100,000, which is as many nodes as a profile of a service may have.
 
-use crate::commands::{commit, expect, make_profile};
-use crate::queries::{look_at_no_node, look_at_node, look_at_reply};
-use crate::rows::{ABANDONED, Change, FOLDER, Kept, MADE, NODE, NOTHING, Node};
+use crate::store::commands::{commit, expect, make_profile};
+use crate::store::queries::{look_at_no_node, look_at_node, look_at_reply};
+use crate::store::rows::{ABANDONED, Change, FOLDER, Kept, MADE, NODE, NOTHING, Node};
 use droid_frame::{HashKind, Record};
 use droid_store::{Counts, NodeState, ProfileRow, Store, StoreFault};
 use std::alloc::{AllocError, Global};

@@ -1,8 +1,8 @@
 //! Names are distinguished byte for byte, in each folder of each profile.
 
-use crate::commands::{check, expect, make_folder, make_profile};
-use crate::queries::look_at_node;
-use crate::rows::{FOLDER, MADE, NOTHING};
+use crate::store::commands::{check, expect, make_folder, make_profile};
+use crate::store::queries::look_at_node;
+use crate::store::rows::{FOLDER, MADE, NOTHING};
 use droid_frame::HashKind;
 use droid_store::{NodeState, Store, StoreFault};
 use std::alloc::{AllocError, Global};

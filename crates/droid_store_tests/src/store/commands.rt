@@ -5,8 +5,8 @@ ghost use Rattle.std.specs.List.{AllByRecursion};
 ghost use Rattle.droid_store.specs.Changes.{IsNext, IsOfKind, IsOpen, IsWord};
 ghost use Rattle.droid_store.specs.Rows.{child_at, reply_for};
 
-use crate::rows::{Change, FOLDER, Kept, NODE, NOTHING, Node, Options, Place};
-use crate::words::words;
+use crate::store::rows::{Change, FOLDER, Kept, NODE, NOTHING, Node, Options, Place};
+use crate::store::words::words;
 use droid_frame::{Blob, HashValue, Texts};
 use droid_store::{Entry, NodeState, Store, StoreFault};
 use std::alloc::Global;

@@ -1,9 +1,11 @@
 //! As much as a node and a reply may hold, and as many profiles as a service may have.
 
-use crate::commands::{commit, expect, keep_reply, make_folder, make_profile};
-use crate::names::name_of;
-use crate::queries::{is_record, look_at_node, look_at_reply};
-use crate::rows::{Change, FINISHED, FOLDER, Kept, MADE, NODE, NOTHING, Node, Options, TAKEN};
+use crate::store::commands::{commit, expect, keep_reply, make_folder, make_profile};
+use crate::store::names::name_of;
+use crate::store::queries::{is_record, look_at_node, look_at_reply};
+use crate::store::rows::{
+    Change, FINISHED, FOLDER, Kept, MADE, NODE, NOTHING, Node, Options, TAKEN,
+};
 use droid_frame::{HashKind, Method};
 use droid_store::{NodeState, ProfileRow, Store, StoreFault};
 use std::alloc::{AllocError, Global};

@@ -1,8 +1,8 @@
 //! First and last values of each field come back as they were sent.
 
-use crate::commands::{check, commit, expect, keep_reply, make_profile};
-use crate::queries::{look_at_no_reply, look_at_node, look_at_reply};
-use crate::rows::{Change, Kept, NODE, Node};
+use crate::store::commands::{check, commit, expect, keep_reply, make_profile};
+use crate::store::queries::{look_at_no_reply, look_at_node, look_at_reply};
+use crate::store::rows::{Change, Kept, NODE, Node};
 use droid_frame::{HashKind, Method};
 use droid_store::{NodeState, ProfileRow, Store, StoreFault};
 use std::alloc::Global;

@@ -1,13 +1,14 @@
 //! Random commits by a fixed seed, and beside the store plain lists of what was committed: all that both show is compared
 //! after each thousand.
 
-use crate::commands::{WRONG, commit, expect, keep_reply, make_profile};
-use crate::plain::{
-    CLIENTS, Lists, PROFILES, Plain, add, add_profile, below, end, keep, kept, name_of, new_lists,
+use crate::random_numbers::below;
+use crate::store::commands::{WRONG, commit, expect, keep_reply, make_profile};
+use crate::store::plain_lists::{
+    CLIENTS, Lists, PROFILES, Plain, add, add_profile, end, keep, kept, name_of, new_lists,
     next_node, open_one, options_of, row_of,
 };
-use crate::queries::{look_at_no_node, look_at_no_reply, look_at_node, look_at_reply};
-use crate::rows::{ABANDONED, Change, FINISHED, MADE, NODE, TAKEN};
+use crate::store::queries::{look_at_no_node, look_at_no_reply, look_at_node, look_at_reply};
+use crate::store::rows::{ABANDONED, Change, FINISHED, MADE, NODE, TAKEN};
 use droid_frame::Record;
 use droid_store::{Counts, NodeState, ProfileRow, Store, StoreFault};
 use std::alloc::Global;

@@ -1,8 +1,8 @@
 //! Queries of a store, compared with rows of tables.
 
-use crate::commands::expect;
-use crate::rows::{Kept, NOTHING, Node};
-use crate::words::are_words;
+use crate::store::commands::expect;
+use crate::store::rows::{Kept, NOTHING, Node};
+use crate::store::words::are_words;
 use droid_frame::{NodeKind, Record};
 use droid_store::{Entry, NodeRow, NodeState, Store, StoreFault};
 

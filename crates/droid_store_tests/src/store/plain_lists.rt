@@ -1,6 +1,7 @@
 //! Plain lists of what random commits put into a store, and the row of each.
 
-use crate::rows::{FOLDER, Found, Kept, Node, Options};
+use crate::random_numbers::{SEED, below, draw_place};
+use crate::store::rows::{FOLDER, Found, Kept, Node, Options};
 use droid_frame::{HashKind, Method};
 use droid_store::NodeState;
 use std::alloc::{AllocError, Global};
@@ -53,17 +54,8 @@ pub fn new_lists(alloc: Global) -> Lists {
         open: Vec::new(alloc),
         replies: Vec::new(alloc),
         number: 0,
-        state: 20_251_125,
+        state: SEED,
     }
-}
-
-/// A random number below `limit`, and 0 if that is 0.
-pub fn below(state: &mut u64, limit: u32) -> u32 {
-    *state = (*state)
-        .wrapping_mul(6_364_136_223_846_793_005)
-        .wrapping_add(1_442_695_040_888_963_407);
-    let drawn = (*state >> 33) as u32;
-    if limit == 0 { 0 } else { drawn % limit }
 }
 
 /// The node with the next number of a random profile.
@@ -77,9 +69,8 @@ pub fn next_node(lists: &mut Lists, state: NodeState) -> Plain {
 
 /// The place of a random unfinished file among the open ones, and that of its node.
 pub fn open_one(lists: &mut Lists) -> Option<(usize, usize)> {
-    let drawn = below(&mut lists.state, u32::MAX) as usize;
     let count = lists.open.len();
-    let chosen = if count == 0 { 0 } else { drawn % count };
+    let chosen = draw_place(&mut lists.state, count);
     let place = lists.open.get(chosen).copied()?;
     Some((chosen, place))
 }

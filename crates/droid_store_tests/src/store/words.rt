@@ -4,7 +4,7 @@ ghost use Rattle.std.specs.Prelude.{IfOk};
 ghost use Rattle.std.specs.List.{AllByRecursion};
 ghost use Rattle.droid_store.specs.Changes.{IsWord};
 
-use crate::commands::expect;
+use crate::store::commands::expect;
 use droid_frame::{Text, Texts};
 use droid_store::StoreFault;
 use std::alloc::Global;

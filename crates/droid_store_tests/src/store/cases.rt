@@ -1,8 +1,10 @@
 //! Cases: commands, and all that the store shows after each of them.
 
-use crate::commands::{commit, expect, keep_reply, make_profile};
-use crate::queries::{is_record, look_at_no_node, look_at_no_reply, look_at_node, look_at_reply};
-use crate::rows::{Change, Kept, Node, Options};
+use crate::store::commands::{commit, expect, keep_reply, make_profile};
+use crate::store::queries::{
+    is_record, look_at_no_node, look_at_no_reply, look_at_node, look_at_reply,
+};
+use crate::store::rows::{Change, Kept, Node, Options};
 use droid_frame::Record;
 use droid_store::{Counts, NodeState, ProfileRow, Store, StoreFault};
 use std::alloc::Global;
