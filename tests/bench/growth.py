@@ -8,6 +8,7 @@ from lib.frames import ADD_FILE, ADD_FOLDER, HEADER, MOST_NODES, MOST_PIECES, NO
 from lib.frames import file_body, folder_body, frame, piece_body
 from lib.connections import read_exactly
 from lib.processes import processor_milliseconds
+from loads import turned
 from measured_run import MeasuredRun
 
 FOLDERS, FEW_FOLDERS = 50_000, 1_000
@@ -41,7 +42,7 @@ def microseconds(service, requests):
 
 
 def measure_growth(what, service, kind, bodies, due, few):
-    """Prints the microseconds of the first few commands, of the last few and of all."""
+    """Prints the microseconds of the first few commands, of the last few and of all. Returns those of all."""
     before = processor_milliseconds(service.process)
     service.ask_all(kind, bodies[:few], due)
     first = processor_milliseconds(service.process)
@@ -53,6 +54,15 @@ def measure_growth(what, service, kind, bodies, due, few):
     begins, ends = ((after - earlier) * 1_000 / few for earlier, after in ((before, first), (middle, last)))
     print(f"service: {what}, each in {each:.2f} microseconds")
     print(f"  of the first each in {begins:.2f}, of the last in {ends:.2f}: {ends / begins:.2f} times as long", flush=True)
+    return each
+
+
+def measure_pieces(what, order):
+    """Returns the microseconds of a piece of a byte, in this order."""
+    with MeasuredRun() as service:
+        service.ask(ADD_FILE, file_body(b"large.bin", PIECES, 1), NODE)
+        bodies = [piece_body(1, index, b"a") for index in order(PIECES - FEW_PIECES)]
+        return measure_growth(f"{len(bodies)} pieces of a byte, {what}", service, PIECE, bodies, TAKEN, FEW_PIECES)
 
 
 def repeats(spread):
@@ -80,10 +90,9 @@ def main():
     with MeasuredRun() as service:
         bodies = [folder_body(folder_name(place)) for place in range(FOLDERS)]
         measure_growth(f"{FOLDERS} folders of one profile", service, ADD_FOLDER, bodies, NODE, FEW_FOLDERS)
-    with MeasuredRun() as service:
-        service.ask(ADD_FILE, file_body(b"large.bin", PIECES, 1), NODE)
-        bodies = [piece_body(1, index, b"a") for index in range(PIECES - FEW_PIECES)]
-        measure_growth(f"{len(bodies)} pieces of a byte", service, PIECE, bodies, TAKEN, FEW_PIECES)
+    in_order = measure_pieces("in order", range)
+    waiting = measure_pieces("the last of each sixteen first", turned)
+    print(f"  {waiting / in_order:.2f} times as long as in order", flush=True)
     measure_repeats()
 
 

@@ -35,14 +35,19 @@ def large_file(number, size, piece_size, version=1):
     return file(number, b"large.bin", size, piece_size, version=version)
 
 
-def whole_file(content, piece_size, version=1, hash=MD5):
+def turned(count):
+    """Returns the indexes of this many pieces, the last of each sixteen first, so that the most pieces wait."""
+    return sorted(range(count), key=lambda index: (index // 16, -index))
+
+
+def whole_file(content, piece_size, version=1, hash=MD5, order=range):
     """Yields the requests of a profile and a file in pieces of one size, up to its Finish."""
-    starts = range(0, len(content), piece_size)
+    count = -(-len(content) // piece_size)
     yield create(0, version=version, hash=hash)
     yield large_file(1, len(content), piece_size, version)
-    for index, start in enumerate(starts):
-        yield piece(2 + index, 1, index, content[start : start + piece_size], version=version)
-    yield finish(2 + len(starts), 1, version=version)
+    for index in order(count):
+        yield piece(2 + index, 1, index, content[index * piece_size : (index + 1) * piece_size], version=version)
+    yield finish(2 + count, 1, version=version)
 
 
 def write(path, frames):
