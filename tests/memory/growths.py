@@ -34,9 +34,6 @@ TESTS = {
         "streams::frame_streams::growths_refused",
         "client::allocations::short_and_again",
     ],
-    "droid_lines_send_tests": ["memory::each_growth_of_a_sending"],
-    "droid_wire_tests": ["memory::each_growth_of_serving"],
-    "droid_wire_turns_tests": ["memory::each_growth_of_turns"],
     "droid_store_tests": ["store::memory::each_growth_of_the_store"],
     "droid_folder_tests": [
         "lists::memory::each_growth_of_a_report",
@@ -49,6 +46,11 @@ TESTS = {
         "verify::memory::each_allocation",
     ],
     "droid_hash_tests": ["assembly::memory::each_growth_refused"],
+    "droid_server_tests": [
+        "sending::memory::each_growth_of_a_sending",
+        "serving::memory::each_growth_of_serving",
+        "turns::memory::each_growth_of_turns",
+    ],
 }
 # with fewer allocations, the library did not count them
 FEWEST = 3

@@ -10,5 +10,5 @@ export PYTHONPATH="$tests:$tests/program/model:$tests/program/wire"
 build_library synced.c "$PRELOAD_SYNCED"
 build_library paced.c "$PRELOAD_PACED"
 build_library noted.c "$PRELOAD_NOTED"
-run_modules journal_files journal_calls journal_rows journal_smaller journal_compact journal_damage journal_full journal_operation journal_kills \
+run_modules journal_files journal_calls journal_rows journal_smaller journal_compact journal_pieces journal_damage journal_full journal_operation journal_kills \
     shared_syncs

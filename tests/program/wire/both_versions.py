@@ -3,8 +3,8 @@ byte more than version 2 allows."""
 
 import unittest
 
-from lib.connections import connect, read_exactly, read_until_reset, send_until_reset
-from lib.frames import HEADER, in_version
+from lib.connections import SECONDS, connect, read_exactly, read_until_reset, send_until_reset
+from lib.frames import CREATE_PROFILE, FINISH, FINISHED, HEADER, frame, in_version, numbers
 from lib.program import Serve, run, send
 from send_faults import FakeService, made
 
@@ -109,6 +109,36 @@ REPLIES = b"".join(reply for _, reply in FRAMES)
 # a body of 4,194,369 bytes
 TOO_LONG = bytes.fromhex("02 04 00000001 000000000000000b 00400041")
 
+# Streams, the replies to their frames, and the fault at their end. Requests for a profile have a truth value of 2, a byte too
+# many, and a kind of hash that doesn't exist; the last frame's body is too long, its version is 3, its body is a byte too long.
+STREAMS = [
+    (
+        "01 01 00000001 0000000000000001 00000005 00010000 02"
+        " 01 01 00000001 0000000000000001 00000006 00010000 00 00"
+        " 01 01 00000001 0000000000000001 00000005 00010000 00"
+        " 01 01 00000001 0000000000000001 ffffffff 01 01",
+        "01 88 00000001 0000000000000001 00000001 01"
+        " 01 88 00000001 0000000000000001 00000001 01"
+        " 01 81 00000001 0000000000000001 00000004 00000001",
+        "TooLong",
+    ),
+    (
+        "02 01 00000001 0000000000000001 00000006 00010000 00 03"
+        " 02 01 00000001 0000000000000001 00000006 00010000 00 02"
+        " 02 01 00000001 0000000000000001 00000006 00010000 00 02"
+        " 01 01 00000001 0000000000000001 00000005 00010000 00"
+        " 01 02 00000001 0000000000000002 00000012 00000001 00000000 0000000000000000 696e"
+        " 03 01 00000001 0000000000000003 00000000",
+        "02 88 00000001 0000000000000001 00000001 01"
+        " 02 81 00000001 0000000000000001 00000004 00000001"
+        " 02 81 00000001 0000000000000001 00000004 00000001"
+        " 01 88 00000001 0000000000000001 00000001 02"
+        " 01 82 00000001 0000000000000002 00000004 00000001",
+        "BadVersion",
+    ),
+    ("02 04 00000001 0000000000000003 00400041", "", "TooLong"),
+]
+
 BAD_LINES = [
     b"v2 create 65536 0",
     b"create 65536 0 md5",
@@ -128,6 +158,19 @@ BAD_LINES = [
 ]
 
 
+# the frame that client 7 sends for the first profile with SHA-256
+CREATED_BY_SHA256 = (CREATE_PROFILE, 7, 1, b"\0\1\0\0\0\2")
+
+
+def made_in_2(client, number):
+    return in_version(2, made(client, number))
+
+
+def finished_in_2(client, number):
+    """The reply about an empty file without a hash."""
+    return frame(FINISHED, client, number, b"\2\0\0\0\1\5dev/4", 2)
+
+
 class BothVersions(unittest.TestCase):
     maxDiff = 500
 
@@ -137,6 +180,11 @@ class BothVersions(unittest.TestCase):
     def test_a_body_that_is_too_long(self):
         for rest in (b"", bytes(100)):
             self.assertEqual(run(["run"], REQUESTS + TOO_LONG + rest), (4, REPLIES, "fault: TooLong\n"))
+
+    def test_streams_that_end_in_a_bad_frame(self):
+        for requests, replies, fault in STREAMS:
+            ended = run(["run"], bytes.fromhex(requests))
+            self.assertEqual(ended, (4, bytes.fromhex(replies), f"fault: {fault}\n"))
 
     def test_each_on_a_connection(self):
         with Serve(len(FRAMES) + 1) as service:
@@ -163,6 +211,21 @@ class BothVersions(unittest.TestCase):
             ended = send(service.port, 1, lines + b"v2 create 65536 0 none\n" + lines + b"create 65536 0\n")
         bad = b"bad line\n" * len(BAD_LINES)
         self.assertEqual(ended, (5, bad + b"made 1\n" + bad + b"made 2\n", ""))
+
+    def test_a_script_of_send(self):
+        """Its lines and bad lines of both versions, and the frames that are sent for it."""
+        lines = b"v2 create 65536 0\nv2 create 65536 0 sha256\nv2 v2 status 1 1\nv2 finish 1 1\ncreate 65536 0 md5"
+        printed = b"bad line\nmade 1\nbad line\nfinished Extension false - dev/4\nbad line\n"
+        service = FakeService(made_in_2, finished_in_2, version=2)
+        self.assertEqual(send(service.port, 7, lines), (5, printed, ""))
+        service.join(SECONDS)
+        self.assertEqual(service.received, [CREATED_BY_SHA256, (FINISH, 7, 2, numbers(1, 1))])
+
+    def test_a_reply_in_the_other_version(self):
+        service = FakeService(made, version=2)
+        self.assertEqual(send(service.port, 7, b"v2 create 65536 0 sha256\n"), (4, b"", "fault: Stranger\n"))
+        service.join(SECONDS)
+        self.assertEqual(service.received, [CREATED_BY_SHA256])
 
     def test_frames_of_send(self):
         """`send` sends the version that the line names. Both versions share the numbers."""

@@ -62,6 +62,15 @@ def refused(client, number):
     return refusal(number, 18, client=client)
 
 
+def bad_option(client, number):
+    return refusal(number, 10, client=client)
+
+
+def made_late(client, number):
+    """The answer to the first request, whatever the number of this one is."""
+    return made(client, 1)
+
+
 def nothing(client, number):
     return b""
 
@@ -221,6 +230,22 @@ class Lines(unittest.TestCase):
         self.assertEqual(send(service.port, 7, CREATE + CREATE), (0, b"refused 18\nmade 1\n", ""))
         service.join(SECONDS)
         self.assertEqual([number for _, _, number, _ in service.received], [1, 2])
+
+    def test_a_refused_number_stays_pending(self):
+        """Its late answer is taken where the next reply is due."""
+        for second, printed in ((node, b"node 1\n"), (made_late, b"made 1\n")):
+            with self.subTest(printed=printed):
+                service = FakeService(bad_option, second)
+                self.assertEqual(send(service.port, 7, CREATE + FOLDER), (0, b"refused 10\n" + printed, ""))
+                service.join(SECONDS)
+                self.assertEqual(service.received, [CREATED, ADDED])
+
+    def test_a_last_line_without_a_line_feed(self):
+        service = FakeService(made, node)
+        lines = CREATE + b"1 1 create 65536 0\n\n" + FOLDER[:-1]
+        self.assertEqual(send(service.port, 7, lines), (5, b"made 1\nbad line\nbad line\nnode 1\n", ""))
+        service.join(SECONDS)
+        self.assertEqual(service.received, [CREATED, ADDED])
 
     def test_a_bad_line_takes_no_number(self):
         service = FakeService(made, made)
