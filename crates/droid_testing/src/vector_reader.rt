@@ -1,8 +1,8 @@
 //! Readers for tests: they compare a frame that was read with a vector.
 
+use crate::shaky::{Manner, ShakyReader, Stop};
 use crate::vectors::{Vector, body_of};
 use droid_frame::{Arrival, Frame, FrameFault, Noted, SteadyRead, read_frame};
-use crate::shaky::{Manner, ShakyReader, Stop};
 use std::alloc::Global;
 
 /// Makes a reader of these bytes that then ends.
