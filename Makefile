@@ -4,6 +4,9 @@ PROGRAM =
 # the kind of processor that `make build` builds for: empty, which is the kit's x86-64-v2, or x86-64-v3, which has vectors of
 # twice the width. A program for x86-64-v3 checks when it starts whether the processor has them
 CPU =
+# how many proofs `make prove` does side by side. By its own reckoning of memory `rt ci` does fewer: it counts 5 to 9 GB for
+# most upper crates, and none took more than 2.5 GB
+JOBS = $(shell nproc)
 # where `make install` puts the program, its manual page, its completions and the licences
 PREFIX = /usr/local
 DESTDIR =
@@ -43,7 +46,7 @@ bench: need_python
 # The gate: proves everything from nothing, tries the wrong bodies of must-fail/, runs the tests of the crates and refuses
 # them memory. `rt ci` leaves the program and the built tests in each crate's out/.
 prove: need_rt need_python
-	$(RT) ci
+	RT_JOBS=$(JOBS) $(RT) ci
 	@python3 tools/release.py note
 	MODULES=growths sh tests/memory/run.sh $(CURDIR)/crates/droid_desk/out/droid_desk
 
