@@ -32,15 +32,16 @@ static int has_name(const char *path, const char *name) {
     return *name && strcmp(last ? last + 1 : path, name) == 0;
 }
 
-/* whether a name is among those that have a `/` between them */
+/* whether the last name of a path, which may end in `/`, is among those that have a `/` between them */
 static int is_among(const char *path, const char *names) {
-    const char *last = strrchr(path, '/');
-    const char *name = last ? last + 1 : path;
-    size_t length = strlen(name);
+    size_t end = strlen(path);
+    while (end && path[end - 1] == '/') end--;
+    size_t start = end;
+    while (start && path[start - 1] != '/') start--;
     while (*names) {
-        size_t next = strcspn(names, "/");
-        if (next == length && strncmp(names, name, next) == 0) return 1;
-        names += next + (names[next] == '/');
+        size_t length = strcspn(names, "/");
+        if (length && length == end - start && strncmp(names, path + start, length) == 0) return 1;
+        names += length + (names[length] == '/');
     }
     return 0;
 }
