@@ -19,8 +19,9 @@ from loads import through_program, turned, whole_file, write
 SIZE = 256 << 20
 CONTENT = (bytes(range(251)) * (SIZE // 251 + 1))[:SIZE]
 ROUNDS = 5
-# how many times as long as hashlib's MD5 twice the first row takes at most
-LIMIT = 1.15
+# how many times as long as hashlib's MD5 twice the first row takes at most: 1.15 times the program's own MD5, which takes
+# 1.18 times as long as hashlib's
+LIMIT = 1.35
 
 
 class Row(NamedTuple):
