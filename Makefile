@@ -14,7 +14,7 @@ DESTDIR =
 # Python then writes no files of its own into tools/ and tests/
 export PYTHONDONTWRITEBYTECODE = 1
 
-.PHONY: run test install uninstall prove compare release build try quick wrong bench need_rt need_python
+.PHONY: run test install uninstall prove compare release build quick wrong bench need_rt need_python
 
 # Without the kit: the released program, release/droid_desk.
 
@@ -62,12 +62,8 @@ release: need_rt need_python
 build: need_rt need_python
 	@RT=$(RT) python3 tools/build.py droid_desk $(CPU)
 
-# Builds an unproved program as out/try/droid_desk, in minutes.
-try: need_rt need_python
-	@RT=$(RT) python3 tools/try.py
-
-# Before a commit: checks that the map fits the crates' files, lays out and proves the crates that changed, checks that every
-# wrong body applies and compiles, and runs the tests of their families. It compares with the last commit, or with BASE=commit.
+# Before a commit: checks that the map fits the crates' files, lays out and proves the crates that changed, and checks that
+# every wrong body applies and compiles. It compares with the last commit, or with BASE=commit.
 quick: need_rt need_python
 	@RT=$(RT) python3 tools/quick.py $(BASE)
 

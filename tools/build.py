@@ -124,7 +124,7 @@ def prove(libraries, sums, what):
     for crate in libraries:
         bring_back(crate)
     if not all(stands(it, sums) for it in libraries):
-        print(f"proving {what} and the crates below it; the first time this takes half an hour or more", file=sys.stderr)
+        print(f"proving {what} and the crates below it; from nothing this takes some four hours of a processor, and 21 GB of disk", file=sys.stderr)
     work = Build(libraries, sums)
     side_by_side(work.next, work.end)
     return work.failed

@@ -1,5 +1,5 @@
 #!/usr/bin/env python3
-"""Checks a change before a commit: `make quick`. The gate is `make test`.
+"""Checks a change before a commit: `make quick`. The gate is `make prove`.
 
 It compares the map with the crates' files (map.py). Then, for the crates that differ from BASE (the last commit,
 unless an argument names another) and for the crates above them:
