@@ -14,7 +14,7 @@ DESTDIR =
 # Python then writes no files of its own into tools/ and tests/
 export PYTHONDONTWRITEBYTECODE = 1
 
-.PHONY: run test install uninstall prove compare release build quick wrong bench need_rt need_python
+.PHONY: run test install uninstall prove compare release build quick try wrong bench need_rt need_python
 
 # Without the kit: the released program, release/droid_desk.
 
@@ -62,10 +62,16 @@ release: need_rt need_python
 build: need_rt need_python
 	@RT=$(RT) python3 tools/build.py droid_desk $(CPU)
 
-# Before a commit: checks that the map fits the crates' files, lays out and proves the crates that changed, and checks that
-# every wrong body applies and compiles. It compares with the last commit, or with BASE=commit.
+# Before a commit: checks that the map fits the crates' files, lays out and proves the crates that changed, checks that their
+# wrong bodies apply and compile, and runs the tests of their families without a proof. It compares with the last commit, or
+# with BASE=commit. With ABOVE=1 it also proves the crates above.
 quick: need_rt need_python
-	@RT=$(RT) python3 tools/quick.py $(BASE)
+	@RT=$(RT) python3 tools/quick.py $(if $(ABOVE),--above) $(BASE)
+
+# Builds the program as out/try/droid_desk in minutes, without a proof: nothing of it is proved. `make test
+# PROGRAM=out/try/droid_desk` tests it.
+try: need_rt need_python
+	@RT=$(RT) python3 tools/try.py
 
 # Checks that the prover refuses every wrong body, those of wrong-bodies/ too. It tries all, or those of CRATES="a b", or
 # with BASE=commit those of the crates that changed since that commit and of the crates above them. One check tries many.

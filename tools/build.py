@@ -10,14 +10,15 @@ import os
 import shutil
 import statistics
 import sys
-import time
 
 import crates
-from crates import TOP, below, folder, named, read
-from lanes import ONE_JOB, alone, run_in, side_by_side
-from standing import RT, Sums, note, stands
+from crates import TOP, below, folder, is_program, listed, named, read
+from lanes import ONE_JOB, Clock, alone, run_in, side_by_side
+from standing import RT, CodeSums, Sums, note, stands
 
 SECONDS = os.path.join(TOP, "tools", "seconds.txt")
+# the disk in bytes that a library and the work that `rt` keeps of it take
+KEPT = 250 << 20
 
 
 def tree_of(crate):
@@ -49,11 +50,11 @@ def prove_library(crate):
         bring_back(crate)
 
 
-def seconds_of(libraries):
-    """Estimates the seconds of a processor that each library takes."""
+def seconds_of(names):
+    """Estimates the seconds of a processor that each crate takes from nothing."""
     lines = [line.split() for line in read(SECONDS).split("\n") if line and not line.startswith("#")]
     known = {name: int(seconds) for name, seconds in lines}
-    return {crate: known.get(crate, statistics.median(known.values())) for crate in libraries}
+    return {crate: known.get(crate, statistics.median(known.values())) for crate in names}
 
 
 class Build:
@@ -62,8 +63,7 @@ class Build:
     def __init__(self, libraries, sums):
         self.sums, self.all = sums, len(libraries)
         self.waiting = [it for it in libraries if not stands(it, sums)]
-        self.work, self.failed = [], None
-        self.begun = time.time()
+        self.work, self.failed, self.clock = [], None, Clock()
         self.chains = self.chains_of(libraries)
 
     def chains_of(self, libraries):
@@ -74,8 +74,12 @@ class Build:
             chains[crate] = seconds[crate] + max(above, default=0)
         return chains
 
-    def report(self, what):
-        print(f"  {time.time() - self.begun:4.0f} s: {what}", file=sys.stderr, flush=True)
+    def announce(self, what):
+        """Says what it takes to build the libraries that wait, if nothing of them is kept."""
+        seconds, cores = seconds_of(self.waiting), len(os.sched_getaffinity(0))
+        total, longest = sum(seconds.values()), max(self.chains[it] for it in self.waiting)
+        minutes = f"{total / 60:.0f} minutes of a processor, some {max(longest, total / cores) / 60:.0f} minutes with {cores} of them"
+        print(f"proving {len(self.waiting)} libraries {what}: if nothing of them is kept, {minutes}, and {len(self.waiting) * KEPT / (1 << 30):.1f} GB of disk", file=sys.stderr, flush=True)
 
     def next(self):
         """Returns the job for the next library of which all below are built, or None. The longest chain comes first."""
@@ -87,21 +91,21 @@ class Build:
         self.waiting.remove(crate)
         self.work.append(crate)
         done = self.all - len(self.waiting) - len(self.work)
-        self.report(f"{done} of {self.all} libraries proved; in work: {', '.join(self.work)}")
+        self.clock.report(f"{done} of {self.all} libraries proved; in work: {', '.join(self.work)}")
         return self.run, crate
 
     def run(self, crate):
-        begun = time.time()
+        clock = Clock()
         status, said, used = prove_library(crate)
         if status == 0:
-            note(crate, self.sums)
+            note(crate, [self.sums])
         what = "took" if status == 0 else "failed after"
-        return crate, status, said, f"{crate} {what} {time.time() - begun:.0f} s, and {used:.0f} s of a processor"
+        return crate, status, said, f"{crate} {what} {clock.seconds():.0f} s, and {used:.0f} s of a processor"
 
     def end(self, result):
         crate, status, said, took = result
         self.work.remove(crate)
-        self.report(took)
+        self.clock.report(took)
         if status:
             self.failed = self.failed or (crate, said)
 
@@ -112,43 +116,48 @@ def fail(crate, said):
 
 
 def build_program(program, cpu):
-    print(f"  proving and building the program {program} ..", file=sys.stderr, flush=True)
-    begun, flags = time.time(), [f"--cpu={cpu}"] if cpu else []
+    minutes = seconds_of([program])[program] / 60
+    print(f"  proving and building the program {program}: if nothing of it is kept, {minutes:.0f} minutes ..", file=sys.stderr, flush=True)
+    clock, flags = Clock(), [f"--cpu={cpu}"] if cpu else []
     status, said, used = run_in(folder(program), [RT, "run", *ONE_JOB, *flags, "--", "--help"])
-    print(f"  {program} took {time.time() - begun:.0f} s, and {used:.0f} s of a processor", file=sys.stderr, flush=True)
+    print(f"  {program} took {clock.seconds():.0f} s, and {used:.0f} s of a processor", file=sys.stderr, flush=True)
     return (program, said) if status else None
 
 
 def prove(libraries, sums, what):
-    """Proves and builds libraries; returns the first that failed with its output, or None."""
+    """Proves and builds those of these libraries, such as all below a program, that are not yet built; returns the first
+    that failed with its output, or None."""
     for crate in libraries:
         bring_back(crate)
-    if not all(stands(it, sums) for it in libraries):
-        print(f"proving {what} and the crates below it; from nothing this takes some four hours of a processor, and 21 GB of disk", file=sys.stderr)
     work = Build(libraries, sums)
+    if work.waiting:
+        work.announce(what)
     side_by_side(work.next, work.end)
     return work.failed
 
 
-def build(program, is_program, cpu, sums):
-    libraries = below(program) if is_program else [*below(program), program]
-    failed = prove(libraries, sums, program)
-    if is_program and not failed:
+def build(program, cpu, sums):
+    """Proves and builds the libraries below a program or a library, and then itself."""
+    libraries = below(program) if is_program(program) else [*below(program), program]
+    failed = prove(libraries, sums, f"for {program}")
+    if is_program(program) and not failed:
         failed = build_program(program, cpu)
-    if failed:
-        return fail(*failed)
-    note(program, sums, is_program, cpu)
-    return 0
+    return fail(*failed) if failed else 0
 
 
 def main():
+    if len(sys.argv) < 2 or sys.argv[1] not in listed():
+        sys.exit("usage: build.py CRATE [CPU], with a crate of crates.txt")
     program, cpu = sys.argv[1], "".join(sys.argv[2:3])
-    is_program = os.path.isfile(os.path.join(folder(program), "src", "main.rt"))
     sums = Sums()
-    if stands(program, sums, is_program, cpu):
+    if stands(program, sums, cpu):
         return 0
+    all_sums = [sums, CodeSums([program])] if is_program(program) else [sums]
     with alone():
-        return build(program, is_program, cpu, sums)
+        if not stands(program, all_sums[-1], cpu) and build(program, cpu, sums):
+            return 1
+        note(program, all_sums, cpu)
+    return 0
 
 
 if __name__ == "__main__":

@@ -77,6 +77,14 @@ def files_of(crate):
     return sorted(found)
 
 
+def is_program(crate):
+    return os.path.isfile(os.path.join(folder(crate), "src", "main.rt"))
+
+
+def has_tests(crate):
+    return any("#[test]" in read(path) for path in files_of(crate) if path.endswith(".rt"))
+
+
 def edits_of(crate, parts=EDITS):
     """Returns the paths of its wrong bodies."""
     found = []

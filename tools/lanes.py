@@ -7,6 +7,7 @@ import signal
 import subprocess
 import sys
 import threading
+import time
 
 from crates import TOP, read
 
@@ -22,6 +23,19 @@ def memory():
         if line.startswith("MemAvailable:"):
             return int(line.split()[1]) << 10
     return EACH
+
+
+class Clock:
+    """Reports on standard error what is done, with the seconds since this began."""
+
+    def __init__(self):
+        self.begun = time.time()
+
+    def seconds(self):
+        return time.time() - self.begun
+
+    def report(self, what):
+        print(f"  {self.seconds():4.0f} s: {what}", file=sys.stderr, flush=True)
 
 
 class Calls:

@@ -9,11 +9,11 @@
 import glob
 import os
 import re
-import shutil
 import sys
 
 import crates
 from crates import below, edits_of, listed, named, paths, read
+from standing import kit_folder
 
 PROGRAM = "droid_desk"
 FAMILIES = ["droid_frame", "droid_lanes", "droid_hash", "droid_scan", "droid_pronom", "droid_xml", "droid_signature", "droid_assembly", "droid_store", "droid_export", "droid_fixity", "droid_page", "droid_report", "droid_core", "droid_wire", "droid_journal", "droid_tree", "droid_profile", "droid_lines", "droid_desk"]
@@ -57,9 +57,8 @@ MOST_EDITS = 39
 
 
 def libraries():
-    """All that a file can name: the repository's crates, and the kit's libraries, which lie beside the folder of `rt`."""
-    rt = os.path.realpath(shutil.which(os.environ.get("RT", "rt")) or "rt")
-    rlibs = glob.glob(os.path.join(os.path.dirname(os.path.dirname(rt)), "rlibs", "*.rlib"))
+    """All that a file can name: the repository's crates, and the kit's libraries."""
+    rlibs = glob.glob(os.path.join(kit_folder(), "rlibs", "*.rlib"))
     of_kit = {os.path.basename(it)[: -len(".rlib")] for it in rlibs}
     return of_kit.union(listed(), *listed().values())
 

@@ -1,20 +1,39 @@
 """Says by checksums, without a call of `rt`, which crates are proved and built from their sources and toolchain as
-they are now, and which wrong bodies of them the prover has refused."""
+they are now, and which wrong bodies of them the prover has refused.
+
+Of a program and of wrong bodies the checksums leave out the lines that have only a comment: nothing of these is proved
+or built, and a program has no numbers of lines in it. Which lines these are, the toolchain's lexer says, since in a
+clause `//` begins no comment, and since a macro may read the doc comments of a type that derives it. The checksums of
+a library have each byte of it: so have those of `rt`, which would else prove all libraries below another one anew.
+"""
 import hashlib
 import os
+import re
 import shutil
+import subprocess
+import sys
 
 import crates
-from crates import TOP, folder, named, read, write
+import kit
+from crates import TOP, folder, is_program, listed, named, read, write
 
 RT = os.environ.get("RT", "rt")
 
 
+def kit_folder():
+    """Returns the folder of the Rattle kit. If there is none, this ends the program."""
+    return kit.folder() or sys.exit(f"{RT} is missing: install the Rattle kit and put its bin folder on the PATH")
+
+
 def toolchain():
     """Returns a text that identifies the toolchain, read from its files."""
-    rt = os.path.realpath(shutil.which(RT) or RT)
-    what = os.path.join(os.path.dirname(os.path.dirname(rt)), "WHAT")
+    what, rt = os.path.join(kit_folder(), "WHAT"), os.path.realpath(shutil.which(RT))
     return read(what) if os.path.isfile(what) else f"{rt} {os.path.getmtime(rt)}"
+
+
+def bytes_of(path):
+    with open(path, "rb") as file:
+        return file.read()
 
 
 class Sums:
@@ -24,27 +43,59 @@ class Sums:
         self.toolchain = toolchain()
         self.known = {}
 
+    def text_of(self, path):
+        return bytes_of(path)
+
     def of(self, crate):
         if crate not in self.known:
-            sum = hashlib.sha256(repr((self.toolchain, named()[crate])).encode())
+            sum = hashlib.sha256(repr((self.toolchain, listed()[crate])).encode())
             for path in crates.files_of(crate):
-                with open(path, "rb") as file:
-                    sum.update(repr((path[len(TOP) :], file.read())).encode())
+                sum.update(repr((path[len(TOP) :], self.text_of(path))).encode())
             sum.update(repr([self.of(low) for low in named()[crate]]).encode())
             self.known[crate] = sum.hexdigest()
         return self.known[crate]
 
 
-def built_file(crate, is_program):
+class CodeSums(Sums):
+    """The same for these crates and all below them, of the code alone: of the lines that have more than a comment."""
+
+    def __init__(self, chosen):
+        super().__init__()
+        paths = [path for crate in crates.with_below(chosen) for path in crates.files_of(crate)]
+        self.code = {path: code_of(bytes_of(path), tokens) for path, tokens in zip(paths, tokens_of(paths))}
+
+    def text_of(self, path):
+        return self.code.get(path) or bytes_of(path)
+
+
+def tokens_of(paths):
+    """Returns for each file the rows of its tokens, LINE START END KIND TEXT, as the toolchain's lexer prints them, or
+    nothing if it can't read all files."""
+    lexer = os.path.join(kit_folder(), "bin", "rattle")
+    run = os.path.isfile(lexer) and subprocess.run([lexer, "fmt", "--tokens", *paths], capture_output=True)
+    return re.split(rb"(?m)^file \d+\n", run.stdout)[1:] if run and run.returncode == 0 else []
+
+
+def code_of(text, tokens):
+    """Returns the lines of a text on which a token begins, or that a token of several lines has."""
+    rows = tokens.splitlines()
+    lines = {row[: row.index(b" ")] for row in rows}
+    for row in [it for it in rows if b"\\n" in it]:
+        line, begin, end = map(int, row.split(b" ", 3)[:3])
+        lines.update(b"%d" % it for it in range(line, line + text[begin:end].count(b"\n") + 1))
+    return b"\n".join(line for number, line in enumerate(text.split(b"\n"), 1) if b"%d" % number in lines)
+
+
+def built_file(crate):
     """Returns the file that changes with every build of the crate."""
     out = os.path.join(folder(crate), "out")
-    return os.path.join(out, crate) if is_program else os.path.join(out, "rlib", "stamp")
+    return os.path.join(out, crate) if is_program(crate) else os.path.join(out, "rlib", "stamp")
 
 
-def mark_of(crate, sums, is_program, cpu):
+def mark_of(crate, sums, cpu):
     """Returns the note of a build: the checksum of its sources, that of the built file, and the processor, if any."""
-    with open(built_file(crate, is_program), "rb") as file:
-        return f"{sums.of(crate)} {hashlib.sha256(file.read()).hexdigest()} {cpu}".rstrip() + "\n"
+    built = hashlib.sha256(bytes_of(built_file(crate))).hexdigest()
+    return f"{sums.of(crate)} {built} {cpu}".rstrip()
 
 
 def note_of(crate):
@@ -53,14 +104,15 @@ def note_of(crate):
     return os.path.join(TOP, "out", "stands", crate)
 
 
-def stands(crate, sums, is_program=False, cpu=""):
-    if not os.path.isfile(note_of(crate)) or not os.path.isfile(built_file(crate, is_program)):
+def stands(crate, sums, cpu=""):
+    if not os.path.isfile(note_of(crate)) or not os.path.isfile(built_file(crate)):
         return False
-    return read(note_of(crate)) == mark_of(crate, sums, is_program, cpu)
+    return mark_of(crate, sums, cpu) in read(note_of(crate)).split("\n")
 
 
-def note(crate, sums, is_program=False, cpu=""):
-    write(note_of(crate), mark_of(crate, sums, is_program, cpu))
+def note(crate, all_sums, cpu=""):
+    """Notes a build, with a line for each of these kinds of checksums."""
+    write(note_of(crate), "".join(mark_of(crate, sums, cpu) + "\n" for sums in all_sums))
 
 
 def refusal_of(edit):
@@ -70,8 +122,7 @@ def refusal_of(edit):
 
 def mark_of_edit(edit, sums):
     """Returns the checksum of what it changes, and of its own text."""
-    with open(os.path.join(TOP, edit.name), "rb") as file:
-        return f"{sums.of(edit.crate)} {hashlib.sha256(file.read()).hexdigest()}\n"
+    return f"{sums.of(edit.crate)} {hashlib.sha256(bytes_of(os.path.join(TOP, edit.name))).hexdigest()}\n"
 
 
 def was_refused(edit, sums):

@@ -8,8 +8,8 @@ check reports for each function whether it is refused by itself. It tries alone 
 leaves open, and changes outside of functions. It prints each wrong body that no clause refuses, and ends with
 status 0 if there is none.
 
-It notes below out/refused/ which were refused, with checksums of the crate, of all below it and of the edit. After an
-interrupt or a change it tries only the rest; with --anew it tries all.
+It notes below out/refused/ which were refused, with checksums of the code of the crate and of all below it, and of the
+edit. After an interrupt or a change it tries only the rest; with --anew it tries all.
 """
 import argparse
 import collections
@@ -17,15 +17,14 @@ import os
 import re
 import shutil
 import sys
-import time
 
 import build
 import crates
-from crates import EDITS, SOURCES, TOP, edits_of, folder, listed, touched, write
+from crates import EDITS, SOURCES, edits_of, folder, listed, touched, write
 from edits import Edit, Texts
 from functions import OF_NAMES, Said, function_of, names_of
-from lanes import ONE_JOB, alone, run_in, side_by_side
-from standing import RT, Sums, note_refusal, was_refused
+from lanes import ONE_JOB, Clock, alone, run_in, side_by_side
+from standing import RT, CodeSums, Sums, note_refusal, was_refused
 
 REFUSED, BY_NAME, BY_LIMIT, MISSED, BAD = range(5)
 # the most in one check: more would leave processors idle at the end
@@ -143,12 +142,9 @@ def found_alone(status, said):
 class Trials:
     """The trials that wait, and the results. It notes refusals."""
 
-    def __init__(self, trials, room, sums):
-        self.room, self.sums, self.begun = room, sums, time.time()
+    def __init__(self, trials, room, code):
+        self.room, self.code, self.clock = room, code, Clock()
         self.number, self.found, self.waiting = 0, {}, list(trials)
-
-    def report(self, what):
-        print(f"  {time.time() - self.begun:4.0f} s: {what}", file=sys.stderr, flush=True)
 
     def next(self):
         """Returns the job for the next trial, or None."""
@@ -172,9 +168,9 @@ class Trials:
         trial, found = result
         self.found.update(found)
         for edit in [it for it in found if found[it][0] == REFUSED]:
-            note_refusal(edit, self.sums)
+            note_refusal(edit, self.code)
         left = [edit for edit in trial.edits if edit not in found]
-        self.report(f"{trial.crate}: {len(found)} of {len(trial.edits)} settled" + f"; {len(left)} to be tried again" * bool(left))
+        self.clock.report(f"{trial.crate}: {len(found)} of {len(trial.edits)} settled" + f"; {len(left)} to be tried again" * bool(left))
         self.waiting[:0] = parts_of(trial, left)
 
 
@@ -192,17 +188,17 @@ def asked():
     return [crate for crate in found if edits_of(crate) and (not given.crates or crate in given.crates)], given.anew
 
 
-def tried(edits, sums):
+def tried(edits, code):
     """Proves the crates of these wrong bodies, and tries them; returns the result of each."""
     chosen = list(dict.fromkeys(edit.crate for edit in edits))
-    failed = build.prove(crates.with_below(chosen), sums, "each crate")
+    failed = build.prove(crates.with_below(chosen), Sums(), "with wrong bodies, and those below them")
     if failed:
         sys.exit(build.fail(*failed))
     trials = [trial for crate in chosen for trial in trials_of(crate, [it for it in edits if it.crate == crate])]
     seconds = build.seconds_of(chosen)
     trials.sort(key=lambda trial: -len(trial.edits) * seconds[trial.crate])
     with crates.room("wrong") as room:
-        work = Trials(trials, room, sums)
+        work = Trials(trials, room, code)
         side_by_side(work.next, work.end)
         return work.found
 
@@ -224,10 +220,10 @@ def report(edits, found, kept):
 def main():
     chosen, is_anew = asked()
     with alone():
-        sums = Sums()
+        code = CodeSums(chosen)
         all_edits = [Edit(path) for crate in chosen for path in edits_of(crate)]
-        edits = [it for it in all_edits if is_anew or not was_refused(it, sums)]
-        found = tried(edits, sums) if edits else {}
+        edits = [it for it in all_edits if is_anew or not was_refused(it, code)]
+        found = tried(edits, code) if edits else {}
     return 0 if report(edits, found, len(all_edits) - len(edits)) else 1
 
 

@@ -126,7 +126,7 @@ class Run(Copy):
         self.assert_refused(self.call("make", "run"), "python3 is missing")
 
     def test_other_calls_without_the_kit(self):
-        for call in ("prove", "build", "release", "quick", "wrong"):
+        for call in ("prove", "build", "release", "quick", "try", "wrong"):
             self.assert_refused(self.call("make", call), "rt is missing")
         self.assert_refused(self.call("make", "compare"), "run make prove first")
 
