@@ -8,6 +8,7 @@
 #   model.sh      a model in Python, on the same cases
 #   random.sh     the program and the model on random scripts
 #   sizes.sh      and on scripts that go past usual sizes
+#   pieces.py     files assembled from pieces: messages of the standards, a million letters, the largest files
 #   repeats.py    requests of the cases that come again, beside the model
 #   wire/run.sh   frames on standard streams and on connections, in Python
 #   folders/run.sh   profiles of folders of this machine, in Python
@@ -65,6 +66,7 @@ part sh "$tests/endings.sh" "$program"
 part sh "$tests/model.sh"
 part sh "$tests/random.sh" "$program"
 part sh "$tests/sizes.sh" "$program"
+part python3 "$tests/pieces.py" "$program"
 part python3 "$tests/repeats.py" "$program"
 part sh "$tests/folders/run.sh" "$program"
 part sh "$tests/report/run.sh" "$program"

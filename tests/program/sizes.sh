@@ -38,6 +38,9 @@ compare() {
 sample=$tests/sample_registry.csv
 "$model/large_script.py" registry >"$work/registry.csv"
 compare pieces "$sample" "taken 1001" "taken 4097" "taken 4200" "finished none false [0-9a-f]* -" "progress 4200 4200"
+compare orders "$sample" "refused 13" "refused 14" "refused 15 0" "refused 15 7" "refused 16 5" "taken 58" "progress 30 [0-9]*" \
+    "finished Signature false - .*" "finished Signature false [0-9a-f]{32} .*" "finished Signature false [0-9a-f]{64} .*" \
+    "finished none false - -" "finished none false [0-9a-f]{32} -" "finished none false [0-9a-f]{64} -" "refused 12"
 compare nodes "$sample" "node 1000" "node 3000" "abandoned" "part [0-9]* [0-9]* 1048576"
 all_puids="dev/0{27}1,.*,dev/0{24}4096"
 compare formats "$work/registry.csv" "finished Signature false [0-9a-f]* $all_puids" \

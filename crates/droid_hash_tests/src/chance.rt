@@ -35,56 +35,54 @@ pub(crate) fn part(bytes: &[u8; LEN], from: usize, to: usize) -> &[u8] {
     &bytes[from..to]
 }
 
-// A message of its own for each lane and each turn: over 301 turns a lane has each length once.
-pub(crate) fn message(bytes: &[u8; LEN], lane: usize, turn: usize) -> &[u8] {
-    let len = (turn % 1000 + 37 * (lane % 8)) % 301;
-    part(bytes, lane % 8, lane % 8 + len)
-}
-
 /// Where a lane's message begins in the bytes, and where it ends so far.
 #[derive(Clone, Copy)]
 pub(crate) struct Span {
-    pub(crate) from: usize,
-    pub(crate) to: usize,
+    from: usize,
+    to: usize,
 }
 
 impl Span {
-    pub(crate) fn at(from: usize) -> Span {
+    // An empty message at one of the first thousand bytes.
+    pub(crate) fn at(seed: u64) -> Span {
+        let from = below(seed, 1000);
         Span { from, to: from }
     }
 
     // The next piece, which is empty where the bytes are at an end.
     pub(crate) fn piece(self, bytes: &[u8; LEN], len: usize) -> &[u8] {
-        if self.to > LEN || len > LEN - self.to {
-            return &bytes[..0];
-        }
-        &bytes[self.to..self.to + len]
+        part(bytes, self.to, self.to.saturating_add(len))
     }
 
-    // The span with that piece.
-    pub(crate) fn grown(self, len: usize) -> Span {
-        if self.to > LEN || len > LEN - self.to {
-            return self;
-        }
+    // The span with so many bytes more, of that piece.
+    pub(crate) fn grown(self, bytes: &[u8; LEN], len: usize, count: usize) -> Span {
+        let more = self.piece(bytes, len).len().min(count);
         Span {
             from: self.from,
-            to: self.to + len,
+            to: self.to.saturating_add(more),
         }
     }
 
     pub(crate) fn bytes(self, bytes: &[u8; LEN]) -> &[u8] {
-        if self.from > self.to || self.to > LEN {
-            return &bytes[..0];
-        }
-        &bytes[self.from..self.to]
+        part(bytes, self.from, self.to)
     }
 }
 
-// How long a lane's next piece is: a third are empty, a third short, a third long.
-pub(crate) fn piece_len(seed: u64) -> usize {
-    match seed / 4_294_967_296 % 3 {
-        0 => 0,
-        1 => below(seed, 70),
-        _ => below(seed, 400),
+// How long the lanes' next pieces are: a third are empty, a third short, a third long. In every fourth turn one lane alone
+// has a piece.
+pub(crate) fn lens(seed: u64, turn: usize) -> [usize; 8] {
+    let mut lens = [0usize; 8];
+    let mut seed = seed;
+    for lane in 0..8 {
+        seed = next(seed);
+        lens[lane] = match seed / 4_294_967_296 % 3 {
+            0 => 0,
+            1 => below(seed, 70),
+            _ => below(seed, 400),
+        };
+        if turn % 4 == 3 && lane != turn / 4 % 8 {
+            lens[lane] = 0;
+        }
     }
+    lens
 }

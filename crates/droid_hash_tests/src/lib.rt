@@ -6,8 +6,6 @@ mod assembly;
 #[cfg(test)]
 mod chance;
 #[cfg(test)]
-mod digests;
-#[cfg(test)]
 mod lanes;
 #[cfg(test)]
 mod scan;

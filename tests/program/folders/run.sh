@@ -11,5 +11,5 @@ build_library changes.c "$PRELOAD_CHANGES"
 build_library calls.c "$PRELOAD_CALLS"
 build_library clock.c "$PRELOAD_CLOCK"
 build_library chdirs.c "$PRELOAD_CHDIRS"
-run_modules profile_trees profile_names profile_random profile_skipped profile_reads profile_exchanged profile_output profile_manifest profile_report \
+run_modules profile_trees profile_names profile_random profile_skipped profile_reads profile_hashes profile_exchanged profile_output profile_manifest profile_report \
     profile_model profile_many profile_progress profile_arguments verify_lists verify_steps checksum_lists folder_calls working_folder

@@ -2,6 +2,7 @@
 """Writes a script that goes past usual sizes, or the registry of one: `large_script.py NAME`."""
 
 import sys
+from random import Random
 
 LARGEST_PART = 1_048_576
 LONGEST_NAME = 255
@@ -34,6 +35,45 @@ def pieces():
     yield asked(3, "status", 1, 1)
     yield asked(10 + PIECES - 1, "piece", 1, 1, PIECES - 1, "%02x" % ((PIECES - 1) % 256))
     yield from parts(5, 1, 1)
+
+
+def orders():
+    """Yields files of up to 60 small pieces in a random order: most are near the first missing one, some of a wrong length. In
+    the end all come in order. The scan limit is near the file's size or its half."""
+    chance = Random(20_260_722)
+    number = 0
+    for profile in range(1, 61):
+        piece_size, count = chance.randint(1, 8), chance.randint(0, 60)
+        size = max(count * piece_size - chance.choice([0, piece_size - 1, chance.randrange(piece_size)]), 0)
+        limit = chance.choice([size + 1, size, size - 1, size // 2, size // 2 + 1, 1, chance.randint(0, size + 2)])
+        content = bytearray(chance.choices(b"abcdxyz", k=size))
+        content[:7] = chance.choice([b"message", b"abcdxyz", b"ab?dxyz"])[:size]
+        content[size - min(size, 3) :] = b"xyz"[: min(size, 3)]
+        number += 2
+        yield "v2 " + asked(number, "create", max(limit, 1), 0, chance.choice(["none", "md5", "sha256"]))
+        yield "v2 " + asked(number + 1, "file", profile, 0, 0, size, piece_size, "f")
+        missing = 0
+        held = set()
+        for turn in range(3 * count + 4):
+            index = chance.randrange(count + 2) if chance.randrange(4) == 0 else min(missing + chance.randrange(18), count)
+            piece = bytes(content[index * piece_size : (index + 1) * piece_size])
+            if chance.randrange(12) == 0:
+                piece = bytes(chance.choices(b"abcdxyz", k=chance.randrange(10)))
+            elif index < missing + 16 and piece:
+                held.add(index)
+            while missing in held:
+                missing += 1
+            number += 2
+            yield "v2 " + asked(number, "piece", profile, 1, index, piece.hex() or "-")
+            yield "v2 " + asked(number + 1, "status" if turn % 4 or missing == count else "finish", profile, 1)
+        number += 1
+        for index in range(count):
+            number += 1
+            piece = bytes(content[index * piece_size : (index + 1) * piece_size])
+            yield "v2 " + asked(number, "piece", profile, 1, index, piece.hex())
+        number += 2
+        yield "v2 " + asked(number, "finish", profile, 1)
+        yield "v2 " + asked(number + 1, "finish", profile, 1)
 
 
 def nodes():
@@ -132,7 +172,7 @@ def filters():
 
 
 def main(name):
-    lines = {"pieces": pieces, "nodes": nodes, "formats": formats, "registry": registry, "clients": clients, "filters": filters}
+    lines = {"pieces": pieces, "orders": orders, "nodes": nodes, "formats": formats, "registry": registry, "clients": clients, "filters": filters}
     for line in lines[name]():
         print(line)
 

@@ -3,10 +3,5 @@
 mod faults;
 mod files;
 mod memory;
-mod messages;
-mod orders;
-mod pieces;
-mod plain;
 mod readme_example;
 mod steps;
-mod xorshift;
