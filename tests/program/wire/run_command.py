@@ -6,11 +6,12 @@ import socket
 import subprocess
 import tempfile
 import unittest
+from concurrent.futures import ThreadPoolExecutor
 
 from lib import frames
 from lib.connections import SECONDS, free_port
 from lib.frames import HEADER, LIMITS, create, file, finish, folder, frame, in_version, refusal, reply
-from lib.program import PROGRAM, SAMPLE, SAMPLE_NOTE, faults, run
+from lib.program import PROGRAM, SAMPLE, SAMPLE_NOTE, faults, preloaded, run
 
 CREATE = create(1)
 FOLDER, OTHER_FOLDER = folder(2, b"in"), folder(2, b"out")
@@ -57,6 +58,27 @@ class Run(unittest.TestCase):
                     whole = max(place for place, end in enumerate(ENDS[version]) if end <= size)
                     status, said = (0, "") if size in ENDS[version] else (4, fault("Truncated"))
                     self.assertEqual(run(["run"], requests[:size]), (status, replies[: REPLIED[whole]], said))
+
+    def test_streams_that_stop_at_each_byte(self):
+        """The input fails, or gives a byte at a time and then ends; the output fails or takes nothing. All frames that arrived whole
+        are answered, and the bytes of replies that the output took are their first ones."""
+        rows = []
+        for version, ends in ENDS.items():
+            for size in range(ends[-1] + 1):
+                count = REPLIED[max(place for place, end in enumerate(ends) if end <= size)]
+                rows.append((version, {"READ_ROOM": size}, count, "Read"))
+                rows.append((version, {"READ_ENDS": size, "READ_WIDTH": 1}, count, None if size in ends else "Truncated"))
+            for size in range(REPLIED[-1] + 1):
+                name = None if size == REPLIED[-1] else "Write"
+                rows += [(version, {"WRITE_ENDS": size}, size, name), (version, {"WRITE_ROOM": size, "WRITE_WIDTH": 1}, size, name)]
+
+        def ended(row):
+            return run(["run"], session_in(row[0])[0], env=preloaded("STREAMS", **row[1]))
+
+        with ThreadPoolExecutor(4) as pool:
+            for row, found in zip(rows, pool.map(ended, rows)):
+                version, _, count, name = row
+                self.assertEqual(found, (4 if name else 0, session_in(version)[1][:count], fault(name) if name else ""), row)
 
     def test_bytes_that_are_no_frame(self):
         """All frames before them are answered."""
