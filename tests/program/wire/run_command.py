@@ -80,6 +80,18 @@ class Run(unittest.TestCase):
                 version, _, count, name = row
                 self.assertEqual(found, (4 if name else 0, session_in(version)[1][:count], fault(name) if name else ""), row)
 
+    def test_a_frame_that_is_no_request_changes_nothing(self):
+        """Bodies that are too short or too long for their kind, kinds that there are not, and a number of 2^63. And under a number
+        that is kept, the other version's body of its request, and a hash that there is not."""
+        short, whole, long = (bytes.fromhex(it) for it in ("00000001000000", "0000000100000000", "000000010000000000"))
+        rows = [(1, 5, 9, short), (1, 5, 9, long), (1, 0, 9, b""), (1, 9, 9, b""), (1, 1, 9, b""), (1, 129, 9, b"\0\0\0\1")]
+        rows += [(1, 255, 9, b"\0\0\0"), (1, 5, 2**63, whole), (2, 5, 9, short), (2, 1, 9, b"\0\0\0\1\0"), (2, 5, 2**63, whole)]
+        rows += [(2, 1, 1, b"\0\1\0\0\0"), (2, 1, 1, b"\0\1\0\0\0\3"), (1, 1, 1, b"\0\1\0\0\0\1")]
+        sent = b"".join(frame(kind, 1, number, body, version) for version, kind, number, body in rows)
+        due = b"".join(refusal(number, 1, version=version) for version, _, number, _ in rows)
+        later, replies = finish(9, 1) + folder(9, b"in"), refusal(9, 4) + reply(frames.NODE, 9, 1)
+        self.assertEqual(run(["run"], CREATE + sent + later), (0, MADE + due + replies, ""))
+
     def test_bytes_that_are_no_frame(self):
         """All frames before them are answered."""
         fronts = [(CREATE, MADE), (SHORT_FINISH + CREATE, MALFORMED + MADE)]
