@@ -1,7 +1,7 @@
 #!/bin/sh
 # Runs the model (model/main.py) on the cases and on registry files, as the program is run. It has to agree with their
 # expectations, which were not taken from the program. Skips the cases of the command line's own text and of an input
-# that is no file. Then compares the model's random requests with their table.
+# that is no file.
 set -u
 tests=$(cd "$(dirname "$0")" && pwd)
 model=$tests/model/main.py
@@ -22,7 +22,4 @@ sh "$tests/registry.sh" "$model" &
 registries=$!
 wait "$cases" || failed=1
 wait "$registries" || failed=1
-# the tables of random requests in droid_core_tests have to be what the model writes
-table=$tests/../../crates/droid_core_tests/src/by_chance.rt
-"$tests/model/recent_steps.py" 60 43 44 45 46 | cmp - "$table" || failed=1
 [ "$failed" -eq 0 ]

@@ -2,7 +2,8 @@
 """Tests how requests that come again are answered: repeats.py PROGRAM
 
 It takes each case of cases/ whose arguments are `script` alone and whose input is small. The program gets each line
-twice, which is answered alike, and then all lines once more. The replies are those of the model (model/).
+twice, which is answered alike, and then all lines once more; and again behind so many others that it has none of their
+replies cached. The replies are those of the model (model/).
 """
 
 import os
@@ -19,6 +20,10 @@ from service import Service  # noqa: E402
 CASES = os.path.join(TESTS, "cases")
 # of an input that a script writes, one byte more is read
 LARGEST = 10_000
+# how many replies a service caches
+CACHED = 256
+# a client of its own
+OTHER = 4_000_000_000
 
 
 def read(*path):
@@ -50,19 +55,24 @@ def reply(service, line):
         return b"bad line\n"
 
 
-def expected(lines):
-    """Returns the replies if each line comes twice, and then all of them once more."""
+def script_of(lines):
+    """Returns a script in which each line comes twice, all of them come once more, and then so again behind others; and the
+    replies to it."""
     service = Service(Registry(read(TESTS, "sample_registry.csv")))
     first = [reply(service, line) for line in lines]
-    again = [reply(service, line) for line in lines]
-    return b"".join([it for it in first for _ in range(2)] + again)
+    replies = [it for it in first for _ in range(2)] + [reply(service, line) for line in lines]
+    others = [b"%d 1 create 1 0" % OTHER]
+    made = reply(service, others[0])
+    if made.startswith(b"made "):
+        others += [b"%d %d folder %d 0 0 %d" % (OTHER, number, int(made.split()[1]), number) for number in range(2, CACHED + 2)]
+    replies += [made] + [reply(service, line) for line in others[1:] + lines]
+    return [line for line in lines for _ in range(2)] + lines + others + lines, replies
 
 
 def passes(program, lines):
-    twice = [line for line in lines for _ in range(2)]
-    script = b"".join(line + b"\n" for line in twice + lines)
-    done = subprocess.run([program, "script"], input=script, capture_output=True, check=False)
-    return done.stdout == expected(lines) and not done.stderr
+    script, replies = script_of(lines)
+    done = subprocess.run([program, "script"], input=b"".join(line + b"\n" for line in script), capture_output=True, check=False)
+    return done.stdout == b"".join(replies) and not done.stderr
 
 
 def main(program):

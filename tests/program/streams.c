@@ -6,13 +6,17 @@
  *   READ_INTERRUPTED_AT    BYTES:CALLS,BYTES:CALLS.. with rising BYTES: after BYTES bytes interrupts CALLS calls
  *   READ_ROOM              after this many bytes each call fails
  *   READ_FAILS_ONCE        after this many bytes one call fails, and the next succeeds
+ *   READ_ENDS              after this many bytes a call takes none
  *   READ_WIDTH             a call takes at most this many bytes; a write of width 0 takes none
- * CLOCK_TIMES has its clock go so many times as fast. */
+ *   READ_CHANCE            a call takes some of its bytes by chance, from this seed
+ * CLOCK_TIMES has its clock go so many times as fast, WAITS_TIMES its waits for many connections. Behind WAITS waits the next
+ * one fails. */
 #define _GNU_SOURCE
 #include <dlfcn.h>
 #include <errno.h>
 #include <stdio.h>
 #include <stdlib.h>
+#include <sys/epoll.h>
 #include <sys/socket.h>
 #include <time.h>
 #include <unistd.h>
@@ -21,6 +25,7 @@ struct stream {
     const char *name;
     int error;          /* the error of a failed call */
     long calls, done, failures;
+    unsigned chance;
     const char *places; /* the unread rest of INTERRUPTED_AT, or NULL before it is read */
     long place, left;   /* the next place, or -1, and the number of its interruptions */
 };
@@ -82,7 +87,13 @@ static ssize_t allowed(struct stream *stream, size_t size) {
     if (is_interrupted(stream)) return failed(EINTR);
     if (stream->done == fails_once && stream->failures++ == 0) return failed(stream->error);
     if (stream->done == room) return failed(stream->error);
+    if (stream->done == number(stream, "ENDS", -1)) return 0;
     most = least(most, number(stream, "WIDTH", -1));
+    if (number(stream, "CHANCE", 0) && most > 1) {
+        if (!stream->chance) stream->chance = number(stream, "CHANCE", 0);
+        most = 1 + rand_r(&stream->chance) % most;
+    }
+    most = up_to(stream, number(stream, "ENDS", -1), most);
     most = up_to(stream, room, most);
     most = up_to(stream, fails_once, most);
     return up_to(stream, stream->place, most);
@@ -125,6 +136,15 @@ ssize_t send(int file, const void *bytes, size_t size, int flags) {
     if (!next) next = (ssize_t (*)(int, const void *, size_t, int))dlsym(RTLD_NEXT, "send");
     most = allowed(&sent, size);
     return most <= 0 ? most : counted(&sent, next(file, bytes, most, flags));
+}
+
+int epoll_wait(int set, struct epoll_event *events, int most, int limit) {
+    static int (*next)(int, struct epoll_event *, int, int);
+    static long waits;
+    const char *before = getenv("WAITS"), *times = getenv("WAITS_TIMES");
+    if (!next) next = (int (*)(int, struct epoll_event *, int, int))dlsym(RTLD_NEXT, "epoll_wait");
+    if (before && waits++ >= atol(before)) return failed(EINVAL);
+    return next(set, events, most, times ? limit / atoi(times) + 1 : limit);
 }
 
 int clock_gettime(clockid_t clock, struct timespec *now) {

@@ -159,6 +159,8 @@ read_interrupted_64_times_before_each_frame_and_the_end 0 85 - READ_INTERRUPTED_
 read_interrupted_64_times_over_header_and_body 0 85 - READ_INTERRUPTED_AT=10:32,20:32
 read_interrupted_65_times_over_header_and_body 4 0 Read READ_INTERRUPTED_AT=10:32,20:33
 read_interrupted_65_times_within_the_second_frame 4 22 Read READ_INTERRUPTED_AT=10:64,40:65
+read_interrupted_64_times_within_three_frames 0 85 - READ_INTERRUPTED_AT=5:64,30:64,70:64
+read_interrupted_65_times_within_the_third_frame 4 44 Read READ_INTERRUPTED_AT=5:64,30:64,70:65
 read_interrupted_65_times_within_the_last_frame 4 66 Read READ_INTERRUPTED_AT=10:64,40:64,80:64,120:65
 read_interrupted_65_times_at_the_end 4 85 Read READ_INTERRUPTED_AT=10:64,$d:65
 written_interrupted_64_times_within_two_replies 0 85 - WRITE_INTERRUPTED_AT=5:64,30:64
@@ -166,6 +168,8 @@ written_interrupted_64_times_before_each_reply 0 85 - WRITE_INTERRUPTED_AT=0:64,
 written_interrupted_64_times_over_header_and_body 0 85 - WRITE_INTERRUPTED_AT=5:32,20:32
 written_interrupted_65_times_over_header_and_body 4 20 Write WRITE_INTERRUPTED_AT=5:32,20:33
 written_interrupted_65_times_within_the_second_reply 4 30 Write WRITE_INTERRUPTED_AT=5:64,30:65
+written_interrupted_64_times_within_three_replies 0 85 - WRITE_INTERRUPTED_AT=5:64,30:64,50:64
+written_interrupted_65_times_within_the_third_reply 4 50 Write WRITE_INTERRUPTED_AT=5:64,30:64,50:65
 written_interrupted_65_times_within_the_last_reply 4 80 Write WRITE_INTERRUPTED_AT=5:64,30:64,50:64,80:65
 read_interrupted_64_times_within_the_second_and_the_third 0 85 - READ_INTERRUPTED_AT=$((a + 9)):64,$((b)):32,$((b + 24)):32
 ROWS

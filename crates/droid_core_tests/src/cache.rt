@@ -1,32 +1,10 @@
 //! Which replies are cached: those that were used last, as many as there are places.
 
-use crate::steps::{CREATE, LARGEST, Step, is_answered, service};
+use crate::steps::{CREATE, LARGEST, Step, is_answered, is_made, service};
 use droid_core::Service;
 use droid_pronom::Registry;
 use droid_testing::SAMPLE;
 use std::alloc::Global;
-
-/// How many of the replies under these numbers are cached.
-fn count_cached(service: &Service, numbers: &[u64]) -> usize {
-    let mut count = 0usize;
-    for number in numbers {
-        if service.is_cached(1, *number) & !service.is_cached(2, *number) {
-            count = count.saturating_add(1);
-        }
-    }
-    count
-}
-
-/// Asks for the folder of this number, which is made the first time: its reply is then cached.
-fn is_made(alloc: Global, service: &mut Service, number: u64, id: u64) -> bool {
-    let Ok(line) = format!(in alloc; "1 {number} folder 1 0 0 f{number}") else {
-        return false;
-    };
-    let Ok(wanted) = format!(in alloc; "node {id}\n") else {
-        return false;
-    };
-    is_answered(alloc, service, &(line.as_str(), wanted.as_str()))
-}
 
 /// How many places there are, the numbers that are used in turn, which of them are cached then, and which are not. A number
 /// that is used first is that of the next folder.
@@ -45,6 +23,11 @@ const USED: &[Use] = &[
 /// The profile is made under another number of another client, which leaves the cache as the folders come.
 const PROFILE: Step = ("9 9 create 65536 0", "made 1\n");
 
+/// Whether the reply under a number is cached for client 1 alone.
+fn is_near(service: &Service, number: u64) -> bool {
+    service.is_cached(1, number) & !service.is_cached(2, number)
+}
+
 fn are_used(alloc: Global, used: &Use<'_>) -> bool {
     let (places, numbers, near, far) = *used;
     let Some(mut service) = service(alloc, LARGEST, places) else {
@@ -54,9 +37,13 @@ fn are_used(alloc: Global, used: &Use<'_>) -> bool {
     for number in numbers {
         right &= is_made(alloc, &mut service, *number, *number);
     }
-    let gone = count_cached(&service, far) == 0;
-    let there = count_cached(&service, near) == near.len();
-    right & gone & there & (service.cached() <= places)
+    for number in near {
+        right &= is_near(&service, *number);
+    }
+    for number in far {
+        right &= !is_near(&service, *number);
+    }
+    right & (service.cached() <= places)
 }
 
 #[test]
@@ -79,64 +66,49 @@ const TURNS: &[Turn] = &[
     (("1 3 export 1 0 2", "part 2 296 2\n\"I"), 2, 3),
 ];
 
-fn is_put(alloc: Global, service: &mut Service, turn: &Turn<'_>) -> bool {
-    let (step, near, far) = *turn;
-    let right = is_answered(alloc, service, &step);
-    let there = service.is_cached(1, near) & !service.is_cached(2, near);
-    let gone = !service.is_cached(1, far);
-    right & there & gone
-}
-
 /// A reply is cached if its request was accepted, and if it was read from the store.
 #[test]
 fn cached(rt: HostRuntime) {
     let mut service = service(rt.alloc(), LARGEST, 1).expect(&rt, "a service");
-    for turn in TURNS {
-        assert!(rt; is_put(rt.alloc(), &mut service, turn));
+    for (step, near, far) in TURNS {
+        let right = is_answered(rt.alloc(), &mut service, step);
+        assert!(rt; right && is_near(&service, *near) && !service.is_cached(1, *far));
     }
 }
 
 /// What is asked after a profile and 256 folders: the first of all again, the last, the first folder, and another profile
 /// under the first number.
-const LATER: &[Step] = &[
+const LATER: [Step; 4] = [
     CREATE,
     ("1 257 folder 1 0 0 f257", "node 256\n"),
     ("1 2 folder 1 0 0 f2", "node 1\n"),
     ("1 1 create 65535 0", "refused 2\n"),
 ];
 
-/// One more request is accepted than a service caches, so the first is not cached when it comes again.
-fn are_answered(alloc: Global, service: &mut Service) -> bool {
-    let mut right = is_answered(alloc, service, &CREATE);
+/// One more request is accepted than a service caches, so the first is not cached when it comes again. It has this many
+/// places.
+fn are_answered(alloc: Global, service: Option<Service>, places: usize) -> bool {
+    let Some(mut service) = service else {
+        return false;
+    };
+    let mut right = service.cached() == 0;
+    right &= is_answered(alloc, &mut service, &CREATE);
     for id in 1..257u64 {
-        right &= is_made(alloc, service, id.saturating_add(1), id);
+        right &= is_made(alloc, &mut service, id.saturating_add(1), id);
     }
     for step in LATER {
-        right &= is_answered(alloc, service, step);
+        right &= is_answered(alloc, &mut service, &step);
     }
-    right
-}
-
-#[test]
-fn more_than_are_cached(rt: HostRuntime) {
-    for places in [1usize, 256] {
-        let mut service = service(rt.alloc(), LARGEST, places).expect(&rt, "a service");
-        assert!(rt; are_answered(rt.alloc(), &mut service));
-        assert!(rt; service.cached() == places);
-    }
+    right & (service.cached() == places)
 }
 
 /// A service that says nothing of its cache has 256 places.
 #[test]
-fn usual_size(rt: HostRuntime) {
+fn more_than_are_cached(rt: HostRuntime) {
     let alloc = rt.alloc();
-    let registry = Registry::parse(alloc, SAMPLE.as_bytes())
-        .ok()
-        .expect(&rt, "a registry");
-    let mut service = Service::new(alloc, registry, LARGEST)
-        .ok()
-        .expect(&rt, "a service");
-    assert!(rt; service.cached() == 0);
-    assert!(rt; are_answered(alloc, &mut service));
-    assert!(rt; service.cached() == 256);
+    assert!(rt; are_answered(alloc, service(alloc, LARGEST, 1), 1));
+    assert!(rt; are_answered(alloc, service(alloc, LARGEST, 256), 256));
+    let registry = Registry::parse(alloc, SAMPLE.as_bytes()).ok();
+    let usual = Service::new(alloc, registry.expect(&rt, "a registry"), LARGEST).ok();
+    assert!(rt; are_answered(alloc, usual, 256));
 }

@@ -1,18 +1,11 @@
-//! Tests of the service, over the public calls of `droid_core` and of scripts alone: what the built program cannot show.
-//! (Requests and their replies stand in tests/program/cases.) Requests are written as lines of scripts, and replies are
-//! compared with what they print. Services that cache one reply and 256 have to answer alike.
+//! Tests of the service by public calls that the built program does not make; its own are in tests/program/cases. Requests
+//! are written as lines of scripts, and replies are compared with what they print.
 #![tactic(auto)]
 
 #[cfg(test)]
-mod bad_frames;
-#[cfg(test)]
-mod by_chance;
-#[cfg(test)]
 mod cache;
 #[cfg(test)]
-mod faults;
-#[cfg(test)]
-mod kept_bytes;
+mod content;
 #[cfg(test)]
 mod limits;
 #[cfg(test)]
@@ -25,7 +18,3 @@ mod runs;
 mod script_memory;
 #[cfg(test)]
 mod steps;
-#[cfg(test)]
-mod texts;
-#[cfg(test)]
-mod versions;

@@ -1,13 +1,12 @@
 //! Lines of scripts as requests to a service, and its replies as they are printed.
 
 use droid_core::{Limits, Service};
-use droid_frame::{Frame, Reply, mark, request_frame};
+use droid_frame::{Frame, Reply, request_frame};
 use droid_lines::{parse_line, print_answer};
 use droid_pronom::Registry;
 use droid_testing::SAMPLE;
 use std::alloc::Global;
 use std::num::NonZeroUsize;
-use std::process::Abort;
 
 /// A line of a script, and what its reply prints.
 pub type Step<'a> = (&'a str, &'a str);
@@ -21,9 +20,6 @@ pub const LARGEST: Limits = Limits {
 
 /// The first step of most scripts.
 pub const CREATE: Step = ("1 1 create 65536 0", "made 1\n");
-
-/// What a reply prints if there was no memory for its request.
-pub const OUT_OF_MEMORY: &[u8] = b"refused 18\n";
 
 /// An empty service that caches up to `places` replies, or `None` if there is no memory.
 pub fn service(alloc: Global, limits: Limits, places: usize) -> Option<Service> {
@@ -55,6 +51,15 @@ pub fn answer(alloc: Global, service: &mut Service, line: &str) -> Option<Vec<u8
     printed(alloc, service.handle(frame))
 }
 
+/// What the reply to a line prints, once more if there was no memory for the request.
+pub fn answer_in_the_end(alloc: Global, service: &mut Service, line: &str) -> Option<Vec<u8>> {
+    let text = answer(alloc, service, line)?;
+    if text.as_slice() == b"refused 18\n".as_slice() {
+        return answer(alloc, service, line);
+    }
+    Some(text)
+}
+
 /// Whether the service answers the step as it should.
 pub fn is_answered(alloc: Global, service: &mut Service, step: &Step<'_>) -> bool {
     let (line, wanted) = *step;
@@ -64,77 +69,11 @@ pub fn is_answered(alloc: Global, service: &mut Service, step: &Step<'_>) -> boo
     }
 }
 
-/// Asks a service that caches one reply and one that caches 256. Fails if one of them answers wrongly, and names the script
-/// and the place of the step.
-pub fn ask(rt: &impl Abort, alloc: Global, name: &str, limits: Limits, steps: &[Step<'_>]) {
-    let wrong = first_wrong_of_both(alloc, limits, steps);
-    assert!(rt; wrong.is_none(), "{name}: {wrong:?}");
-}
-
-/// The place of the first step that one of the two services answers wrongly. It is past the last step if they do not answer
-/// alike at the end.
-fn first_wrong_of_both(alloc: Global, limits: Limits, steps: &[Step<'_>]) -> Option<usize> {
-    let (wrong, few) = asked(alloc, limits, 1, steps);
-    let (other, many) = asked(alloc, limits, 256, steps);
-    let unlike = (few != many).then_some(steps.len());
-    wrong.or(other).or(unlike)
-}
-
-/// The place of the first step that a new service answers wrongly, and a sum of all its replies at the end.
-fn asked(alloc: Global, limits: Limits, places: usize, steps: &[Step<'_>]) -> (Option<usize>, u64) {
-    let Some(mut service) = service(alloc, limits, places) else {
-        return (Some(0), 0);
-    };
-    let wrong = first_wrong(alloc, &mut service, steps);
-    let lost = first_lost(alloc, &mut service, steps);
-    let sum = sum_of_replies(alloc, &mut service, steps);
-    (wrong.or(lost), sum)
-}
-
-/// The place of the first step that is not answered as it should be, at once and once more.
-pub fn first_wrong(alloc: Global, service: &mut Service, steps: &[Step<'_>]) -> Option<usize> {
-    for (place, step) in steps.iter().enumerate() {
-        let first = is_answered(alloc, service, step);
-        let second = is_answered(alloc, service, step);
-        if !(first & second) {
-            return Some(place);
-        }
+/// Whether the service makes the folder of this number, or made it before, with this number of a node.
+pub fn is_made(alloc: Global, service: &mut Service, number: u64, id: u64) -> bool {
+    let line = format!(in alloc; "1 {number} folder 1 0 0 f{number}");
+    match (line, format!(in alloc; "node {id}\n")) {
+        (Ok(line), Ok(wanted)) => is_answered(alloc, service, &(line.as_str(), wanted.as_str())),
+        _ => false,
     }
-    None
-}
-
-/// The place of the first step whose reply should have been kept and was not.
-fn first_lost(alloc: Global, service: &mut Service, steps: &[Step<'_>]) -> Option<usize> {
-    for (place, step) in steps.iter().enumerate() {
-        let (_, wanted) = *step;
-        if !is_answered(alloc, service, step) & is_kept(wanted) {
-            return Some(place);
-        }
-    }
-    None
-}
-
-/// Whether a reply is kept: that to an accepted command, and neither a refusal nor the reply to a query.
-fn is_kept(printed: &str) -> bool {
-    !matches!(printed.as_bytes().first(), Some(b'r' | b'p'))
-}
-
-/// A sum of the marks of what the steps are answered now. It changes with each reply.
-fn sum_of_replies(alloc: Global, service: &mut Service, steps: &[Step<'_>]) -> u64 {
-    let mut sum = 0u64;
-    for step in steps {
-        let (line, _) = *step;
-        let reply = match answer(alloc, service, line) {
-            Some(printed) => number_of(mark(0, printed.as_slice())),
-            None => 0,
-        };
-        sum = sum.wrapping_mul(31).wrapping_add(reply);
-    }
-    sum
-}
-
-/// The first eight bytes of a mark.
-fn number_of(mark: [u8; 16]) -> u64 {
-    let [a, b, c, d, e, f, g, h, ..] = mark;
-    u64::from_be_bytes([a, b, c, d, e, f, g, h])
 }

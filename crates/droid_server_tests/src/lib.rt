@@ -1,18 +1,9 @@
-//! Tests of serving streams and connections, of journals, and of sending lines. Those of the built program are in tests/program.
+//! Tests of serving, of journals and of sending, by calls that the built program does not make. Its own are in
+//! tests/program/wire and tests/program/journal.
 #![tactic(auto)]
 
 #[cfg(test)]
-mod client_frames;
-#[cfg(test)]
-mod counting_handler;
-#[cfg(test)]
-mod displays;
-#[cfg(test)]
 mod journal;
-#[cfg(test)]
-mod parts;
-#[cfg(test)]
-mod pipe;
 #[cfg(test)]
 mod sending;
 #[cfg(test)]

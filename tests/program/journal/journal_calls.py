@@ -2,7 +2,9 @@
 what, and what comes of each call that fails, as on a broken disk. Only the failed call fails: whoever tries again would succeed, and
 might then say that something is on the disk that the disk has lost."""
 
+import contextlib
 import os
+import random
 import socket
 import threading
 import unittest
@@ -11,11 +13,12 @@ from journal_compact import compact, smaller_of
 from journal_file import read
 from journal_session import NO_ROOM_BESIDE, NOT_EXCHANGED, UNREAD, UNWRITTEN, InJournal, contents, not_beside, printed, run_journal, serving
 from journal_session import store, unopened
-from lib.connections import SECONDS, connect, read_exactly, read_frame
+from lib.connections import SECONDS, connect, read_exactly, read_frame, read_until_reset
 from lib.frames import HEADER, create, export, folder
 from lib.program import preloaded
 from model_frames import answer, service_of_the_sample
 from journal_smaller import ASKED, MORE
+from serve_many_desks import whole_frames
 
 FILE, TORN, NEW = "desk.journal", "desk.journal.torn", "desk.journal.new"
 CLIENTS = 6
@@ -258,6 +261,60 @@ class Failing(Noted):
             if closed:
                 self.assertFalse(is_open(waits))
         return answered
+
+    def test_sixteen_in_a_turn(self):
+        """Of 40 frames that come at once, sixteen are handled in a turn: where a write or a sync of a turn fails, the replies of the turns
+        before it were written, and no others."""
+        self.assertEqual(run_journal(self.path)[0], 0)
+        asked = [create(1)] + [folder(number, b"%d" % number) for number in range(2, 41)]
+        due, found, syncs = due_to(asked), set(), 0
+        for call, (_, written, _) in self.each_in_turn(contents(self.path), lambda env: run_journal(self.path, b"".join(asked), env=env)):
+            # (a start syncs the file first)
+            if call in (f"write {FILE}", f"sync {FILE}") and syncs:
+                self.assertEqual(written, due[: len(due_to(asked[: 16 * (syncs - 1)]))], call)
+                found.add((call.split()[0], 16 * (syncs - 1)))
+            syncs += call == f"sync {FILE}"
+        self.assertEqual(found, {(verb, count) for verb in ("write", "sync") for count in (0, 16, 32)})
+
+    def test_many_clients(self):
+        """Three clients send in pieces by chance while a write or a sync fails, whichever it is. Behind that call nothing is written to
+        anyone, all are closed, and each reply that came has its record in the file."""
+        self.lay(None)
+        with serving(self.path, "--forever", env=self.noting(), killed=True):
+            begun = len(without_answers(self.noted()))
+        lost = 0
+        for seed in range(4):
+            for place in range(1, 13):
+                self.lay(None)
+                with serving(self.path, "--forever", env=self.noting(FAILS=begun + place), killed=True) as service:
+                    came = self.by_chance(service.port, random.Random(seed))
+                    self.assertEqual(service.process.wait(SECONDS), 4)
+                    self.assertEqual(service.process.stderr.read(), printed("Journal", UNWRITTEN, self.path))
+                noted = self.noted()
+                failed = [at for at, call in enumerate(noted) if not call.startswith("answer")][begun + place - 1]
+                self.assertEqual([call for call in noted[failed + 1 :] if call.startswith("answer")], [], (seed, place))
+                records = read(contents(self.path)).records
+                self.assertLessEqual(set(came), {it.reply for it in records}, (seed, place))
+                lost += len(came) < len(records)
+        self.assertGreaterEqual(lost, 20)
+
+    def by_chance(self, port, chance):
+        """One of three clients makes a profile, and then all send folders until they are closed: the whole replies that came."""
+        streams = [connect(port) for _ in range(3)]
+        streams[0].sendall(create(1, client=0))
+        made = read_until_reset(streams[0], 22)
+        left = [b"".join(folder(number, b"%d-%d" % (client, number), client=client) for number in range(2, 40)) for client in range(3)]
+        with contextlib.suppress(OSError):
+            while any(left):
+                who = chance.randrange(3)
+                size = chance.randrange(1, 60)
+                streams[who].sendall(left[who][:size])
+                left[who] = left[who][size:]
+        came = list(whole_frames(made))
+        for stream in streams:
+            came += whole_frames(read_until_reset(stream, 1 << 20))
+            stream.close()
+        return came
 
     def test_interrupted(self):
         """A read or a write that a signal interrupts is made again."""

@@ -9,7 +9,7 @@ import subprocess
 import time
 import unittest
 
-from journal_file import header_size, md5, next_check, read, record_bytes
+from journal_file import header_size, header_text, md5, next_check, read, record_bytes
 from journal_full import limited
 from journal_session import IN_USE, NO_FILE, NO_ROOM_BESIDE, OTHER_HEADER, REGISTRY, InJournal, contents, cut_off, damaged, not_beside
 from journal_session import other_reply, run_journal, sample_bytes, serving, store, unopened
@@ -17,7 +17,7 @@ from journal_smaller import ASKED, EXPORT_ALL, MORE, AskedByModel
 from lib.connections import SECONDS, connect, read_exactly
 from lib.frames import HEADER, NODE, PIECE, create, file, finish, piece, reply
 from lib.program import EVERYDAY, PROGRAM, preloaded
-from smaller_file import smaller
+from smaller_file import journal_bytes, sample, smaller
 
 KILLS = int(os.environ.get("KILLS", "30"))
 SEED = 20_271_128
@@ -79,6 +79,21 @@ class Compaction(AskedByModel):
         new = self.becomes_smaller()
         self.assertEqual(compact(self.path, "--quiet"), (0, b"", b""))
         self.assertEqual(contents(self.path), new)
+
+    def test_the_sample(self):
+        """A file that was finished, one that was abandoned, and one that goes on, though a record with a number that had come before
+        abandons it. A piece came again. The smaller journal stays as it is."""
+        header = header_text(sample_bytes()) + md5(b"random")
+        old, new = journal_bytes(header, sample()), smaller(header, sample())
+        sizes = [(len(read(data).records), len(data) - len(header)) for data in (old, new)]
+        self.assertEqual(sizes, [(12, 1_015), (10, 894)])
+        for data in (old, new):
+            store(self.path, data)
+            self.assertEqual(compact(self.path), (0, b"", made_small(self.path, data, new)))
+            self.assertEqual(contents(self.path), new)
+        # what the model writes behind another header, byte for byte
+        digests = [md5(make(b"0123456789", sample())).hex() for make in (journal_bytes, smaller)]
+        self.assertEqual(digests, ["05cc10db2418b0fb024a1394dc22f065", "676f61b0962f34e42f4ff0a8b7677874"])
 
     def test_on_the_disk_first(self):
         """All of the smaller journal is synced while it has its own name (synced.c notes how much of a file of that name is)."""

@@ -110,6 +110,16 @@ class Starts(InJournal):
         self.assertEqual(read(contents(self.path)).records[: len(asked)], records)
 
 
+    def test_sixteen_in_a_turn(self):
+        """Of frames that come at once, sixteen are handled in a turn. The first record of each turn says that all before it was on
+        the disk."""
+        for count in (0, 1, 15, 16, 17, 100):
+            path = f"{self.path}{count}"
+            asked = ([create(1)] + [folder(number, b"%d" % number, version=1 + number % 2) for number in range(2, 101)])[:count]
+            self.assertEqual(run_journal(path, b"".join(asked)), (0, by_model(asked), b""))
+            self.assertEqual([it.first for it in read(contents(path)).records], [place % 16 == 0 for place in range(count)])
+
+
 class LongBodies(InJournal):
     """A body goes into the check value whole, however long it is."""
 

@@ -6,11 +6,12 @@ import socket
 import subprocess
 import tempfile
 import unittest
+from concurrent.futures import ThreadPoolExecutor
 
 from lib import frames
 from lib.connections import SECONDS, free_port
 from lib.frames import HEADER, LIMITS, create, file, finish, folder, frame, in_version, refusal, reply
-from lib.program import PROGRAM, SAMPLE, SAMPLE_NOTE, faults, run
+from lib.program import PROGRAM, SAMPLE, SAMPLE_NOTE, faults, preloaded, run
 
 CREATE = create(1)
 FOLDER, OTHER_FOLDER = folder(2, b"in"), folder(2, b"out")
@@ -69,6 +70,39 @@ class Run(unittest.TestCase):
                     whole = max(place for place, end in enumerate(ENDS[version]) if end <= size)
                     status, said = (0, "") if size in ENDS[version] else (4, fault("Truncated"))
                     self.assertEqual(run(["run"], requests[:size]), (status, replies[: REPLIED[whole]], said))
+
+    def test_streams_that_stop_at_each_byte(self):
+        """The input fails, or gives a byte at a time and then ends; the output fails or takes nothing. All frames that arrived whole
+        are answered, and the bytes of replies that the output took are their first ones."""
+        rows = []
+        for version, ends in ENDS.items():
+            for size in range(ends[-1] + 1):
+                count = REPLIED[max(place for place, end in enumerate(ends) if end <= size)]
+                rows.append((version, {"READ_ROOM": size}, count, "Read"))
+                rows.append((version, {"READ_ENDS": size, "READ_WIDTH": 1}, count, None if size in ends else "Truncated"))
+            for size in range(REPLIED[-1] + 1):
+                name = None if size == REPLIED[-1] else "Write"
+                rows += [(version, {"WRITE_ENDS": size}, size, name), (version, {"WRITE_ROOM": size, "WRITE_WIDTH": 1}, size, name)]
+
+        def ended(row):
+            return run(["run"], session_in(row[0])[0], env=preloaded("STREAMS", **row[1]))
+
+        with ThreadPoolExecutor(4) as pool:
+            for row, found in zip(rows, pool.map(ended, rows)):
+                version, _, count, name = row
+                self.assertEqual(found, (4 if name else 0, session_in(version)[1][:count], fault(name) if name else ""), row)
+
+    def test_a_frame_that_is_no_request_changes_nothing(self):
+        """Bodies that are too short or too long for their kind, kinds that there are not, and a number of 2^63. And under a number
+        that is kept, the other version's body of its request, and a hash that there is not."""
+        short, whole, long = (bytes.fromhex(it) for it in ("00000001000000", "0000000100000000", "000000010000000000"))
+        rows = [(1, 5, 9, short), (1, 5, 9, long), (1, 0, 9, b""), (1, 9, 9, b""), (1, 1, 9, b""), (1, 129, 9, b"\0\0\0\1")]
+        rows += [(1, 255, 9, b"\0\0\0"), (1, 5, 2**63, whole), (2, 5, 9, short), (2, 1, 9, b"\0\0\0\1\0"), (2, 5, 2**63, whole)]
+        rows += [(2, 1, 1, b"\0\1\0\0\0"), (2, 1, 1, b"\0\1\0\0\0\3"), (1, 1, 1, b"\0\1\0\0\0\1")]
+        sent = b"".join(frame(kind, 1, number, body, version) for version, kind, number, body in rows)
+        due = b"".join(refusal(number, 1, version=version) for version, _, number, _ in rows)
+        later, replies = finish(9, 1) + folder(9, b"in"), refusal(9, 4) + reply(frames.NODE, 9, 1)
+        self.assertEqual(run(["run"], CREATE + sent + later), (0, MADE + due + replies, ""))
 
     def test_bytes_that_are_no_frame(self):
         """All frames before them are answered."""

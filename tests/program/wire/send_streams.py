@@ -6,12 +6,13 @@ import os
 import subprocess
 import time
 import unittest
+from concurrent.futures import ThreadPoolExecutor
 
 from lib.connections import SECONDS, connect, listen, read_exactly, read_frame, read_until_reset, reset
-from lib.frames import ADD_FOLDER, CREATE_PROFILE, LIMITS, NODE, in_version, lines_in_version, reply
+from lib.frames import ADD_FOLDER, CREATE_PROFILE, LIMITS, NODE, create, folder, in_version, lines_in_version, reply
 from lib.program import PROGRAM, Serve, faults, preloaded, send
 from run_command import ENDS, REPLIED, session_in
-from send_faults import made
+from send_faults import made, node
 from serve_at_once import lasting
 from serve_options import next_line
 
@@ -166,6 +167,89 @@ class WithinAFrame(unittest.TestCase):
         self.ends_at(FRAME_ENDS, rows)
 
 
+# the two frames that client 7 sends for the lines
+SENT = create(1, client=7) + folder(2, b"in", client=7)
+# no fault, and all bytes of both frames and of what is printed
+ALL = None, 59, 14
+
+
+def stopped(stream, count, stop):
+    """What comes of a stream that stops behind this many bytes, by `stop`: it fails (ROOM), or it ends or takes nothing (ENDS)."""
+    last = {"READ": 32, "RECEIVE": 44, "SEND": 59, "WRITE": 14}[stream]
+    if count >= last:
+        return ALL
+    if stream == "READ":
+        return ("Read", 0, 0) if count < 15 else ("Read", 23, 7) if count < 31 else ("Read", 59, 14)
+    if stream == "RECEIVE":
+        fault = "Read" if stop == "ROOM" else "Closed" if count in (0, 22) else "Truncated"
+        return (fault, 23, 0) if count < 22 else (fault, 59, 7)
+    if stream == "SEND":
+        return "Write", count, 0 if count < 23 else 7
+    return "Write", 23 if count < 7 else 59, count
+
+
+class EachByte(unittest.TestCase):
+    """Streams of `send` that stop at each byte. The frame of a line is written, its reply is read, and its text is written, before
+    anything is done for the next line. (Lines that end early are a shorter script, and no fault.)"""
+
+    def outcome(self, row):
+        """Runs `send` with these variables: its fault, the bytes of frames that came, and those that it printed."""
+        given, far = os.pipe()
+        os.write(far, LINES)
+        os.close(far)
+        with listen() as listener, os.fdopen(given) as lines:
+            words = [PROGRAM, "send", "--port", str(listener.getsockname()[1]), "--client", "7"]
+            pipes = {"stdin": lines, "stdout": subprocess.PIPE, "stderr": subprocess.PIPE}
+            with subprocess.Popen(words, env=preloaded("STREAMS", **variables(row)), **pipes) as sender:
+                stream, _ = listener.accept()
+                with stream:
+                    stream.settimeout(SECONDS)
+                    came = read_until_reset(stream, 23)
+                    if len(came) == 23:
+                        stream.sendall(made(7, 1))
+                        came += read_until_reset(stream, 36)
+                    if len(came) == 59:
+                        stream.sendall(node(7, 2))
+                    came += read_until_reset(stream, 1)
+                printed, said = sender.stdout.read(), faults(sender.stderr.read()).decode("ascii")
+        fault = said.removeprefix("fault: ").rstrip() or None
+        return came, printed, fault, sender.returncode
+
+    def ends(self, rows):
+        """Checks rows of variables, and the fault, the number of bytes of frames and that of printed bytes."""
+        with ThreadPoolExecutor(4) as pool:
+            found = pool.map(self.outcome, [row for row, _ in rows])
+        for (row, (fault, sent, printed)), outcome in zip(rows, found):
+            self.assertEqual(outcome, (SENT[:sent], PRINTED[:printed], fault, 4 if fault else 0), row)
+
+    def test_each_byte(self):
+        lasts = [("READ", 31, "ROOM")] + [(*it, stop) for it in (("RECEIVE", 44), ("SEND", 59), ("WRITE", 14)) for stop in ("ROOM", "ENDS")]
+        rows = [(f"{name}_{stop}={count}", stopped(name, count, stop)) for name, last, stop in lasts for count in range(last + 1)]
+        rows += [(f"{row} {row.split('_')[0]}_WIDTH=1", wanted) for row, wanted in rows]
+        self.ends(rows)
+
+    def test_interruptions(self):
+        """64 are tried again, within each reply, each frame and each line's text, but over all lines."""
+        self.ends(
+            [
+                *((f"{name}_INTERRUPTIONS=64", ALL) for name in ("READ", "RECEIVE", "SEND", "WRITE")),
+                ("READ_INTERRUPTIONS=65", ("Read", 0, 0)),
+                ("RECEIVE_INTERRUPTIONS=65", ("Read", 23, 0)),
+                ("SEND_INTERRUPTIONS=65", ("Write", 0, 0)),
+                ("WRITE_INTERRUPTIONS=65", ("Write", 23, 0)),
+                ("READ_INTERRUPTED_AT=5:32,20:32", ALL),
+                ("READ_INTERRUPTED_AT=5:32,20:33", ("Read", 23, 7)),
+                ("READ_INTERRUPTED_AT=5:64,20:1", ("Read", 23, 7)),
+                ("RECEIVE_INTERRUPTED_AT=5:64,30:64", ALL),
+                ("RECEIVE_INTERRUPTED_AT=5:64,30:65", ("Read", 59, 7)),
+                ("SEND_INTERRUPTED_AT=5:64,30:64", ALL),
+                ("SEND_INTERRUPTED_AT=5:64,30:65", ("Write", 30, 7)),
+                ("WRITE_INTERRUPTED_AT=3:64,10:64", ALL),
+                ("WRITE_INTERRUPTED_AT=3:64,10:65", ("Write", 59, 10)),
+            ]
+        )
+
+
 def each_at(places, times):
     """Returns the variable for this many interruptions at each of these places."""
     return ",".join(f"{place}:{times}" for place in places)
@@ -213,6 +297,15 @@ class ServeStreams(unittest.TestCase):
                 ("SEND_FAILS_ONCE=50", 50),
             ]
         )
+
+    def test_each_byte_of_the_replies(self):
+        """Writes of a byte each, of which one fails. What the client got is the front of its replies, and all of them come again."""
+
+        def ends(row):
+            self.ends([(f"SEND_WIDTH=1 SEND_FAILS_ONCE={row[1]}", row[1])], [row[0]])
+
+        with ThreadPoolExecutor(4) as pool:
+            list(pool.map(ends, [(version, count) for version in LIMITS for count in range(REPLIED[-1])]))
 
 
 class ServeStreamsAtOnce(unittest.TestCase):

@@ -1,37 +1,34 @@
-//! The messages of the faults of both ends of a stream.
+//! The messages of the faults of both ends of a stream. A frame's fault is displayed with its own message.
 
-use crate::displays::each_says;
 use droid_frame::FrameFault;
 use droid_wire::{HearFault, ServeFault, SubmitFault};
-use std::test::Fail;
+use std::alloc::Global;
+use std::fmt::Display;
 
-/// A frame's fault is displayed with its own message.
-const SERVING: [(ServeFault, &str); 3] = [
-    (
-        ServeFault::Frame(FrameFault::Truncated),
-        "the stream ends within a frame",
-    ),
-    (ServeFault::Frame(FrameFault::Memory), "out of memory"),
-    (
-        ServeFault::Write { written: 7 },
-        "a reply could not be written, after 7 bytes",
-    ),
-];
-
-const SUBMITTING: [(SubmitFault, &str); 2] = [
-    (SubmitFault::NumbersUsedUp, "all numbers are used up"),
-    (SubmitFault::Memory, "out of memory"),
-];
-
-const HEARING: [(HearFault, &str); 2] = [
-    (HearFault::Malformed, "the frame holds no reply"),
-    (HearFault::Memory, "out of memory"),
-];
+fn says<T: Display>(alloc: Global, fault: &T, text: &str) -> bool {
+    match format!(in alloc; "{fault}") {
+        Ok(said) => said.as_str() == text,
+        Err(_) => false,
+    }
+}
 
 #[test]
-fn texts(rt: HostRuntime) -> Result<(), Fail> {
+fn texts(rt: HostRuntime) {
     let alloc = rt.alloc();
-    each_says(&rt, alloc, &SERVING)?;
-    each_says(&rt, alloc, &SUBMITTING)?;
-    each_says(&rt, alloc, &HEARING)
+    let truncated = ServeFault::Frame(FrameFault::Truncated);
+    let memory = ServeFault::Frame(FrameFault::Memory);
+    let write = ServeFault::Write { written: 7 };
+    assert!(rt;
+        says(alloc, &truncated, "the stream ends within a frame")
+            & says(alloc, &memory, "out of memory")
+            & says(alloc, &write, "a reply could not be written, after 7 bytes")
+            & says(
+                alloc,
+                &SubmitFault::NumbersUsedUp,
+                "all numbers are used up"
+            )
+            & says(alloc, &SubmitFault::Memory, "out of memory")
+            & says(alloc, &HearFault::Malformed, "the frame holds no reply")
+            & says(alloc, &HearFault::Memory, "out of memory")
+    );
 }

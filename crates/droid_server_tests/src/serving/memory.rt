@@ -2,92 +2,64 @@
 //! Out of memory while a stream is served. If a frame can't be kept, the stream ends after all frames before it were
 //! answered; otherwise one request is refused. The same stream again is answered in full.
 
-use crate::parts::{are_joined, joined};
-use crate::serving::vectors::{CREATE, FOLDER, LIMITS, OTHER_FOLDER};
+use crate::serving::{REPLIES, REQUESTS, service};
 use droid_core::Service;
 use droid_frame::FrameFault;
-use droid_pronom::Registry;
-use droid_testing::{MADE, NODE, NUMBER_REUSED};
 use droid_wire::{Ended, ServeFault, serve};
-use std::alloc::{AllocError, Global};
-use std::test::Fail;
+use std::alloc::Global;
 
-const ANSWERS: [&[u8]; 4] = [MADE, NODE, NODE, NUMBER_REUSED];
+/// What is written if one request is refused for memory (18). Without a profile the others find none (3).
+const SHORT: [&[u8]; 4] = [
+    b"\
+    \x01\x88\x00\x00\x00\x01\x00\x00\x00\x00\x00\x00\x00\x01\x00\x00\x00\x01\x12\
+    \x01\x88\x00\x00\x00\x01\x00\x00\x00\x00\x00\x00\x00\x02\x00\x00\x00\x01\x03\
+    \x01\x88\x00\x00\x00\x01\x00\x00\x00\x00\x00\x00\x00\x02\x00\x00\x00\x01\x03\
+    \x01\x88\x00\x00\x00\x01\x00\x00\x00\x00\x00\x00\x00\x02\x00\x00\x00\x01\x03",
+    b"\
+    \x01\x81\x00\x00\x00\x01\x00\x00\x00\x00\x00\x00\x00\x01\x00\x00\x00\x04\x00\x00\x00\x01\
+    \x01\x88\x00\x00\x00\x01\x00\x00\x00\x00\x00\x00\x00\x02\x00\x00\x00\x01\x12\
+    \x01\x82\x00\x00\x00\x01\x00\x00\x00\x00\x00\x00\x00\x02\x00\x00\x00\x04\x00\x00\x00\x01\
+    \x01\x88\x00\x00\x00\x01\x00\x00\x00\x00\x00\x00\x00\x02\x00\x00\x00\x01\x02",
+    b"\
+    \x01\x81\x00\x00\x00\x01\x00\x00\x00\x00\x00\x00\x00\x01\x00\x00\x00\x04\x00\x00\x00\x01\
+    \x01\x82\x00\x00\x00\x01\x00\x00\x00\x00\x00\x00\x00\x02\x00\x00\x00\x04\x00\x00\x00\x01\
+    \x01\x88\x00\x00\x00\x01\x00\x00\x00\x00\x00\x00\x00\x02\x00\x00\x00\x01\x12\
+    \x01\x88\x00\x00\x00\x01\x00\x00\x00\x00\x00\x00\x00\x02\x00\x00\x00\x01\x02",
+    b"\
+    \x01\x81\x00\x00\x00\x01\x00\x00\x00\x00\x00\x00\x00\x01\x00\x00\x00\x04\x00\x00\x00\x01\
+    \x01\x82\x00\x00\x00\x01\x00\x00\x00\x00\x00\x00\x00\x02\x00\x00\x00\x04\x00\x00\x00\x01\
+    \x01\x82\x00\x00\x00\x01\x00\x00\x00\x00\x00\x00\x00\x02\x00\x00\x00\x04\x00\x00\x00\x01\
+    \x01\x88\x00\x00\x00\x01\x00\x00\x00\x00\x00\x00\x00\x02\x00\x00\x00\x01\x12",
+];
 
-/// Returns the frame that refuses a request of client 1 with this refusal, which has no detail.
-fn refused(number: u8, refusal: u8) -> [u8; 19] {
-    [
-        1, 136, 0, 0, 0, 1, 0, 0, 0, 0, 0, 0, 0, number, 0, 0, 0, 1, refusal,
-    ]
-}
-
-fn requests(alloc: Global) -> Result<Vec<u8>, AllocError> {
-    joined(alloc, &[&CREATE, &FOLDER, &FOLDER, &OTHER_FOLDER])
-}
-
-/// Serves these frames into this buffer, so that writing allocates nothing. Returns how it ended, and how many bytes
-/// were written.
-fn served(
-    alloc: Global,
-    service: &mut Service,
-    requests: &[u8],
-    buffer: &mut [u8],
-) -> (Result<Ended, ServeFault>, usize) {
-    let mut input = requests;
-    let room = buffer.len();
-    let mut left = buffer;
+/// Serves the requests, into a buffer, so that writing allocates nothing. Returns whether what was written is right. `None`:
+/// memory ran out, and it is right for that.
+fn are_served(alloc: Global, service: &mut Service) -> Option<bool> {
+    let mut buffer = [0u8; 128];
+    let (mut input, mut left) = (REQUESTS, buffer.as_mut_slice());
     let ended = serve(alloc, service, &mut input, &mut left, 9);
-    (ended, room.saturating_sub(left.len()))
-}
-
-/// Returns whether one request was refused for memory (18). Without a profile the others find none (3).
-fn are_out_of_memory(bytes: &[u8]) -> bool {
-    let (first, second, no_profile) = (refused(1, 18), refused(2, 18), refused(2, 3));
-    let rows: [[&[u8]; 4]; 4] = [
-        [&first, &no_profile, &no_profile, &no_profile],
-        [MADE, &second, NODE, NUMBER_REUSED],
-        [MADE, NODE, &second, NUMBER_REUSED],
-        [MADE, NODE, NODE, &second],
-    ];
-    rows.iter().any(|row| are_joined(bytes, row))
-}
-
-/// Returns whether serving ended early out of memory, or one request was refused for it.
-fn is_out_of_memory(ended: Result<Ended, ServeFault>, written: &[u8]) -> bool {
+    let count = 128usize.saturating_sub(left.len());
+    let written = &buffer[..count.min(128)];
     match ended {
-        Ok(Ended::Closed) => are_out_of_memory(written),
-        Err(ServeFault::Frame(FrameFault::Memory)) => {
-            (0..4).any(|count| are_joined(written, &ANSWERS[..count.min(4)]))
-        }
-        _ => false,
+        Ok(Ended::Closed) if SHORT.iter().any(|short| *short == written) => None,
+        Ok(Ended::Closed) => Some(written == REPLIES),
+        Err(ServeFault::Frame(FrameFault::Memory))
+            if REPLIES.starts_with(written) && matches!(count, 0 | 22 | 44 | 66) => { None }
+        _ => Some(false),
     }
-}
-
-/// Makes an empty service. A call that is out of memory is tried once more.
-fn service_again(alloc: Global) -> Result<Service, Fail> {
-    if let Ok(service) = Service::new(alloc, registry_again(alloc)?, LIMITS) {
-        return Ok(service);
-    }
-    Ok(Service::new(alloc, registry_again(alloc)?, LIMITS)?)
-}
-
-fn registry_again(alloc: Global) -> Result<Registry, Fail> {
-    Ok(Registry::parse(alloc, b"").or_else(|_| Registry::parse(alloc, b""))?)
 }
 
 #[test]
-fn each_growth_of_serving(rt: HostRuntime) -> Result<(), Fail> {
+fn each_growth_of_serving(rt: HostRuntime) {
     let alloc = rt.alloc();
-    let mut service = service_again(alloc)?;
-    let requests = requests(alloc).or_else(|_| requests(alloc))?;
-    let mut buffer = [0; 128];
-    for _ in 0..2 {
-        let (ended, count) = served(alloc, &mut service, requests.as_slice(), &mut buffer);
-        let written = &buffer[..count.min(128)];
-        if ended == Ok(Ended::Closed) && are_joined(written, &ANSWERS) {
-            return Ok(());
-        }
-        assert!(rt; is_out_of_memory(ended, written), "{ended:?} {written:?}");
+    let mut made = service(alloc);
+    if made.is_none() {
+        made = service(alloc);
     }
-    panic!(rt; "memory ran out twice");
+    let mut service = made.expect(&rt, "a service");
+    let mut served = are_served(alloc, &mut service);
+    if served.is_none() {
+        served = are_served(alloc, &mut service);
+    }
+    assert!(rt; served == Some(true));
 }

@@ -1,6 +1,6 @@
 //! The example of the crate's page, README.md of droid_wire.
 
-use crate::serving::vectors::LIMITS;
+use crate::serving::LIMITS;
 use droid_core::Service;
 use droid_frame::{Arrival, HashKind, Noted, Reply, Request, body_limit, read_frame, write_frame};
 use droid_pronom::Registry;

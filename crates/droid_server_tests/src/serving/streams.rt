@@ -1,44 +1,45 @@
-//! Streams of frames in memory, and what is written for them.
+//! How many frames of a stream are answered. The built program has one number for that, and tests/program cuts its streams
+//! after each byte.
 
-use crate::parts::joined;
-use crate::serving::vectors::{CREATE, FOLDER, OTHER_FOLDER, service};
+use crate::serving::{REPLIES, REQUESTS, service};
 use droid_frame::Noted;
-use droid_testing::{MADE, NODE, NUMBER_REUSED};
-use droid_wire::{Ended, ServeFault, serve};
+use droid_testing::{STEADY, ShakyReader, ShakyWriter, Stop};
+use droid_wire::{Ended, serve};
 use std::alloc::Global;
-use std::test::Fail;
 
-/// Serves these bytes with an empty service. Returns how that ends, what is written, and how many bytes are left
-/// unread.
-fn served(
-    alloc: Global,
-    input: &[u8],
-    turns: u32,
-) -> Result<(Result<Ended, ServeFault>, Vec<u8>, usize), Fail> {
-    let mut service = service(alloc)?;
-    let mut reader = Noted::new(input);
-    let mut writer = Noted::new(Vec::new(alloc));
-    let ended = serve(alloc, &mut service, &mut reader, &mut writer, turns);
-    Ok((ended, writer.stream, reader.stream.len()))
+/// How many frames are answered at most, how many bytes of the requests there are, and how they stop. Then how serving ends, how many
+/// bytes of replies are written, and how many of the requests are left unread. After the last frame nothing is read, and without
+/// one nothing is written.
+type Turns = (u32, usize, Stop, Ended, usize, usize);
+
+const TURNS: [Turns; 7] = [
+    (0, 0, Stop::Fails, Ended::Turns, 0, 0),
+    (0, 132, Stop::Ends, Ended::Turns, 0, 132),
+    (2, 59, Stop::Fails, Ended::Turns, 44, 0),
+    (3, 132, Stop::Ends, Ended::Turns, 66, 37),
+    (4, 132, Stop::Ends, Ended::Turns, 85, 0),
+    (4, 132, Stop::Fails, Ended::Turns, 85, 0),
+    (9, 132, Stop::Ends, Ended::Closed, 85, 0),
+];
+
+/// Serves the requests with an empty service, over a writer that fails behind the replies.
+fn are_served(alloc: Global, turns: Turns) -> bool {
+    let (frames, count, stop, ended, written, left) = turns;
+    let Some(mut service) = service(alloc) else {
+        return false;
+    };
+    let requests = &REQUESTS[..count.min(REQUESTS.len())];
+    let replies = &REPLIES[..written.min(REPLIES.len())];
+    let mut reader = Noted::new(ShakyReader::new(requests, stop, STEADY));
+    let writer = ShakyWriter::new(Vec::new(alloc), written, Stop::Fails, STEADY);
+    let mut writer = Noted::new(writer);
+    let found = serve(alloc, &mut service, &mut reader, &mut writer, frames);
+    found == Ok(ended) && writer.stream.taken() == replies && reader.stream.left() == left
 }
 
 #[test]
-fn runs_and_streams(rt: HostRuntime) -> Result<(), Fail> {
-    let alloc = rt.alloc();
-    let input = joined(alloc, &[&CREATE, &FOLDER, &FOLDER, &OTHER_FOLDER])?;
-    let three = joined(alloc, &[MADE, NODE, NODE])?;
-    let four = joined(alloc, &[MADE, NODE, NODE, NUMBER_REUSED])?;
-    let rows: [(u32, Ended, &[u8], usize); 4] = [
-        (0, Ended::Turns, &[], input.len()),
-        (3, Ended::Turns, three.as_slice(), OTHER_FOLDER.len()),
-        (4, Ended::Turns, four.as_slice(), 0),
-        (9, Ended::Closed, four.as_slice(), 0),
-    ];
-    for (turns, end, wanted, unread) in rows {
-        let (ended, written, left) = served(alloc, input.as_slice(), turns)?;
-        assert!(rt; ended == Ok(end), "{turns} turns");
-        assert!(rt; written.as_slice() == wanted, "{turns} turns");
-        assert!(rt; left == unread, "{turns} turns");
+fn runs_and_streams(rt: HostRuntime) {
+    for (place, turns) in TURNS.iter().enumerate() {
+        assert!(rt; are_served(rt.alloc(), *turns), "row {place}");
     }
-    Ok(())
 }
