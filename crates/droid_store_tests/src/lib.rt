@@ -4,6 +4,4 @@
 #[cfg(test)]
 mod entries;
 #[cfg(test)]
-mod random_numbers;
-#[cfg(test)]
 mod store;

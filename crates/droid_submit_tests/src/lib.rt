@@ -1,9 +1,12 @@
-//! Tests of submissions: of the numbers of their requests, of connections that break, and of whole runs.
+//! Tests of submissions: the numbers of requests that no run of `submit` sends, and the examples of pages. The program's runs
+//! are tested by tests/program/submissions.
 #![tactic(auto)]
 
 #[cfg(test)]
-mod connections;
-#[cfg(test)]
 mod numbers;
 #[cfg(test)]
-mod submissions;
+mod page_service;
+#[cfg(test)]
+mod page_tree;
+#[cfg(test)]
+mod pages;

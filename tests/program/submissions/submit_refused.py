@@ -89,6 +89,8 @@ class Refused(WithSmallTree):
         with Lying(first_of(PIECE, refusal("NumberReused"))) as service:
             submit(self.top, service.port, 7)
             kinds = [frame.kind for frame in service.frames]
+            # the other replies are read, so that each further request gets its own on this connection
+            self.assertEqual(service.connections, 1)
             self.assertEqual(sorted(node.name for node in service.model.profiles[1].nodes.values()), [b"b.txt", b"sub", b"z.bin"])
         self.assertEqual(kinds.count(ABANDON), 1)
 

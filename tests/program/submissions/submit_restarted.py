@@ -78,6 +78,9 @@ class Restarted(WithSmallTree):
             # without a profile there was nothing to lose
             due = (0, b"") if place == 1 else (4, fault("Restarted", RESTARTED % service.port))
             self.assertEqual(ended, due, place)
+            if place > 1:
+                # after the new connection nothing was sent but the request for the profile
+                self.assertEqual(service.frames[place:], service.frames[:1], place)
             self.assertEqual(service.model.profiles[1].nodes, {}, place)
             self.ends_whole(service.port, place)
             self.assertEqual(sorted(service.model.profiles), [1, 2])

@@ -6,7 +6,7 @@ import unittest
 from concurrent.futures import ThreadPoolExecutor
 
 from lib.connections import SECONDS, connect, free_port, listen, read_frame
-from lib.frames import ADD_FILE, CAUSES, FINISHED, NODE, TAKEN, UNFINISHED, create, file, finish, piece
+from lib.frames import ADD_FILE, CAUSES, CREATE_PROFILE, FINISHED, NODE, TAKEN, UNFINISHED, create, file, finish, piece
 from lib.lying import Lying, at, closing, first_of, refusing, silence
 from lib.program import Serve
 from lib.submissions import Relay, WithSmallTree, fault, submit, words_of
@@ -65,6 +65,8 @@ class Connections(Waits):
             ended, seconds = self.timed(service.port, "--wait", "1")
         self.assertEqual(ended, (4, fault("Broken", BROKEN % (service.port, 1))))
         self.assertEqual(service.connections, 6)
+        # each gets one request, that for the profile
+        self.assertEqual((len(service.frames), len(set(service.frames)), service.frames[0].kind), (6, 1, CREATE_PROFILE))
         self.assertTrue(1.5 < seconds < LONG, seconds)
 
     def test_goes_away(self):

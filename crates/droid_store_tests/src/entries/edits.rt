@@ -2,12 +2,20 @@
 
 ghost use Rattle.std.specs.Prelude.{◌≡◌};
 
-use crate::random_numbers::{SEED, below, draw_place};
 use droid_store_entries::{Entries, PackedRow};
 use sqlite_value::row::Row;
 use sqlite_value::value::ValueRef;
 use std::alloc::{AllocError, Global};
 use std::test::Fail;
+
+/// A random number below `limit`, and 0 if that is 0.
+fn below(state: &mut u64, limit: usize) -> usize {
+    *state = (*state)
+        .wrapping_mul(6_364_136_223_846_793_005)
+        .wrapping_add(1_442_695_040_888_963_407);
+    let drawn = (*state >> 33) as usize;
+    if limit == 0 { 0 } else { drawn % limit }
+}
 
 fn row(alloc: Global, number: i64) -> Result<PackedRow, AllocError> {
     let mut row = Row::new(alloc);
@@ -28,93 +36,60 @@ fn agrees(entries: &Entries, plain: &[i64]) -> bool {
     entries.len() == plain.len() && entries.get(plain.len()).is_none()
 }
 
-fn insert(
-    alloc: Global,
-    entries: &mut Entries,
-    plain: &mut Vec<i64>,
-    at: usize,
-    number: i64,
-) -> Result<(), AllocError> {
-    if at <= entries.len() && at <= plain.len() {
-        entries.insert(alloc, at, row(alloc, number)?)?;
-        plain.insert(at, number)?;
-    }
-    Ok(())
-}
-
-fn remove(
-    alloc: Global,
-    entries: &mut Entries,
-    plain: &mut Vec<i64>,
-    at: usize,
-) -> Result<(), AllocError> {
-    if at < entries.len() && at < plain.len() {
-        entries.remove(alloc, at)?;
-        plain.remove(at);
-    }
-    Ok(())
-}
-
-fn set(
-    alloc: Global,
-    entries: &mut Entries,
-    plain: &mut Vec<i64>,
-    at: usize,
-    number: i64,
-) -> Result<(), AllocError> {
-    if at < entries.len() && at < plain.len() {
-        entries.set(alloc, at, row(alloc, number)?)?;
-        plain[at] = number;
-    }
-    Ok(())
-}
-
-/// Edits the list and the plain one: of ten edits five insert a row, three remove one and two replace one.
+/// Edits both lists: of ten kinds five insert a row, three remove one and two replace one.
 fn edit(
     alloc: Global,
-    state: &mut u64,
     entries: &mut Entries,
     plain: &mut Vec<i64>,
+    kind: usize,
+    at: usize,
     number: i64,
 ) -> Result<(), AllocError> {
-    let kind = below(state, 10);
-    let at = draw_place(state, plain.len().saturating_add(1));
     if kind < 5 {
-        insert(alloc, entries, plain, at, number)
-    } else if kind < 8 {
-        remove(alloc, entries, plain, at)
-    } else {
-        set(alloc, entries, plain, at, number)
+        if at <= entries.len() && at <= plain.len() {
+            entries.insert(alloc, at, row(alloc, number)?)?;
+            plain.insert(at, number)?;
+        }
+    } else if at < entries.len() && at < plain.len() {
+        if kind < 8 {
+            entries.remove(alloc, at)?;
+            plain.remove(at);
+        } else {
+            entries.set(alloc, at, row(alloc, number)?)?;
+            plain[at] = number;
+        }
     }
+    Ok(())
 }
 
-#[test]
-fn random_edits_agree_with_a_plain_list(rt: HostRuntime) -> Result<(), Fail> {
-    let alloc = rt.alloc();
-    let mut state = SEED;
+/// Whether the lists agree after each 500 edits, when all rows are removed, and when 3,000 are inserted again.
+fn agree(alloc: Global) -> Result<bool, AllocError> {
+    let mut state = 20_251_125u64;
     let mut entries = Entries::new();
     let mut plain: Vec<i64> = Vec::new(alloc);
-    for step in 0..20_000i64 {
-        edit(alloc, &mut state, &mut entries, &mut plain, step)?;
-        if step % 1_000 == 999 {
-            assert!(rt; agrees(&entries, &plain));
-        }
+    let mut all = true;
+    for step in 0..10_000i64 {
+        let kind = below(&mut state, 10);
+        let at = below(&mut state, plain.len().saturating_add(1));
+        edit(alloc, &mut entries, &mut plain, kind, at, step)?;
+        all &= step % 500 != 499 || agrees(&entries, &plain);
     }
     let before = entries.copy()?;
     let kept = plain.clone()?;
     for _ in 0..kept.len() {
-        let at = draw_place(&mut state, plain.len());
-        remove(alloc, &mut entries, &mut plain, at)?;
+        let at = below(&mut state, plain.len());
+        edit(alloc, &mut entries, &mut plain, 5, at, 0)?;
     }
-    assert!(rt; agrees(&entries, &[]));
-    assert!(rt; agrees(&before, &kept));
+    all &= agrees(&entries, &[]) & agrees(&before, &kept);
     for number in 0..3_000i64 {
-        insert(alloc, &mut entries, &mut plain, 0, number)?;
+        let at = if number < 1_500 { 0 } else { plain.len() };
+        edit(alloc, &mut entries, &mut plain, 0, at, number)?;
     }
-    for number in 0..3_000i64 {
-        let end = plain.len();
-        insert(alloc, &mut entries, &mut plain, end, number)?;
-    }
-    assert!(rt; agrees(&entries, &plain));
+    Ok(all & agrees(&entries, &plain))
+}
+
+#[test]
+fn random_edits_agree_with_a_plain_list(rt: HostRuntime) -> Result<(), Fail> {
+    assert!(rt; agree(rt.alloc())?);
     Ok(())
 }

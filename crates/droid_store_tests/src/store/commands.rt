@@ -5,15 +5,14 @@ ghost use Rattle.std.specs.List.{AllByRecursion};
 ghost use Rattle.droid_store.specs.Changes.{IsNext, IsOfKind, IsOpen, IsWord};
 ghost use Rattle.droid_store.specs.Rows.{child_at, reply_for};
 
-use crate::store::rows::{Change, FOLDER, Kept, NODE, NOTHING, Node, Options, Place};
+use crate::store::rows::{Change, Kept, Node, Options};
 use crate::store::words::words;
 use droid_frame::{Blob, HashValue, Texts};
 use droid_store::{Entry, NodeState, Store, StoreFault};
 use std::alloc::Global;
-use std::process::Abort;
 
-/// The error where something isn't as it should be. The store itself only fails for memory.
-pub const WRONG: StoreFault = StoreFault::Refused;
+/// The error where a condition does not hold. The store itself only fails for memory.
+const WRONG: StoreFault = StoreFault::Refused;
 
 /// Fails unless this holds.
 pub fn expect(holds: bool) -> Result<(), StoreFault>
@@ -22,67 +21,36 @@ pub fn expect(holds: bool) -> Result<(), StoreFault>
     if holds { Ok(()) } else { Err(WRONG) }
 }
 
-/// Fails the test if there is a wrong row: this is its place.
-pub fn check(rt: &impl Abort, wrong: Option<usize>) {
-    assert!(rt; wrong.is_none(), "at {wrong:?}");
-}
-
-/// Commits the command: this reply, and what it changes of this node.
+/// Commits the command: this reply, and what it changes.
 pub fn commit(
     alloc: Global,
     store: &mut Store,
     kept: &Kept<'_>,
-    change: Change,
-    node: &Node<'_>,
+    change: &Change<'_>,
 ) -> Result<(), StoreFault> {
-    let entry = entry_of(alloc, kept)?;
-    match change {
-        Change::Profile | Change::Piece => Err(WRONG),
-        Change::Node => commit_node(store, &entry, node),
-        Change::Finish => commit_finish(alloc, store, &entry, node),
-        Change::Abandon => commit_abandon(store, &entry, node),
-    }
-}
-
-/// Makes the profile.
-pub fn make_profile(
-    alloc: Global,
-    store: &mut Store,
-    kept: &Kept<'_>,
-    profile: u32,
-    options: &Options,
-) -> Result<(), StoreFault> {
-    let entry = entry_of(alloc, kept)?;
-    commit_profile(store, &entry, profile, options)
-}
-
-/// Keeps this reply, as that to a piece.
-pub fn keep_reply(alloc: Global, store: &mut Store, kept: &Kept<'_>) -> Result<(), StoreFault> {
-    let entry = entry_of(alloc, kept)?;
-    commit_piece(store, &entry)
-}
-
-/// Makes a folder by a command of client 1 under this number.
-pub fn make_folder(
-    alloc: Global,
-    store: &mut Store,
-    number: u64,
-    place: Place<'_>,
-) -> Result<(), StoreFault> {
-    let kept = (1, number, 1, 0x6e, NODE, b"node".as_slice());
-    commit(alloc, store, &kept, Change::Node, &(place, FOLDER, NOTHING))
-}
-
-fn entry_of(alloc: Global, kept: &Kept<'_>) -> Result<Entry, StoreFault> {
     let (client, number, version, byte, kind, body) = *kept;
-    Ok(Entry {
+    let entry = Entry {
         client,
         number,
         version,
         mark: [byte; 16],
         kind,
         body: Blob::copy_of(alloc, body)?,
-    })
+    };
+    match change {
+        Change::Profile(profile, options) => commit_profile(store, &entry, *profile, options),
+        Change::Node(node) => commit_node(store, &entry, node),
+        Change::Piece => {
+            expect_new(store, &entry)?;
+            store.commit_piece(&entry)
+        }
+        Change::Finish(node) => {
+            let (_, _, (_, _, _, identifiers)) = *node;
+            let puids = words(alloc, identifiers)?;
+            commit_found(store, &entry, node, &puids)
+        }
+        Change::Abandon(node) => commit_abandon(store, &entry, node),
+    }
 }
 
 fn commit_profile(
@@ -108,22 +76,6 @@ fn commit_node(store: &mut Store, entry: &Entry, node: &Node<'_>) -> Result<(), 
     store.commit_file(
         entry, profile, id, parent, modified, size, piece_size, name, path,
     )
-}
-
-fn commit_piece(store: &mut Store, entry: &Entry) -> Result<(), StoreFault> {
-    expect_new(store, entry)?;
-    store.commit_piece(entry)
-}
-
-fn commit_finish(
-    alloc: Global,
-    store: &mut Store,
-    entry: &Entry,
-    node: &Node<'_>,
-) -> Result<(), StoreFault> {
-    let (_, _, (_, _, _, identifiers)) = *node;
-    let puids = words(alloc, identifiers)?;
-    commit_found(store, entry, node, &puids)
 }
 
 fn commit_found(

@@ -1,10 +1,10 @@
-//! First and last values of each field come back as they were sent.
+//! First and last values of each field come back as they were sent. The longest reply, and the most profiles.
 
-use crate::store::commands::{check, commit, expect, keep_reply, make_profile};
-use crate::store::queries::{look_at_no_reply, look_at_node, look_at_reply};
-use crate::store::rows::{Change, Kept, NODE, Node};
+use crate::store::commands::commit;
+use crate::store::queries::{has_profile, has_reply, shows};
+use crate::store::rows::{Change, Kept, MADE, NODE, Node, Options, TAKEN};
 use droid_frame::{HashKind, Method};
-use droid_store::{NodeState, ProfileRow, Store, StoreFault};
+use droid_store::{NodeState, Store};
 use std::alloc::Global;
 use std::test::Fail;
 
@@ -46,39 +46,72 @@ const NO_ENTRIES: [(u32, u64); 13] = [
     (4_294_967_295, 18_446_744_073_709_551_615),
 ];
 
-fn keep_each(alloc: Global, store: &mut Store, entries: &[Kept<'_>]) -> Result<(), StoreFault> {
-    for kept in entries {
-        keep_reply(alloc, store, kept)?;
+/// Whether the replies are kept, and none is found under another client or number.
+fn keeps(alloc: Global, store: &mut Store) -> bool {
+    let mut all = true;
+    for kept in &ENTRIES {
+        all &= commit(alloc, store, kept, &Change::Piece).is_ok();
     }
-    expect(store.counts()?.accepted == 14)
-}
-
-fn first_lost(store: &mut Store, entries: &[Kept<'_>]) -> Option<usize> {
-    for (place, kept) in entries.iter().enumerate() {
-        if look_at_reply(store, kept).is_err() {
-            return Some(place);
-        }
+    for kept in &ENTRIES {
+        all &= has_reply(store, kept);
     }
-    None
-}
-
-fn first_invented(store: &mut Store, numbers: &[(u32, u64)]) -> Option<usize> {
-    for (place, (client, number)) in numbers.iter().enumerate() {
-        if look_at_no_reply(store, *client, *number).is_err() {
-            return Some(place);
-        }
+    for (client, number) in &NO_ENTRIES {
+        all &= matches!(store.reply_of(*client, *number), Ok(None));
     }
-    None
+    all && matches!(store.counts(), Ok(counts) if counts.accepted == 14)
 }
 
 #[test]
 fn replies(rt: HostRuntime) -> Result<(), Fail> {
     let mut store = Store::in_memory(rt.alloc())?;
-    keep_each(rt.alloc(), &mut store, &ENTRIES)?;
-    let lost = first_lost(&mut store, &ENTRIES);
-    check(&rt, lost);
-    let invented = first_invented(&mut store, &NO_ENTRIES);
-    check(&rt, invented);
+    assert!(rt; keeps(rt.alloc(), &mut store));
+    Ok(())
+}
+
+/// A reply as long as a frame's body may be.
+#[test]
+fn long_body(rt: HostRuntime) -> Result<(), Fail> {
+    let mut store = Store::in_memory(rt.alloc())?;
+    let mut body = vec![in rt.alloc(); 0xa5; 1_048_640]?;
+    body[0] = 0;
+    body[1_048_639] = 1;
+    let kept: Kept<'_> = (1, 1, 2, 0, TAKEN, body.as_slice());
+    commit(rt.alloc(), &mut store, &kept, &Change::Piece)?;
+    assert!(rt; has_reply(&mut store, &kept));
+    Ok(())
+}
+
+/// The options of the profile with this number.
+fn options(profile: u32) -> Options {
+    let hash = match profile % 3 {
+        0 => HashKind::Nothing,
+        1 => HashKind::Md5,
+        _ => HashKind::Sha256,
+    };
+    (profile.wrapping_mul(1_024), profile % 2 == 1, hash)
+}
+
+/// Makes as many profiles as a service may have. Whether they are shown, and no other.
+fn keeps_profiles(alloc: Global, store: &mut Store) -> bool {
+    let mut all = true;
+    for profile in 1..65u32 {
+        let kept: Kept<'_> = (profile, 1, 1, 0, MADE, b"");
+        let change = Change::Profile(profile, options(profile));
+        all &= commit(alloc, store, &kept, &change).is_ok();
+    }
+    for profile in 1..65u32 {
+        all &= has_profile(store, profile, &options(profile), 0);
+    }
+    for profile in [0, 65, 4_294_967_295] {
+        all &= matches!(store.profile(profile), Ok(None));
+    }
+    all
+}
+
+#[test]
+fn profiles(rt: HostRuntime) -> Result<(), Fail> {
+    let mut store = Store::in_memory(rt.alloc())?;
+    assert!(rt; keeps_profiles(rt.alloc(), &mut store));
     Ok(())
 }
 
@@ -156,67 +189,33 @@ const FILES: &[Node<'static>] = &[
     ),
 ];
 
-fn make_last_profile(alloc: Global, store: &mut Store) -> Result<(), StoreFault> {
-    let kept = (1, 0, 1, 0, 129, b"".as_slice());
-    make_profile(
-        alloc,
-        store,
-        &kept,
-        1,
-        &(4_294_967_295, true, HashKind::Sha256),
-    )?;
-    let row = ProfileRow {
-        scan_limit: 4_294_967_295,
-        match_all: true,
-        nodes: 0,
-        hash: HashKind::Sha256,
-    };
-    expect(store.profile(1)? == Some(row))
-}
-
-// Changes each file by a command of this client, in the version of this number, and looks at it. The place of the first
-// that isn't in this state then.
-fn first_not(
-    alloc: Global,
-    store: &mut Store,
-    client: u8,
-    change: Change,
-    state: NodeState,
-    files: &[Node<'_>],
-) -> Option<usize> {
-    for (place, file) in files.iter().enumerate() {
-        if try_file(alloc, store, client, change, file).is_err()
-            | look_at_node(store, file, state).is_err()
-        {
-            return Some(place);
-        }
+/// Changes each file by a command of this client, in the version of this number. Whether it is shown so.
+fn shows_each(alloc: Global, store: &mut Store, client: u8, finishes: bool) -> bool {
+    let mut all = true;
+    for file in FILES {
+        let ((_, id, ..), ..) = *file;
+        let kept: Kept<'_> = (u32::from(client), u64::from(id), client, 1, NODE, b"");
+        let (change, state) = if finishes {
+            (Change::Finish(*file), NodeState::Finished)
+        } else {
+            (Change::Node(*file), NodeState::Unfinished)
+        };
+        all &= commit(alloc, store, &kept, &change).is_ok() && shows(store, file, Some(state));
     }
-    None
-}
-
-fn try_file(
-    alloc: Global,
-    store: &mut Store,
-    client: u8,
-    change: Change,
-    file: &Node<'_>,
-) -> Result<(), StoreFault> {
-    let ((_, id, ..), ..) = *file;
-    let number = u64::from(id);
-    let kept = (u32::from(client), number, client, 1, NODE, b"".as_slice());
-    commit(alloc, store, &kept, change, file)
+    all
 }
 
 #[test]
 fn files(rt: HostRuntime) -> Result<(), Fail> {
     let alloc = rt.alloc();
     let mut store = Store::in_memory(alloc)?;
-    make_last_profile(alloc, &mut store)?;
-    let open = NodeState::Unfinished;
-    let unmade = first_not(alloc, &mut store, 1, Change::Node, open, FILES);
-    check(&rt, unmade);
-    let closed = NodeState::Finished;
-    let unfinished = first_not(alloc, &mut store, 2, Change::Finish, closed, FILES);
-    check(&rt, unfinished);
+    let kept: Kept<'_> = (1, 0, 1, 0, MADE, b"");
+    let options = (4_294_967_295, true, HashKind::Sha256);
+    commit(alloc, &mut store, &kept, &Change::Profile(1, options))?;
+    assert!(rt;
+        has_profile(&mut store, 1, &options, 0)
+            & shows_each(alloc, &mut store, 1, false)
+            & shows_each(alloc, &mut store, 2, true)
+    );
     Ok(())
 }

@@ -1,63 +1,56 @@
 //! Queries of a store, compared with rows of tables.
 
-use crate::store::commands::expect;
-use crate::store::rows::{Kept, NOTHING, Node};
+use crate::store::rows::{Kept, NOTHING, Node, Options};
 use crate::store::words::are_words;
 use droid_frame::{NodeKind, Record};
-use droid_store::{Entry, NodeRow, NodeState, Store, StoreFault};
+use droid_store::{NodeState, ProfileRow, Store};
 
-/// Looks up the reply under its client and number.
-pub fn look_at_reply(store: &mut Store, kept: &Kept<'_>) -> Result<(), StoreFault> {
-    let (client, number, ..) = *kept;
-    let found = store.reply_of(client, number)?;
-    expect(is_kept(found.as_ref(), kept))
-}
-
-fn is_kept(found: Option<&Entry>, kept: &Kept<'_>) -> bool {
+/// Whether the reply is kept under its client and number.
+pub fn has_reply(store: &mut Store, kept: &Kept<'_>) -> bool {
     let (client, number, version, byte, kind, body) = *kept;
-    match found {
-        Some(entry) => {
+    match store.reply_of(client, number) {
+        Ok(Some(entry)) => {
             (entry.client, entry.number) == (client, number)
                 && (entry.version, entry.kind) == (version, kind)
                 && entry.mark == [byte; 16]
                 && entry.body.as_slice() == body
         }
-        None => false,
+        _ => false,
     }
 }
 
-/// Looks up that there is no reply under this client and number.
-pub fn look_at_no_reply(store: &mut Store, client: u32, number: u64) -> Result<(), StoreFault> {
-    let found = store.reply_of(client, number)?;
-    expect(found.is_none())
+/// Whether the profile has these options and this many nodes.
+pub fn has_profile(store: &mut Store, profile: u32, options: &Options, nodes: u32) -> bool {
+    let (scan_limit, match_all, hash) = *options;
+    let row = ProfileRow {
+        scan_limit,
+        match_all,
+        nodes,
+        hash,
+    };
+    match store.profile(profile) {
+        Ok(found) => found == Some(row),
+        Err(_) => false,
+    }
 }
 
-/// Looks up the node by its name and by its number: it has this state.
-pub fn look_at_node(
-    store: &mut Store,
-    node: &Node<'_>,
-    state: NodeState,
-) -> Result<(), StoreFault> {
-    let ((profile, id, parent, _, name, _), ..) = *node;
-    let child = store.child(profile, parent, name)?;
-    expect(child == Some(id))?;
-    let found = store.node(profile, id)?;
-    expect(is_shown(found.as_ref(), node, state))
-}
-
-/// Looks up that there is no node under this number.
-pub fn look_at_no_node(store: &mut Store, profile: u32, id: u32) -> Result<(), StoreFault> {
-    let found = store.node(profile, id)?;
-    expect(found.is_none())
-}
-
-fn is_shown(found: Option<&NodeRow>, node: &Node<'_>, state: NodeState) -> bool {
-    let (_, (_, piece_size), _) = *node;
-    match found {
-        Some(row) => {
-            row.state == state && row.piece_size == piece_size && is_record(&row.item, node, state)
+/// Whether the node is shown in this state, and its name has its number; or neither is there.
+pub fn shows(store: &mut Store, node: &Node<'_>, state: Option<NodeState>) -> bool {
+    let ((profile, id, parent, _, name, _), (_, piece_size), _) = *node;
+    let Ok(child) = store.child(profile, parent, name) else {
+        return false;
+    };
+    let Ok(found) = store.node(profile, id) else {
+        return false;
+    };
+    match (&found, state) {
+        (Some(row), Some(state)) => {
+            child == Some(id)
+                && (row.state, row.piece_size) == (state, piece_size)
+                && is_record(&row.item, node, state)
         }
-        None => false,
+        (None, None) => child.is_none(),
+        _ => false,
     }
 }
 

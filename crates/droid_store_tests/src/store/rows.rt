@@ -23,11 +23,8 @@ pub type Options = (u32, bool, HashKind);
 /// A node's profile, number and parent, when it was modified, its name and its path.
 pub type Place<'a> = (u32, u32, u32, i64, &'a str, &'a str);
 
-/// The length of a file and of its pieces.
+/// The length of a file and of its pieces. Both are 0 for a folder; a file has a piece size above 0 here.
 pub type Sizes = (u64, u32);
-
-/// The sizes of a folder. A file has a piece size above 0 here.
-pub const FOLDER: Sizes = (0, 0);
 
 /// What is found in a file: the method, whether its extension contradicts it, the bytes of its hash, and its identifiers,
 /// separated by spaces.
@@ -41,10 +38,11 @@ pub type Node<'a> = (Place<'a>, Sizes, Found<'a>);
 
 /// What a command changes besides its reply.
 #[derive(Clone, Copy)]
-pub enum Change {
-    Profile,
-    Node,
+pub enum Change<'a> {
+    /// The profile with this number is made.
+    Profile(u32, Options),
+    Node(Node<'a>),
     Piece,
-    Finish,
-    Abandon,
+    Finish(Node<'a>),
+    Abandon(Node<'a>),
 }
