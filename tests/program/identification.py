@@ -4,6 +4,7 @@
 - random patterns with gaps of about 64 bytes and more, at both ends of files of up to 200 bytes, against the model
 - the sample registry, cut off at each byte and with each byte replaced, against the model
 - a registry as large as the limits allow, with a name of 255 bytes
+- patterns by hand
 
 The expected replies are those of the model (model/) or stand here; none comes from the program.
 """
@@ -24,6 +25,61 @@ from registry import Registry, RegistryFault  # noqa: E402
 
 PROGRAM = sys.argv[1] if len(sys.argv) > 1 else ""
 REGISTRIES, PATTERNS, FILES = 12, 40, 12
+
+
+# patterns, bytes, and whether a match begins at the first byte and whether one ends after the last
+MATCHES = [
+    ("6a", b"j", True, True),
+    ("6A", b"j", True, True),
+    ("6A", b"k", False, False),
+    ("6B6c", b"kl", True, True),
+    ("6B6c", b"lk", False, False),
+    ("6B6c", b"k", False, False),
+    ("??", b"x", True, True),
+    ("??", b"", False, False),
+    ("{2}61", b"xya", True, True),
+    ("{2}61", b"xa", False, False),
+    ("{2}61", b"wxya", False, True),
+    ("{1-2}61", b"a", False, False),
+    ("{1-2}61", b"xa", True, True),
+    ("{1-2}61", b"xya", True, True),
+    ("{1-2}61", b"wxya", False, True),
+    ("{2-*}61", b"xa", False, False),
+    ("{2-*}61", b"xya", True, True),
+    ("{2-*}61", b"wwwxya", True, True),
+    ("61*62", b"azzb", True, True),
+    ("61*62", b"ab", True, True),
+    ("61{1-*}62", b"azzb", True, True),
+    ("61{1-*}62", b"ab", False, False),
+    ("[61:63]", b"a", True, True),
+    ("[61:63]", b"c", True, True),
+    ("[61:63]", b"d", False, False),
+    ("[61:61]", b"a", True, True),
+    ("[!61]", b"b", True, True),
+    ("[!61]", b"a", False, False),
+    ("(61|6263)64", b"bcd", True, True),
+    ("(61|6263)64", b"acd", False, False),
+    ("(61|6263)64", b"ad", True, True),
+    ("(61|6263)64", b"bd", False, False),
+    ("(6161|61)61", b"aa", True, True),
+    ("(61)", b"a", True, True),
+    ("??{2}61", b"xyza", True, True),
+    ("61{0}62", b"ab", True, True),
+    ("61{65535}62", b"ab", False, False),
+    ("{0-65535}61", b"zzza", True, True),
+    ("*61", b"zzzab", True, False),
+    ("61*", b"zza", False, True),
+    ("61{00000}", b"a", True, True),
+]
+# bytes, a place in them, and whether a match of `(61|6263)64` begins there and whether one ends just before it
+PLACES = [
+    (b"zzad", 4, False, True),
+    (b"zzadz", 5, False, False),
+    (b"zzadz", 4, False, True),
+    (b"zzad", 2, True, False),
+    (b"zzad", 3, False, False),
+    (b"bcdad", 3, True, True),
+]
 
 
 def run(registry, script):
@@ -100,6 +156,23 @@ def random_patterns(seed):
     return out == b"".join(line + b"\n" for line in wanted) and not err
 
 
+def patterns_by_hand():
+    """Whether each pattern matches as it should, at the first byte or a place and up to the last one or a place: by two formats
+    for each row, in one registry."""
+    rows = [(text, content, 0, 0, starts, ends) for text, content, starts, ends in MATCHES]
+    rows += [("(61|6263)64", content, place, len(content) - place, starts, ends) for content, place, starts, ends in PLACES]
+    registry, script, kept = [], [b"1 1 create 65536 0"], []
+    for number, (text, content, start, end, starts, ends) in enumerate(rows, 1):
+        for anchor, offset in (("BOF", start), ("EOF", end)):
+            registry.append(f"F,{anchor}/{number},N,,,\nS,{anchor}/{number},{anchor},{offset},{offset},{text}\n")
+        script += deposit(number, b"%d" % number, content)
+    out, err = run("".join(registry).encode(), b"".join(line + b"\n" for line in script))
+    for number, line in enumerate((line for line in out.splitlines() if line.startswith(b"finished ")), 1):
+        puids = line.split(b" ")[-1].split(b",")
+        kept.append((b"BOF/%d" % number in puids, b"EOF/%d" % number in puids))
+    return not err and kept == [row[4:] for row in rows]
+
+
 def outcome(registry):
     """What the program writes with this registry, by the model."""
     try:
@@ -151,6 +224,7 @@ def main():
     with ThreadPoolExecutor(len(os.sched_getaffinity(0))) as pool:
         results = {f"random patterns {seed}": pool.submit(random_patterns, seed) for seed in range(REGISTRIES)}
         results["largest registry"] = pool.submit(largest_registry)
+        results["patterns by hand"] = pool.submit(patterns_by_hand)
         parts = parts_of_the_sample()
         same = list(pool.map(is_read_as_by_the_model, parts))
         failed = [name for name, result in results.items() if not result.result()]

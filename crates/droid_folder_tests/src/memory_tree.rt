@@ -16,17 +16,12 @@ pub type Row<'a> = (&'a str, &'a [u8], EntryKind, u64, Option<&'a [u8]>);
 /// row.
 #[derive(Drop)]
 pub struct MemoryTree<'a> {
-    pub rows: &'a [Row<'a>],
-    /// The path of a file whose place another file takes once its folder was listed.
-    pub exchanged: Option<&'a str>,
+    rows: &'a [Row<'a>],
 }
 
 impl<'a> MemoryTree<'a> {
     pub fn of(rows: &'a [Row<'a>]) -> MemoryTree<'a> {
-        MemoryTree {
-            rows,
-            exchanged: None,
-        }
+        MemoryTree { rows }
     }
 }
 
@@ -34,9 +29,7 @@ impl Tree for MemoryTree<'_> {
     ghost observes = { λ old observed new. Unit {0} };
 
     fn entries(&mut self, alloc: Global, path: &str) -> Result<Vec<FolderEntry>, TreeFault> {
-        if is_sealed(self.rows, path) {
-            return Err(TreeFault::Unreadable);
-        }
+        self.see_folder(alloc, path)?;
         match entries_below(alloc, self.rows, path) {
             Ok(entries) => Ok(entries),
             Err(_) => Err(TreeFault::Memory),
@@ -52,20 +45,17 @@ impl Tree for MemoryTree<'_> {
 
     fn read(
         &mut self,
-        path: &str,
+        _path: &str,
         entry: &FolderEntry,
         from: u64,
         wanted: u32,
         bytes: &mut Vec<u8>,
     ) -> Result<(), TreeFault>
-        ensures came { OnOk result (BytesCame (λ old observed new. Unit {0}) self.old path.now entry.now from wanted bytes.old.items bytes.new.items self.new) }
+        ensures came { OnOk result (BytesCame (λ old observed new. Unit {0}) self.old _path.now entry.now from wanted bytes.old.items bytes.new.items self.new) }
         ensures unread { IfErr result (λ fault. fault ≡ faults.Unreadable → Unit {0}) }
         ensures exchanged { IfErr result (λ fault. fault ≡ faults.Changed → Unit {0}) }
     {
-        if inode_now(self.exchanged, path, entry.inode) != entry.inode {
-            return Err(TreeFault::Changed);
-        }
-        let Some(all) = bytes_of(self.rows, entry.inode) else {
+        let Some((_, _, _, _, Some(all))) = self.rows.get(entry.inode as usize) else {
             return Err(TreeFault::Unreadable);
         };
         let part = cut(all, from, wanted);
@@ -84,39 +74,17 @@ fn cut(all: &[u8], from: u64, wanted: u32) -> &[u8]
     &rest[..rest.len().min(wanted as usize)]
 }
 
-/// Returns whether the folder of this path is unreadable.
+/// Returns whether the folder at this path is unreadable. Only those at the top are.
 fn is_sealed(rows: &[Row], path: &str) -> bool {
+    let Some(name) = path.strip_prefix('/') else {
+        return false;
+    };
     for row in rows {
-        if row.2 == EntryKind::Folder && row.4.is_none() && is_path_of(row, path) {
+        if row.0.is_empty() && row.1 == name.as_bytes() && row.4.is_none() {
             return true;
         }
     }
     false
-}
-
-fn is_path_of(row: &Row, path: &str) -> bool {
-    match path.strip_prefix(row.0) {
-        Some(rest) => match rest.strip_prefix('/') {
-            Some(name) => name.as_bytes() == row.1,
-            None => false,
-        },
-        None => false,
-    }
-}
-
-/// Returns the inode of what is at a path that was listed with this inode.
-fn inode_now(exchanged: Option<&str>, path: &str, listed: u64) -> u64 {
-    if exchanged == Some(path) {
-        return listed.wrapping_add(1_000);
-    }
-    listed
-}
-
-fn bytes_of<'a>(rows: &'a [Row<'a>], inode: u64) -> Option<&'a [u8]> {
-    match rows.get(inode as usize) {
-        Some(row) => row.4,
-        None => None,
-    }
 }
 
 fn entries_below(alloc: Global, rows: &[Row], path: &str) -> Result<Vec<FolderEntry>, AllocError> {

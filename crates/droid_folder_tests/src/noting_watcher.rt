@@ -9,7 +9,6 @@ use std::alloc::Global;
 #[derive(Drop)]
 pub struct NotingWatcher {
     pub skipped: Vec<u8>,
-    pub count: u64,
     pub bytes: u64,
     pub folders: u64,
     pub files: u64,
@@ -19,7 +18,6 @@ impl NotingWatcher {
     pub fn new(alloc: Global) -> NotingWatcher {
         NotingWatcher {
             skipped: Vec::new(alloc),
-            count: 0,
             bytes: 0,
             folders: 0,
             files: 0,
@@ -29,16 +27,10 @@ impl NotingWatcher {
 
 impl Watcher for NotingWatcher {
     fn skipped(&mut self, path: &[u8], why: Skipped) {
-        self.count = self.count.wrapping_add(1);
         let word: &[u8] = match why {
-            Skipped::Kind => b" kind\n",
-            Skipped::Link => b" link\n",
-            Skipped::Name => b" name\n",
             Skipped::SameName => b" same name\n",
             Skipped::Refused(_) => b" refused\n",
-            Skipped::Unreadable => b" unreadable\n",
-            Skipped::Changed => b" changed\n",
-            Skipped::OtherHash => b" other hash\n",
+            _ => b" otherwise\n",
         };
         let _ = self.skipped.extend_from_slice(path);
         let _ = self.skipped.extend_from_slice(word);

@@ -4,11 +4,9 @@
 #[cfg(test)]
 mod export;
 #[cfg(test)]
-mod html;
+mod html_page;
 #[cfg(test)]
 mod pronom;
-#[cfg(test)]
-mod registries;
 #[cfg(test)]
 mod report_page;
 #[cfg(test)]

@@ -6,7 +6,8 @@
  *   EXCHANGED_TO      to this one
  *   EXCHANGED_BOTH    and what is there to the first one
  *   UNOPENED          no file or folder of these names, which have a `/` between them, can be opened
- *   SHORTENED         a look at the file of this name finds a byte less */
+ *   SHORTENED         a look at the file of this name finds a byte less
+ *   LENGTHENED        a look at the file of this name finds a byte more */
 #define _GNU_SOURCE
 #include <dirent.h>
 #include <dlfcn.h>
@@ -74,6 +75,7 @@ int statx(int folder, const char *path, int flags, unsigned mask, struct statx *
     if (has_name(path, text("EXCHANGED")) && ++looks == atol(text("EXCHANGED_LOOK"))) exchange();
     int result = real(folder, path, flags, mask, found);
     if (result == 0 && has_name(path, text("SHORTENED"))) found->stx_size--;
+    if (result == 0 && has_name(path, text("LENGTHENED"))) found->stx_size++;
     return result;
 }
 

@@ -113,6 +113,20 @@ BAGS = [
     (M + b" *./data/a\n", [(b"/a", M)]),
     # a line that is malformed
     (M + b"  data/a\n" + M[1:] + b"  data/b\n", malformed(2)),
+    (M + b"  data/a\n\\" + M + b"  data/b\n", malformed(2)),
+    (M + b"  data/a\n" + M + b"data/b\n", malformed(2)),
+    (M + b"  data/a\n" + M + b"\n", malformed(2)),
+    (M + b"  data/a\n" + M + b"  \n", malformed(2)),
+    (M + b"  data/a\n " + M + b"  data/b\n", malformed(2)),
+    # a path that is that of no file of the bag
+    (M + b"  data/a\n" + M + b"  b\n", no_file(2)),
+    (M + b"  data/a\n" + M + b"  data\n", no_file(2)),
+    (M + b"  data/a\n" + M + b"  data/\n", no_file(2)),
+    (M + b"  data/a\n" + M + b"  data/../b\n", no_file(2)),
+    (M + b"  data/a\n" + M + b"  /data/b\n", no_file(2)),
+    (M + b"  data/a\n" + M + b"  ../data/b\n", no_file(2)),
+    (M + b"  data/a\n" + M + b"  Data/b\n", no_file(2)),
+    (M + b"  data/a\n" + M + b" **data/b\n", no_file(2)),
 ]
 # the lines that `md5sum` and `sha256sum` 9.1 of GNU coreutils print for files with odd names, by their paths
 MD5SUM = {

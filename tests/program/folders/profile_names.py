@@ -1,6 +1,7 @@
 """Names with each byte that UTF-8 uses, and names of the greatest length: the URIs of files, with the escaping of RFC 3986 by
 Python's `quote`, and the rows of folders, byte for byte."""
 import os
+import shutil
 import unittest
 from urllib.parse import quote
 
@@ -44,6 +45,24 @@ NAMES = [
     "\x7f\x80\u07ff\u0800\ud7ff\ue000\uffff\U00010000\U0010ffff",
     *LONGEST,
 ]
+# paths, with the URIs and the extensions of their files
+BY_HAND = {
+    "/in": ("file:/in", ""),
+    "/in/out/x.txt": ("file:/in/out/x.txt", "txt"),
+    '/a "b" c%.txt': ("file:/a%20%22b%22%20c%25.txt", "txt"),
+    "/AZaz09": ("file:/AZaz09", ""),
+    "/@[`{/:^": ("file:/%40%5B%60%7B/%3A%5E", ""),
+    "/!#$&'()*+,;=?": ("file:/%21%23%24%26%27%28%29%2A%2B%2C%3B%3D%3F", ""),
+    "/\x01\n\r\t\x7f": ("file:/%01%0A%0D%09%7F", ""),
+    "/\u00e9\u20ac\U00010348": ("file:/%C3%A9%E2%82%AC%F0%90%8D%88", ""),
+    "/a.txt": ("file:/a.txt", "txt"),
+    "/a.tar.gz": ("file:/a.tar.gz", "gz"),
+    "/.profile": ("file:/.profile", ""),
+    "/.a.b": ("file:/.a.b", "b"),
+    "/a.": ("file:/a.", ""),
+    "/a": ("file:/a", ""),
+    "/\u00e4.\u00f6\u00e9": ("file:/%C3%A4.%C3%B6%C3%A9", "\u00f6\u00e9"),
+}
 
 
 def uri(name):
@@ -62,6 +81,16 @@ class Names(InFolder):
             self.file(b"/" + name.encode())
         status, out, _ = profile(self.top)
         self.assertEqual((status, {row["NAME"]: row["URI"] for row in read(out)}), (0, {name: uri(name) for name in NAMES}))
+
+    def test_by_hand(self):
+        for path, due in BY_HAND.items():
+            self.folder(os.path.dirname(path).encode())
+            self.file(path.encode())
+            status, out, _ = profile(self.top)
+            found = {row["FILE_PATH"]: (row["URI"], row["EXT"]) for row in read(out) if row["TYPE"] == "File"}
+            self.assertEqual((status, found), (0, {path: due}))
+            shutil.rmtree(self.top)
+            os.mkdir(self.top)
 
     def test_rows_of_folders(self):
         """The fields have the name as it is, but with each double quote doubled."""

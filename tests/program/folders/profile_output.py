@@ -65,7 +65,7 @@ class Output(InFolder):
         with open(self.out, "rb") as file:
             self.assertEqual(len(file.read().splitlines()), 101)
 
-    def full(self, *words, limit=LIMIT):
+    def full(self, *words, limit=LIMIT, env=None):
         """Runs `profile` where no file can have more than some bytes."""
 
         def small():
@@ -74,7 +74,7 @@ class Output(InFolder):
 
             signal.signal(signal.SIGXFSZ, signal.SIG_IGN)
 
-        return subprocess.run([PROGRAM, "profile", self.top, *words], capture_output=True, timeout=120, preexec_fn=small, restore_signals=False)
+        return subprocess.run([PROGRAM, "profile", self.top, *words], capture_output=True, timeout=120, preexec_fn=small, restore_signals=False, env=env)
 
     def test_no_room(self):
         run = self.full("--output", self.out)
@@ -166,6 +166,32 @@ class Output(InFolder):
             os.close(read)
             err = run.stderr.read()
         self.assertEqual((run.returncode, lines(err, b"fault: ")), (4, [b"Write"]))
+        self.only()
+
+    def test_stops_in_the_walk(self):
+        """Of 300 files with names of 253 bytes more rows and lines are pending than are kept: where the CSV or the list can't be
+        written, the walk ends before a file that can't be opened, and nothing is printed of that."""
+        self.top = self.work + b"/tree/many"
+        os.mkdir(self.top)
+        names = [b"x" * 250 + b"%d" % number for number in range(100, 400)]
+        for name in names:
+            self.file(b"/" + name, b"a")
+        status, text, _ = profile(self.top, "--manifest", self.out)
+        with open(self.out, "rb") as file:
+            listed = file.read()
+        self.assertEqual((status, len(listed), listed.count(b"\n"), text.count(b"\n")), (0, 300 * 288, 300, 301))
+        os.remove(self.out)
+        changes = {"LD_PRELOAD": f"{os.environ['PRELOAD_CHANGES']}:{os.environ['PRELOAD_STREAMS']}"}
+        for name, more in ((names[99], {}), (names[99], {"WRITE_ROOM": "65000"})):
+            status, out, err = profile(self.top, env=os.environ | changes | {"UNOPENED": os.fsdecode(name)} | more)
+            skipped = [line for line in lines(err, b"skipped: ") if name in line]
+            if more:
+                self.assertEqual((status, out, lines(err, b"fault: "), skipped), (4, text[:65_000], [b"Write"], []))
+            else:
+                self.assertEqual((status, len(skipped)), (5, 1))
+        run = self.full("--manifest", self.out, limit=65_000, env=os.environ | changes | {"UNOPENED": os.fsdecode(names[-1])})
+        self.assertEqual((run.returncode, lines(run.stderr, b"fault: "), lines(run.stderr, b"skipped: ")), (4, [b"Write"], []))
+        self.assertEqual((text.startswith(run.stdout), run.stdout.endswith(b"\n"), len(run.stdout) > 65_536), (True, True, True))
         self.only()
 
     def test_full_device(self):

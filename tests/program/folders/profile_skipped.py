@@ -5,7 +5,8 @@ import socket
 import subprocess
 import unittest
 
-from lib.trees import ALL_SKIPPED, CHANGED, KIND, LINK, LINKS, SKIPPED, UNREAD, InFolder, lines, profile, read, read_skipped, status_of, walk
+from lib.rows import COLUMNS
+from lib.trees import ALL_SKIPPED, CHANGED, KIND, LINK, LINKS, NAME, SKIPPED, UNREAD, InFolder, lines, profile, read, read_skipped, status_of, walk
 
 REASON = re.compile(rb"(.*?): ((?:it |neither |its |same name: |the profile ).*)")
 
@@ -50,6 +51,32 @@ class Skipped(InFolder):
         self.file(b"/in/\xff\xfe/below.txt", b"not reached")
         self.assertEqual(status_of(walk(self.top)[1]), 5)
         self.check()
+
+    def test_each_reason(self):
+        """Two files have a byte more and a byte less than their folder says; a file and a folder can't be opened."""
+        for path, content in ((b"/grows", b"abcd"), (b"/shrinks", b"abcde"), (b"/gone", b"go"), (b"/\xff", b"")):
+            self.file(path, content)
+        os.symlink(b"grows", self.top + b"/link")
+        os.mkfifo(self.top + b"/pipe")
+        self.folder(b"/sealed")
+        self.folder(b"/open")
+        self.file(b"/open/kept", b"k")
+        file = self.work + b"/skipped.csv"
+        env = os.environ | {"LD_PRELOAD": os.environ["PRELOAD_CHANGES"], "SHORTENED": "grows", "LENGTHENED": "shrinks", "UNOPENED": "gone/sealed"}
+        status, out, _ = profile(self.top, "--skipped", file, env=env)
+        self.assertEqual((status, [row["FILE_PATH"] for row in read(out)]), (5, ["/open", "/open/kept"]))
+        reasons = (b"/gone", UNREAD), (b"/grows", CHANGED), (b"/link", LINK), (b"/pipe", KIND), (b"/sealed", UNREAD), (b"/shrinks", CHANGED), (b"/\xff", NAME)
+        self.assertEqual(read_skipped(file), list(reasons))
+
+    def test_no_row(self):
+        """An entry that is skipped has no row, nor a number."""
+        self.file(b"/sealed", b"abc")
+        self.file(b"/a", b"a", 0)
+        env = os.environ | {"LD_PRELOAD": os.environ["PRELOAD_CHANGES"], "UNOPENED": "sealed"}
+        status, out, err = profile(self.top, "--hash", "none", env=env)
+        row = b'"1","","file:/a","/a","a","","Done","1","File","","1970-01-01T00:00:00","false","","0","","","",""\n'
+        self.assertEqual((status, out), (5, COLUMNS.replace(b"MD5_HASH", b"HASH") + row))
+        self.assertEqual(self.reported(err), {b"/sealed": UNREAD})
 
     def test_links_alone(self):
         """Symbolic links are no part of a profile: the status stays 0, as without them."""

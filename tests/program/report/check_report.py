@@ -108,6 +108,40 @@ def odd_profiles():
     print("odd profiles: passed")
 
 
+# odd texts, and how they stand in a page
+ODD_TEXTS = [
+    ("", ""),
+    ("plain", "plain"),
+    ("<script>alert(1)</script>", "&lt;script&gt;alert(1)&lt;/script&gt;"),
+    ("&amp;", "&amp;amp;"),
+    ("\"quoted\" 'so'", "&quot;quoted&quot; 'so'"),
+    ("a\0b\n\x7f", "a\u2400b\u240a\u2421"),
+    ("\u202egpj.exe \U0001f4c4", "\u202egpj.exe \U0001f4c4"),
+]
+# the body of a page with one table
+ONE_TABLE = ("T", "N", ["name"], [[("words", "a<b"), ("amount", 12), ("bar", 500)]])
+ITS_BODY = (
+    '<main><h1>&quot;</h1><p>&amp;</p><section><h2>T</h2><p>N</p><table><thead><tr><th scope="col">name</th></tr></thead><tbody><tr><td><bdi>a&lt;b</bdi></td>'
+    '<td class="n">12</td><td class="b"><svg viewbox="0 0 1000 20" preserveaspectratio="none" aria-hidden="true"><rect width="500" height="20"></rect></svg></td></tr>'
+    "</tbody></table></section></main>"
+)
+
+
+def pages_by_hand():
+    """Texts that are no markup, as they stand in pages, and what stands around the body of a page."""
+    for text, shown in ODD_TEXTS:
+        page = page_by(written([row(1, f"/{text}.")]).encode(), text.replace("\0", ""))
+        assert f"<bdi>/{shown}.</bdi>" in page, (text, page)
+        title = shown.replace("\u2400", "")
+        assert f"<title>{title}</title>" in page and f"<main><h1>{title}</h1>" in page, (text, page)
+    page = page_by(written([]).encode(), "<t>")
+    assert page.startswith('<!DOCTYPE html><html lang="en"><head>') and "<title>&lt;t&gt;</title>" in page, page
+    assert "</head><body><main>" in page and page.endswith("</main></body></html>"), page
+    # the text that each page is compared with
+    assert numbers_of.body_text('"', "&", [ONE_TABLE]) == ITS_BODY
+    print("pages by hand: passed")
+
+
 def named_rows(count, name):
     """Returns rows of files whose formats have this name, and a number behind it."""
     rows = [row(n, f"/{n}", method="Extension", puid=f"fmt/{n}") for n in range(1_000, 1_000 + count)]
@@ -224,6 +258,7 @@ def pictures(page):
 def main():
     random_profiles()
     odd_profiles()
+    pages_by_hand()
     each_byte_changed()
     faults()
     many_rows()

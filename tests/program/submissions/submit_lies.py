@@ -142,7 +142,8 @@ class OfTheExport(Lies):
         self.shows(lambda _: text, b"not in the profile: /a.bin", moved, more, *(b"not in the profile: " + path for path in gone[1:]))
 
     def test_no_profile(self):
-        for text in (b"", b"ID\n", COLUMNS[1:], COLUMNS + b"1,2\n", b"\xff" * 99):
+        swapped, joined = (COLUMNS.replace(b'"ID","PARENT_ID"', other) for other in (b'"PARENT_ID","ID"', b'"ID,PARENT_ID"'))
+        for text in (b"", b"\n", b"ID\n", COLUMNS[1:], COLUMNS + b"1,2\n", swapped, joined, b"\xff" * 99):
             self.ends(exporting(lambda _, text=text: text), "Reply", NO_PROFILE)
 
     def test_path_twice(self):

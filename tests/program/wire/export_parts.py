@@ -1,12 +1,14 @@
 """The parts of an export, whatever comes between them. Each part belongs to the text that the profile has at that
 moment (docs/SERVICE.md). The model, which makes the whole text for each part, says what is due."""
 
+import tempfile
 import unittest
 from struct import pack
 
 from lib.frames import ABANDON, ADD_FILE, ADD_FOLDER, CREATE_PROFILE, EXPORT, FINISH, PART, PIECE, STATUS
-from lib.frames import export_body, file_body, folder_body, frame, node_body, piece_body, profile_body
-from lib.program import run
+from lib.frames import cut, export_body, file_body, folder_body, frame, node_body, piece_body, profile_body
+from lib.program import SAMPLE, run
+from lib.rows import COLUMNS, IN_ROW
 from model_frames import reply_to, service_of_the_sample
 
 ALL, ANY = 1, 0
@@ -42,6 +44,69 @@ FILTERS = [
 
 # the length of parts, and the number of folders with the longest names in the profile
 SIZES = [(1, 0), (7, 0), (1_000, 4), (1_048_576, 1_300)]
+
+
+def texts(tag, *words):
+    """A criterion with a list of texts."""
+    return bytes([tag, len(words)]) + b"".join(bytes([len(word)]) + word for word in words)
+
+
+def puids(*words):
+    return texts(2, *words)
+
+
+def extensions(*words):
+    return texts(3, *words)
+
+
+def at_least(size):
+    return b"\5" + pack(">Q", size)
+
+
+def at_most(size):
+    return b"\6" + pack(">Q", size)
+
+
+# criteria, and which records meet all of them and any of them: the folder `in` (i), the file `m.MSG` of 14 bytes with two
+# formats (m), and the empty file `a.b` (e), which is unidentified
+CHOSEN = [
+    ([b"\1\0"], "ie", "ie"),
+    ([b"\1\1"], "m", "m"),
+    ([b"\1\2"], "", ""),
+    ([b"\4\1"], "m", "m"),
+    ([b"\4\0"], "ie", "ie"),
+    ([FILES], "me", "me"),
+    ([FOLDERS], "i", "i"),
+    ([at_least(0)], "me", "me"),
+    ([at_least(14)], "m", "m"),
+    ([at_least(15)], "", ""),
+    ([at_most(0)], "e", "e"),
+    ([at_most(13)], "e", "e"),
+    ([at_most(14)], "me", "me"),
+    ([puids()], "", ""),
+    ([puids(b"dev/2", b"dev/3")], "m", "m"),
+    ([puids(b"DEV/3", b"dev/")], "", ""),
+    ([extensions()], "", ""),
+    ([extensions(b"x", b"mSg")], "m", "m"),
+    ([extensions(b"B", b"ms")], "e", "e"),
+    ([extensions(b"")], "i", "i"),
+    ([], "ime", "ime"),
+    ([extensions(b"msg"), puids(b"dev/3")], "m", "m"),
+    ([extensions(b"b", b"msg"), extensions(b"MSG")], "m", "me"),
+    ([puids(b"dev/1"), puids(b"dev/3")], "m", "m"),
+    ([puids(b"dev/1"), puids(b"dev/2")], "", "m"),
+    ([extensions(), FOLDERS], "", "i"),
+    ([FOLDERS], "i", "i"),
+    ([FOLDERS, at_least(14)], "", "im"),
+    ([extensions(b"a", b"a", b"B"), at_most(0), FILES], "e", "me"),
+]
+# the rows of the three
+MESSAGE = b'"2","","file:/m.MSG","/m.MSG","m.MSG","Signature","Done","14","File","MSG","1970-01-01T00:00:00","true","f96b697d7cb7938d525a2f31aaf161d0","2",'
+ROWS = {
+    "i": IN_ROW,
+    "m": MESSAGE + b'"dev/1","","Message","1"\n' + MESSAGE + b'"dev/3","","Letters",""\n',
+    "e": b'"3","","file:/a.b","/a.b","a.b","","Done","0","File","b","1970-01-01T00:00:00","false","d41d8cd98f00b204e9800998ecf8427e","0","","","",""\n',
+}
 
 
 def export(profile, start, size, every, criteria):
@@ -192,6 +257,29 @@ class ExportParts(unittest.TestCase):
             session.text(1, 7, every, criteria, lambda name: session.folder(2, name))
             session.text(2, 7, every, criteria)
         self.check(session)
+
+    def test_chosen_records(self):
+        """With a registry by which the extension of `m.MSG` contradicts its formats."""
+        content = b"message digest"
+        bodies = [
+            (CREATE_PROFILE, profile_body()),
+            (ADD_FOLDER, folder_body(b"in")),
+            (ADD_FILE, file_body(b"m.MSG", len(content), len(content))),
+            (PIECE, piece_body(2, 0, content)),
+            (FINISH, node_body(2)),
+            (ADD_FILE, file_body(b"a.b", 0, 1)),
+            (FINISH, node_body(3)),
+        ]
+        bodies += [(EXPORT, export(1, 0, 1_048_576, every, criteria)) for criteria, *_ in CHOSEN for every in (ALL, ANY)]
+        stream = b"".join(frame(kind, 1, number, body) for number, (kind, body) in enumerate(bodies, 1))
+        with open(SAMPLE, "rb") as sample, tempfile.NamedTemporaryFile() as registry:
+            registry.write(sample.read().replace(b"E,dev/1,msg,", b"E,dev/1,mail,"))
+            registry.flush()
+            status, out, err = run(["run", "--registry", registry.name], stream)
+        self.assertEqual((status, err), (0, ""))
+        texts_found = [found.body[16:] for found in cut(out) if found.kind == PART]
+        due = [COLUMNS + b"".join(ROWS[letter] for letter in letters) for _, *both in CHOSEN for letters in both]
+        self.assertEqual(texts_found, due)
 
 
 if __name__ == "__main__":

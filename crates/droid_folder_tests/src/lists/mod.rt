@@ -1,12 +1,7 @@
-//! What differs between two inventories, and the CSV of a profile beside items that were found, by the public calls of
-//! `droid_fixity`, `droid_fixity_lists` and `droid_fixity_profile`.
+//! What differs between two inventories, by the public calls of `droid_fixity`, `droid_fixity_lists` and
+//! `droid_fixity_profile`. (How the CSV of a profile is read is tested in tests/program/folders/verify_rows.py.)
 
 mod cases;
-mod chance;
-mod chance_rows;
-mod comparisons;
 mod memory;
 mod nodes;
 mod page;
-mod profile_rows;
-mod reports;

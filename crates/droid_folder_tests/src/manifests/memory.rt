@@ -18,35 +18,27 @@ const DIGEST: [u8; 16] = [
 const BAG: &str =
     "b1946ac92492d2347c6235b4d2611184  data/a%0Ab%25\nb1946ac92492d2347c6235b4d2611184  data/c\n";
 
-/// Returns whether two files are read.
-fn is_read(alloc: Global, form: ManifestForm, list: &str) -> Result<bool, AllocError> {
-    match read_manifest(alloc, form, list.as_bytes()) {
-        Ok(items) => Ok(items.len() == 2),
-        Err(ManifestFault::Memory) => Err(AllocError),
-        Err(_) => Ok(false),
+/// Returns whether two files are read, at the second call if memory runs out at the first.
+fn is_read(alloc: Global, form: ManifestForm, list: &str) -> bool {
+    let list = list.as_bytes();
+    let read = match read_manifest(alloc, form, list) {
+        Err(ManifestFault::Memory) => read_manifest(alloc, form, list),
+        read => read,
+    };
+    match read {
+        Ok(items) => items.len() == 2,
+        Err(_) => false,
     }
 }
 
 #[test]
-fn each_growth_of_a_list(rt: HostRuntime) -> Result<(), Fail> {
-    let alloc = rt.alloc();
-    let right = match is_read(alloc, ManifestForm::Checksums, LIST) {
-        Ok(right) => right,
-        Err(_) => is_read(alloc, ManifestForm::Checksums, LIST)?,
-    };
-    assert!(rt; right);
-    Ok(())
+fn each_growth_of_a_list(rt: HostRuntime) {
+    assert!(rt; is_read(rt.alloc(), ManifestForm::Checksums, LIST));
 }
 
 #[test]
-fn each_growth_of_a_manifest(rt: HostRuntime) -> Result<(), Fail> {
-    let alloc = rt.alloc();
-    let right = match is_read(alloc, ManifestForm::Bag, BAG) {
-        Ok(right) => right,
-        Err(_) => is_read(alloc, ManifestForm::Bag, BAG)?,
-    };
-    assert!(rt; right);
-    Ok(())
+fn each_growth_of_a_manifest(rt: HostRuntime) {
+    assert!(rt; is_read(rt.alloc(), ManifestForm::Bag, BAG));
 }
 
 /// Appends a line, again if memory runs out.

@@ -4,7 +4,6 @@ use droid_profile_csv::CsvFault;
 use droid_tree::{TreeFault, WalkFault};
 use std::alloc::Global;
 use std::fmt::Display;
-use std::process::Abort;
 use std::test::Fail;
 
 const TREE_FAULTS: [(TreeFault, &str); 3] = [
@@ -33,21 +32,20 @@ const CSV_FAULTS: [(CsvFault, &str); 4] = [
     ),
 ];
 
-/// Returns whether the value prints as this text.
-fn says<T: Display>(alloc: Global, value: &T, text: &str) -> Result<bool, Fail> {
-    Ok(format!(in alloc; "{value}")?.as_str() == text)
-}
-
-fn each_says<T: Display>(rt: &impl Abort, alloc: Global, rows: &[(T, &str)]) -> Result<(), Fail> {
+/// Returns whether each value prints as its text.
+fn each_says<T: Display>(alloc: Global, rows: &[(T, &str)]) -> Result<bool, Fail> {
     for (value, text) in rows {
-        assert!(rt; says(alloc, value, text)?, "{text}");
+        if format!(in alloc; "{value}")?.as_str() != *text {
+            return Ok(false);
+        }
     }
-    Ok(())
+    Ok(true)
 }
 
 #[test]
 fn texts(rt: HostRuntime) -> Result<(), Fail> {
-    each_says(&rt, rt.alloc(), &TREE_FAULTS)?;
-    each_says(&rt, rt.alloc(), &WALK_FAULTS)?;
-    each_says(&rt, rt.alloc(), &CSV_FAULTS)
+    assert!(rt; each_says(rt.alloc(), &TREE_FAULTS)?);
+    assert!(rt; each_says(rt.alloc(), &WALK_FAULTS)?);
+    assert!(rt; each_says(rt.alloc(), &CSV_FAULTS)?);
+    Ok(())
 }

@@ -1,8 +1,7 @@
-//! Profiles of trees in memory.
+//! Profiles of trees in memory. (tests/program/folders has those of folders of this machine.)
 
 mod fault_texts;
 mod memory;
-mod memory_profile;
 mod page;
 mod skipped_entries;
 mod small_trees;

@@ -2,8 +2,7 @@
 
 use crate::memory_tree::MemoryTree;
 use crate::noting_watcher::NotingWatcher;
-use crate::profiles::memory_profile::{Memory, memory};
-use crate::profiles::small_trees::ROWS;
+use crate::profiles::small_trees::{Memory, ROWS, memory};
 use droid_frame::HashKind;
 use droid_profile::{Options, Profiler, profile};
 use droid_profile_csv::CsvRecipient;

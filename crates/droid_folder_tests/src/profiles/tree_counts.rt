@@ -22,6 +22,7 @@ const PAGE: [Row; 2] = [
     ("", b"other", EntryKind::File, 5, Some(b"defgh")),
 ];
 
+/// Six folders and files are within a limit of six, and past one of five.
 #[test]
 fn counts(rt: HostRuntime) -> Result<(), Fail> {
     let alloc = rt.alloc();
@@ -29,13 +30,6 @@ fn counts(rt: HostRuntime) -> Result<(), Fail> {
     let counted = count(alloc, &mut tree, 6)?;
     assert!(rt; counted.folders == 2 && counted.files == 4);
     assert!(rt; counted.bytes == 12 && counted.skipped == 3);
-    Ok(())
-}
-
-#[test]
-fn one_more_than_the_limit(rt: HostRuntime) -> Result<(), Fail> {
-    let alloc = rt.alloc();
-    let mut tree = MemoryTree::of(&ROWS);
     let counted = count(alloc, &mut tree, 5);
     assert!(rt; matches!(&counted, Err(WalkFault::Entries)));
     Ok(())

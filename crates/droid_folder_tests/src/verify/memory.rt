@@ -4,103 +4,60 @@
 use crate::memory_tree::MemoryTree;
 use crate::noting_watcher::NotingWatcher;
 use crate::verify::changed_tree::{LIST, QUICK_REPORT, REPORT, ROWS};
-use droid_desk_comparison::{ItemKeeper, NotedFiles};
-use droid_desk_outputs::Recorder;
-use droid_desk_verify::{Lists, Verified, VerifyEnding, read_lists, verify_listing, verify_tree};
-use droid_frame::{HashKind, Noted};
-use droid_profile::{Options, Profiler};
+use droid_desk_arguments::VerifyOptions;
+use droid_desk_verify::{VerifyEnding, read_lists, verify_as};
+use droid_frame::Noted;
 use droid_pronom::Registry;
 use droid_testing::SAMPLE;
 use std::alloc::Global;
-use std::test::Fail;
 
-/// How files are searched for formats. The list says which hash they get.
-pub(crate) const OPTIONS: Options = Options {
-    scan_limit: 64,
-    match_all: false,
-    hash: HashKind::Nothing,
-};
-
-/// Whether a report is right.
-#[derive(Clone, Copy, PartialEq, Eq)]
-enum Came {
-    /// It is the expected one.
-    Right,
-    /// It is another one.
-    Wrong,
-    /// Memory ran out, and it is a front of the expected one.
-    Memory,
-}
-
-/// Compares again if memory ran out, so that any one allocation may be refused.
+/// Compares again if memory ran out.
 #[test]
-fn each_allocation(rt: HostRuntime) -> Result<(), Fail> {
+fn each_allocation(rt: HostRuntime) {
     let alloc = rt.alloc();
     for quick in [false, true] {
-        let last = match once(alloc, quick) {
-            Came::Memory => once(alloc, quick),
-            first => first,
+        let right = match compared(alloc, quick) {
+            None => compared(alloc, quick),
+            right => right,
         };
-        assert!(rt; last == Came::Right);
+        assert!(rt; right == Some(true));
     }
-    Ok(())
 }
 
-fn once(alloc: Global, quick: bool) -> Came {
+fn compared(alloc: Global, quick: bool) -> Option<bool> {
     match Registry::parse(alloc, SAMPLE.as_bytes()) {
-        Ok(registry) => once_by(alloc, &registry, quick),
-        Err(_) => Came::Memory,
+        Ok(registry) => compared_by(alloc, &registry, quick),
+        Err(_) => None,
     }
 }
 
-fn once_by(alloc: Global, registry: &Registry, quick: bool) -> Came {
-    match read_lists(alloc, false, !quick, LIST.as_bytes()) {
-        Ok(lists) => {
-            if quick {
-                list(alloc, registry, lists)
-            } else {
-                read(alloc, registry, lists)
-            }
-        }
-        Err(VerifyEnding::NoMemory) => Came::Memory,
-        Err(_) => Came::Wrong,
-    }
-}
-
-/// Compares the tree with the list by the hashes and formats of its files.
-fn read(alloc: Global, registry: &Registry, lists: Lists) -> Came {
-    let mut output = Noted::new(Vec::new(alloc));
-    let mut profiler = Profiler {
-        alloc,
-        tree: MemoryTree::of(&ROWS),
-        watcher: Recorder::new(alloc, NotingWatcher::new(alloc)),
-        recipient: ItemKeeper::new(alloc, false, false),
+/// Returns whether the report is right, or `None` if memory ran out, and the report is a front of the right one.
+fn compared_by(alloc: Global, registry: &Registry, quick: bool) -> Option<bool> {
+    let lists = match read_lists(alloc, false, !quick, LIST.as_bytes()) {
+        Ok(lists) => lists,
+        Err(VerifyEnding::NoMemory) => return None,
+        Err(_) => return Some(false),
     };
-    let verified = verify_tree(&mut profiler, &mut output, registry, OPTIONS, lists);
-    judged(&verified, output.stream.as_slice(), REPORT.as_bytes())
-}
-
-/// Compares the tree with the list by the sizes and moments of its files.
-fn list(alloc: Global, registry: &Registry, lists: Lists) -> Came {
-    let mut output = Noted::new(Vec::new(alloc));
-    let mut profiler = Profiler {
-        alloc,
-        tree: NotedFiles {
-            tree: MemoryTree::of(&ROWS),
-            files: Vec::new(alloc),
-        },
-        watcher: Recorder::new(alloc, NotingWatcher::new(alloc)),
-        recipient: ItemKeeper::new(alloc, false, false),
+    let options = VerifyOptions {
+        folder: "",
+        against: "",
+        quick,
+        identify: !quick,
+        registry: None,
+        limit: 64,
+        match_all: false,
+        quiet: true,
     };
-    let verified = verify_listing(&mut profiler, &mut output, registry, OPTIONS, lists);
-    judged(&verified, output.stream.as_slice(), QUICK_REPORT.as_bytes())
-}
-
-fn judged(verified: &Verified, text: &[u8], due: &[u8]) -> Came {
+    let tree = MemoryTree::of(&ROWS);
+    let watcher = NotingWatcher::new(alloc);
+    let mut output = Noted::new(Vec::new(alloc));
+    let verified = verify_as(alloc, tree, watcher, &mut output, registry, options, lists);
+    let due = if quick { QUICK_REPORT } else { REPORT };
+    let text = output.stream.as_slice();
     match &verified.ending {
-        VerifyEnding::Differing if text == due => Came::Right,
-        VerifyEnding::NoMemory if text.is_empty() => Came::Memory,
-        VerifyEnding::Unwritten if due.starts_with(text) => Came::Memory,
-        _ => Came::Wrong,
+        VerifyEnding::Differing => Some(text == due.as_bytes()),
+        VerifyEnding::NoMemory if text.is_empty() => None,
+        VerifyEnding::Unwritten if due.as_bytes().starts_with(text) => None,
+        _ => Some(false),
     }
 }

@@ -3,16 +3,22 @@
 use crate::memory_tree::MemoryTree;
 use crate::noting_watcher::NotingWatcher;
 use crate::verify::changed_tree::ROWS;
-use crate::verify::memory::OPTIONS;
 use droid_desk_comparison::ItemKeeper;
 use droid_desk_outputs::Recorder;
 use droid_desk_report::{PageTexts, page_of_csv};
 use droid_desk_verify::{VerifyEnding, read_lists, verify_tree};
-use droid_frame::Noted;
-use droid_profile::Profiler;
+use droid_frame::{HashKind, Noted};
+use droid_profile::{Options, Profiler};
 use droid_pronom::Registry;
 use droid_testing::SAMPLE;
 use std::test::Fail;
+
+/// How files are searched for formats. The list says which hash they get.
+const OPTIONS: Options = Options {
+    scan_limit: 64,
+    match_all: false,
+    hash: HashKind::Nothing,
+};
 
 #[test]
 fn example_of_verify(rt: HostRuntime) -> Result<(), Fail> {

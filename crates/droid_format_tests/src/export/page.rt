@@ -1,6 +1,6 @@
 //! The example of crates/droid_export/README.md.
 
-use crate::export::nodes::{folder, message};
+use crate::export::nodes::{file, folder};
 use droid_export::export_text;
 use droid_frame::{Criteria, Criterion, Filter, HashKind, NodeKind};
 use droid_pronom::Registry;
@@ -11,7 +11,10 @@ use std::test::Fail;
 fn example_of_the_page(rt: HostRuntime) -> Result<(), Fail> {
     let alloc = rt.alloc();
     let registry = Registry::parse(alloc, SAMPLE.as_bytes())?;
-    let records = [folder(alloc, 1, "in")?, message(alloc, 2, "m.msg", false)?];
+    let records = [
+        folder(alloc, 1, "in")?,
+        file(alloc, 2, "m.msg", 14, &["dev/1", "dev/3"])?,
+    ];
     let mut criteria = Criteria::new(alloc);
     criteria.push(Criterion::KindIs(NodeKind::Folder))?;
     let filter = Filter {

@@ -1,14 +1,14 @@
-//! Registry files and their readers. (Faults and limits are tested in tests/program/registry.sh.)
+//! Registry files, their readers, and texts of faults. (Faults and limits are tested in tests/program/registry.sh.)
 
+use droid_export::ExportFault;
 use droid_frame::Noted;
-use droid_pronom::{Registry, RegistryFault};
-use droid_testing::SAMPLE;
-use std::alloc::{AllocError, Global};
-use std::io;
-use std::io::{Error, ErrorKind, Read};
+use droid_pronom::{PatternFault, Registry, RegistryFault, extension};
+use droid_testing::{Manner, NOWHERE, Place, SAMPLE, STEADY, ShakyReader, Stop};
+use std::alloc::Global;
 use std::test::Fail;
 
 /// Registry files without a fault, and the number of their formats.
+#[rattlefmt::skip]
 const FILES: [(&str, usize); 9] = [
     ("", 0),
     ("\n\n", 0),
@@ -18,121 +18,67 @@ const FILES: [(&str, usize); 9] = [
     ("F,dev/1,A,,,\nE,dev/1,x,,,\nE,dev/1,x,,,\n", 1),
     ("F,dev/1,A,,,\nS,dev/1,BOF,0,65535,61\n", 1),
     ("F,dev/1,A,,,\nS,dev/1,BOF,00000,00001,61\n", 1),
-    (
-        "F,dev/1,A,,,\nS,dev/1,BOF,0,0,61\nB,dev/1,EOF,0,0,62\nB,dev/1,BOF,1,1,63\n",
-        1,
-    ),
+    ("F,dev/1,A,,,\nS,dev/1,BOF,0,0,61\nB,dev/1,EOF,0,0,62\nB,dev/1,BOF,1,1,63\n", 1),
 ];
 
 #[test]
 fn numbers_of_formats(rt: HostRuntime) -> Result<(), Fail> {
-    for (text, expected) in &FILES {
+    for (text, count) in &FILES {
         let registry = Registry::parse(rt.alloc(), text.as_bytes())?;
-        let count = registry.len();
-        assert!(rt; count == *expected, "of {text:?}");
-        assert!(rt; registry.is_empty() == (count == 0), "of {text:?}");
+        assert!(rt; registry.len() == *count, "of {text:?}");
+        assert!(rt; registry.is_empty() == (*count == 0), "of {text:?}");
     }
+    assert!(rt; extension("") == "");
     Ok(())
 }
 
-/// Returns whether the fourth format of the sample is there, with its four texts, and no fifth.
-fn ends_with_plain(registry: &Registry) -> bool {
-    let is_plain = match registry.format(3) {
-        Some(format) => {
-            format.puid.as_str() == "dev/4"
-                && format.name.as_str() == "Plain"
-                && format.version.as_str() == ""
-                && format.mime.as_str() == "text/plain"
-        }
-        None => false,
-    };
-    is_plain && registry.format(4).is_none()
-}
-
-/// Returns whether the look-ups of the sample by PUID and its number of formats are right.
-fn has_places(registry: &Registry) -> bool {
-    registry.by_puid("dev/3") == Some(2)
-        && registry.by_puid("dev/5") == None
-        && registry.len() == 4
-        && !registry.is_empty()
-}
-
-#[test]
-fn formats_of_the_sample(rt: HostRuntime) -> Result<(), Fail> {
-    let registry = Registry::parse(rt.alloc(), SAMPLE.as_bytes())?;
-    assert!(rt; ends_with_plain(&registry));
-    assert!(rt; has_places(&registry));
-    Ok(())
-}
-
-/// A reader that returns at most three bytes at a time.
-///
-/// Every second read is interrupted, `interruptions` times in all. One read fails when `fails_at` bytes are left.
-#[derive(Drop)]
-struct Halting<'a> {
-    bytes: &'a [u8],
-    interruptions: u32,
-    is_next: bool,
-    fails_at: Option<usize>,
-}
-
-impl Read for Halting<'_> {
-    fn read(&mut self, buf: &mut [u8]) -> io::Result<usize> {
-        self.is_next = !self.is_next;
-        if self.is_next && self.interruptions > 0 {
-            self.interruptions -= 1;
-            return Err(Error::from(ErrorKind::Interrupted));
-        }
-        if self.fails_at == Some(self.bytes.len()) {
-            self.fails_at = None;
-            return Err(Error::from(ErrorKind::BrokenPipe));
-        }
-        let count = self.bytes.len().min(buf.len()).min(3);
-        buf[..count].copy_from_slice(&self.bytes[..count]);
-        self.bytes = &self.bytes[count..];
-        Ok(count)
-    }
-}
-
-/// Describes the result of reading a registry file.
-fn description(
-    alloc: Global,
-    outcome: Result<Registry, RegistryFault>,
-) -> Result<String, AllocError> {
-    match outcome {
-        Ok(registry) => {
-            let count = registry.len();
-            format!(in alloc; "{count} formats")
-        }
-        Err(fault) => format!(in alloc; "{fault}"),
-    }
-}
-
-/// The number of interruptions, the number of bytes left when a read fails, and the result.
-const READERS: [(u32, Option<usize>, &str); 6] = [
-    (0, None, "4 formats"),
-    (64, None, "4 formats"),
-    (65, None, "Read"),
-    (0, Some(0), "Read"),
-    (0, Some(SAMPLE.len()), "Read"),
-    (64, Some(SAMPLE.len() - 150), "Read"),
+/// Where a reader of the sample is interrupted, after how many bytes it stops, and how, and whether the registry comes.
+#[rattlefmt::skip]
+const READERS: [([Place; 3], usize, Stop, bool); 6] = [
+    ([NOWHERE; 3], SAMPLE.len(), Stop::Ends, true),
+    ([(0, 30), (30, 30), (150, 4)], SAMPLE.len(), Stop::Ends, true),
+    ([(0, 30), (30, 30), (150, 5)], SAMPLE.len(), Stop::Ends, false),
+    ([NOWHERE; 3], SAMPLE.len(), Stop::Fails, false),
+    ([NOWHERE; 3], 0, Stop::Fails, false),
+    ([(0, 30), (30, 30), (60, 4)], 150, Stop::Fails, false),
 ];
 
-#[test]
-fn readers(rt: HostRuntime) -> Result<(), Fail> {
-    let alloc = rt.alloc();
-    for (interruptions, fails_at, expected) in &READERS {
-        let mut reader = Noted::new(Halting {
-            bytes: SAMPLE.as_bytes(),
-            interruptions: *interruptions,
-            is_next: false,
-            fails_at: *fails_at,
-        });
-        let text = description(alloc, Registry::read(alloc, &mut reader))?;
-        assert!(rt;
-            text.as_str() == *expected,
-            "after {interruptions} interruptions"
-        );
+/// Returns whether the registry of the sample comes, three bytes at a time, or `None` if the fault is not the reader's.
+fn comes(alloc: Global, places: [Place; 3], end: usize, stop: Stop) -> Option<bool> {
+    let manner = Manner {
+        width: 3,
+        places,
+        ..STEADY
+    };
+    let bytes = SAMPLE.as_bytes().get(..end)?;
+    let mut reader = Noted::new(ShakyReader::new(bytes, stop, manner));
+    match Registry::read(alloc, &mut reader) {
+        Ok(registry) => Some(registry.len() == 4),
+        Err(RegistryFault::Read) => Some(false),
+        Err(_) => None,
     }
+}
+
+#[test]
+fn readers(rt: HostRuntime) {
+    for (places, end, stop, expected) in &READERS {
+        let read = comes(rt.alloc(), *places, *end, *stop);
+        assert!(rt; read == Some(*expected), "{end}");
+    }
+}
+
+const FAULTS: &str =
+    "the text is no pattern; out of memory; out of memory; the export could not be written past its first 7 bytes";
+
+#[test]
+fn texts_of_faults(rt: HostRuntime) -> Result<(), Fail> {
+    let text = format!(in rt.alloc();
+        "{}; {}; {}; {}",
+        PatternFault::BadPattern,
+        PatternFault::Memory,
+        ExportFault::Memory,
+        ExportFault::Write { written: 7 }
+    )?;
+    assert!(rt; text.as_str() == FAULTS);
     Ok(())
 }
