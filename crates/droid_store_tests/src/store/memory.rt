@@ -59,15 +59,15 @@ const F: Option<NodeState> = Some(NodeState::Finished);
 
 /// Before the first command, and after each: how many profiles and unfinished files there are, how many nodes the profile
 /// has accepted, and the state of each node.
-const SHOWN: [(u64, u64, u32, [Option<NodeState>; 3]); 8] = [
-    (0, 0, 0, [N, N, N]),
-    (1, 0, 0, [N, N, N]),
-    (1, 0, 1, [D, N, N]),
-    (1, 1, 2, [D, U, N]),
-    (1, 1, 2, [D, U, N]),
-    (1, 0, 2, [D, F, N]),
-    (1, 1, 3, [D, F, U]),
-    (1, 0, 3, [D, F, N]),
+const SHOWN: [(u64, u64, u32, &[Option<NodeState>]); 8] = [
+    (0, 0, 0, &[N, N, N]),
+    (1, 0, 0, &[N, N, N]),
+    (1, 0, 1, &[D, N, N]),
+    (1, 1, 2, &[D, U, N]),
+    (1, 1, 2, &[D, U, N]),
+    (1, 0, 2, &[D, F, N]),
+    (1, 1, 3, &[D, F, U]),
+    (1, 0, 3, &[D, F, N]),
 ];
 
 /// Profiles and numbers of no node.
@@ -104,19 +104,20 @@ const NO_NAMES: [(u32, u32, &str); 12] = [
 
 /// Whether the store shows by every query what it has to show after as many commands.
 fn look(store: &mut Store, after: usize) -> bool {
-    let Some((profiles, unfinished, nodes, states)) = SHOWN.get(after) else {
+    let Some(shown) = SHOWN.get(after) else {
         return false;
     };
+    let (profiles, unfinished, nodes, states) = *shown;
     let counts = Counts {
-        profiles: *profiles,
-        unfinished: *unfinished,
+        profiles,
+        unfinished,
         accepted: after as u64,
     };
     let mut all = matches!(store.counts(), Ok(found) if found == counts);
-    all &= if *profiles == 0 {
+    all &= if profiles == 0 {
         matches!(store.profile(1), Ok(None))
     } else {
-        has_profile(store, 1, &OPTIONS, *nodes)
+        has_profile(store, 1, &OPTIONS, nodes)
     };
     for (place, (kept, _)) in COMMANDS.iter().enumerate() {
         let (client, number, ..) = *kept;
@@ -126,20 +127,20 @@ fn look(store: &mut Store, after: usize) -> bool {
             matches!(store.reply_of(client, number), Ok(None))
         };
     }
-    for (node, state) in NODES.iter().zip(states) {
+    for (node, state) in NODES.iter().zip(states.iter()) {
         all &= shows(store, node, *state);
     }
     all && lists(store, states) && has_no_more(store)
 }
 
 /// Whether the folders and finished files are the records of the profile, in order.
-fn lists(store: &mut Store, states: &[Option<NodeState>; 3]) -> bool {
+fn lists(store: &mut Store, states: &[Option<NodeState>]) -> bool {
     let Ok(records) = store.records(1) else {
         return false;
     };
     let mut all = true;
     let mut at = 0usize;
-    for (node, state) in NODES.iter().zip(states) {
+    for (node, state) in NODES.iter().zip(states.iter()) {
         match *state {
             None | Some(NodeState::Unfinished) => {}
             Some(state) => {
