@@ -19,11 +19,12 @@ sentence() {
 
 passed=0
 failed=0
+registry=--everyday
 # COMMAND INPUT REPLIES, and rows: NAME STATUS BYTES FAULT VARIABLE=NUMBER ..
 compare() {
     while read -r name status bytes fault variables; do
         # shellcheck disable=SC2086
-        env $variables LD_PRELOAD="$work/streams.so" "$program" "$1" --everyday <"$2" >"$work/out" 2>"$work/err"
+        env $variables LD_PRELOAD="$work/streams.so" "$program" "$1" $registry <"$2" >"$work/out" 2>"$work/err"
         ended=$?
         : >"$work/wanted"
         [ "$fault" = - ] || { echo "fault: $fault" && sentence "$fault"; } >"$work/wanted"
@@ -65,10 +66,14 @@ read_interrupted_64_times_within_a_line 0 31 - READ_INTERRUPTED_AT=30:64
 read_interrupted_65_times_within_a_line 4 0 Read READ_INTERRUPTED_AT=30:65
 read_interrupted_64_times_over_two_lines 0 31 - READ_INTERRUPTED_AT=10:32,30:32
 read_interrupted_65_times_over_two_lines 4 0 Read READ_INTERRUPTED_AT=10:64,30:1
+read_interrupted_64_times_at_the_end 0 31 - READ_INTERRUPTED_AT=$end:64
+read_interrupted_65_times_at_the_end 4 0 Read READ_INTERRUPTED_AT=$end:65
 read_interrupted_65_times_with_the_end 4 0 Read READ_INTERRUPTED_AT=10:64,$end:1
 written_interrupted_64_times_within_two_replies 0 31 - WRITE_INTERRUPTED_AT=3:64,10:64
 written_interrupted_64_times_before_each_reply 0 31 - WRITE_INTERRUPTED_AT=0:64,7:64,14:64,21:64
 written_interrupted_64_times_over_one_reply 0 31 - WRITE_INTERRUPTED_AT=7:32,10:32
+written_interrupted_64_times_at_three_places 0 31 - WRITE_INTERRUPTED_AT=0:20,3:20,6:24
+written_interrupted_65_times_at_three_places 4 6 Write WRITE_INTERRUPTED_AT=0:20,3:20,6:25
 written_interrupted_65_times_over_one_reply 4 10 Write WRITE_INTERRUPTED_AT=7:32,10:33
 written_interrupted_65_times_within_the_second_reply 4 10 Write WRITE_INTERRUPTED_AT=3:64,10:65
 written_interrupted_65_times_within_the_last_reply 4 25 Write WRITE_INTERRUPTED_AT=3:64,10:64,17:64,25:65
@@ -98,6 +103,37 @@ write_frames() {
 }
 write_frames 1 '\005' ''
 write_frames 2 '\006' '\001'
+
+# STREAM START WRITTEN FAULT CUT [VARIABLE=NUMBER ..]
+# Each line of standard input has words PLACE:TIMES, 64 interruptions of one frame or reply that begins at START. Writes two
+# rows for it: with these interruptions all WRITTEN bytes are written; with one more at the last place the program ends by FAULT,
+# after CUT bytes, or, where that is -, after those before the place.
+interrupted() {
+    stream=$1 start=$2 whole=$3 fault=$4 cut=$5
+    shift 5
+    while read -r line; do
+        at=
+        for place in $line; do
+            last=$((start + ${place%:*}))
+            at=$at${at:+,}$last:${place#*:}
+        done
+        more=${at%:*}:$((${at##*:} + 1))
+        [ "$cut" = - ] && due=$last || due=$cut
+        echo "interrupted_64_times_at_$at 0 $whole - ${stream}_INTERRUPTED_AT=$at $*"
+        echo "interrupted_65_times_at_$more 4 $due $fault ${stream}_INTERRUPTED_AT=$more $*"
+    done
+}
+# interruptions before the header of a frame, within it, behind it and within its body of 18 bytes
+cat >"$work/places" <<'PLACES'
+0:64
+5:64
+18:64
+30:64
+0:32 18:32
+17:63 35:1
+0:1 18:63
+7:20 18:20 25:24
+PLACES
 
 # where the frames end; their replies end at 22, 44, 66 and 85 in both versions
 while read -r version a b c d; do
@@ -131,10 +167,55 @@ written_interrupted_64_times_over_header_and_body 0 85 - WRITE_INTERRUPTED_AT=5:
 written_interrupted_65_times_over_header_and_body 4 20 Write WRITE_INTERRUPTED_AT=5:32,20:33
 written_interrupted_65_times_within_the_second_reply 4 30 Write WRITE_INTERRUPTED_AT=5:64,30:65
 written_interrupted_65_times_within_the_last_reply 4 80 Write WRITE_INTERRUPTED_AT=5:64,30:64,50:64,80:65
+read_interrupted_64_times_within_the_second_and_the_third 0 85 - READ_INTERRUPTED_AT=$((a + 9)):64,$((b)):32,$((b + 24)):32
 ROWS
+    interrupted READ "$a" 85 Read 22 <"$work/places" >"$work/rows"
+    interrupted READ "$a" 85 Read 22 READ_WIDTH=1 <"$work/places" >>"$work/rows"
+    compare run "$work/requests_$version" "$work/replies_$version" <"$work/rows"
 done <<'ENDS'
 1 23 59 95 132
 2 24 60 96 133
 ENDS
+
+# Replies with a list or bytes of their own: the Finished of an empty file e.txt, and the first three bytes of an export
+# without rows. VERSION, the length and the end of a profile's body as above; the hash of no bytes, the length of the
+# Finished, and the length of the export, whose first line names the hash
+write_lists() {
+    version="\\00$1"
+    third='\0\0\0\0\0\0\0\003'
+    fourth='\0\0\0\0\0\0\0\004'
+    printf '%b' "$version\\001$client$first\\0\\0\\0$2\\0\\001\\0\\0\\0$3" >"$work/asked_$1"
+    printf '%b' "$version\\003$client$second\\0\\0\\0\\041$one\\0\\0\\0\\0$zeros$zeros\\0\\0\\0\\004e.txt" >>"$work/asked_$1"
+    printf '%b' "$version\\005$client$third\\0\\0\\0\\010$one$one" >>"$work/asked_$1"
+    printf '%b' "$version\\010$client$fourth\\0\\0\\0\\024$one$zeros\\0\\0\\0\\003\\001\\001\\007\\001" >>"$work/asked_$1"
+    printf '%b' "$version\\0201$client$first\\0\\0\\0\\004$one$version\\0202$client$second\\0\\0\\0\\004$one" >"$work/lists_$1"
+    printf '%b' "$version\\0204$client$third\\0\\0\\0$5\\002\\0$4\\0\\001\\005dev/4" >>"$work/lists_$1"
+    printf '%b' "$version\\0207$client$fourth\\0\\0\\0\\023$third\\0\\0\\0\\0\\0\\0\\0$6\"ID" >>"$work/lists_$1"
+}
+md5='\0324\0035\0214\0331\0217\0\0262\0004\0351\0200\011\0230\0354\0370\0102\0176'
+sha256='\0343\0260\0304\0102\0230\0374\0034\0024\0232\0373\0364\0310\0231\0157\0271\0044'
+sha256=$sha256'\0047\0256\0101\0344\0144\0233\0223\0114\0244\0225\0231\0033\0170\0122\0270\0125'
+registry="--registry $top/tests/program/sample_registry.csv"
+write_lists 1 '\005' '' "$md5" '\032' '\0301'
+write_lists 2 '\006' '\002' "\\002$sha256" '\053' '\0304'
+while read -r version list part end; do
+    # the Finished begins at 44. Interruptions before a reply, behind its header, and behind the fields before its list or bytes
+    interrupted WRITE 44 "$end" Write - >"$work/rows" <<PLACES
+0:64
+18:64
+$list:64
+0:20 18:20 $list:24
+PLACES
+    interrupted WRITE "$part" "$end" Write - >>"$work/rows" <<'PLACES'
+0:64
+18:64
+34:64
+0:20 18:20 34:24
+PLACES
+    compare run "$work/asked_$version" "$work/lists_$version" <"$work/rows"
+done <<'REPLIES'
+1 38 88 125
+2 55 105 142
+REPLIES
 echo "streams: $passed passed, $failed failed"
 [ "$failed" -eq 0 ]

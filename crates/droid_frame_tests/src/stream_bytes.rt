@@ -6,7 +6,7 @@ use std::alloc::{AllocError, Global};
 
 /// Versions and lengths of bodies in headers that are refused, and the fault of each. The version is judged before the
 /// length.
-pub const REFUSED: [(u8, u32, FrameFault); 10] = [
+pub const REFUSED: [(u8, u32, FrameFault); 11] = [
     (1, 1_048_641, FrameFault::TooLong),
     (1, 4_194_368, FrameFault::TooLong),
     (1, 0xffff_ffff, FrameFault::TooLong),
@@ -14,6 +14,7 @@ pub const REFUSED: [(u8, u32, FrameFault); 10] = [
     (2, 0xffff_ffff, FrameFault::TooLong),
     (0, 1, FrameFault::BadVersion),
     (3, 1, FrameFault::BadVersion),
+    (3, 4, FrameFault::BadVersion),
     (9, 0, FrameFault::BadVersion),
     (3, 4_194_369, FrameFault::BadVersion),
     (0, 0xffff_ffff, FrameFault::BadVersion),

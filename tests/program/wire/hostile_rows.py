@@ -84,12 +84,14 @@ FILTERS = [
     "", "01", "02 00", "01 01 04 02", "01 01 01 03", "01 01 07 02", "01 01 00 00", "01 01 08 00", "01 02 04 00",
     "01 01 03 02 01 61", "01 01 03 01 02 61", "01 01 03 01 01 ff", "01 01 05 00000000000000", "01 00 00",
 ]
-# the shortest bodies of four kinds, which are well formed: empty names, an empty piece, and a Status
+# the shortest bodies of four kinds, which are well formed: empty names, an empty piece, and a Status; and 255 criteria, each a
+# list of no text, in 528 bytes
 SHORTEST = [
     (2, "00000001 00000000 0000000000000000"),
     (3, "00000001 00000002 ffffffffffffffff 000000000000000e 00000004"),
     (4, "00000001 00000001 00000003"),
     (7, "00000001 00000002"),
+    (8, "00000001 0000000000000009 00000001 00 ff" + "03 00" * 255),
 ]
 
 

@@ -9,7 +9,7 @@ export PRELOAD_STREAMS="$work/streams.so" PRELOAD_REFUSE="$work/refuse.so" PYTHO
 build_library ../streams.c "$PRELOAD_STREAMS"
 build_library ../../memory/refuse.c "$PRELOAD_REFUSE"
 run_modules run_command both_versions cases_as_frames export_parts serve_command send_faults send_streams send_memory \
-    serve_memory serve_at_once serve_options serve_many_desks send_sizes two_senders idle_streams steady_memory hostile_rows \
+    serve_memory serve_at_once serve_options serve_many_desks send_sizes send_bodies two_senders idle_streams steady_memory hostile_rows \
     hostile_streams hostile_registries || exit 1
 # once more, by a service for many connections at once
 export SERVE_OPTIONS="--at-once 8"

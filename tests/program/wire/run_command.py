@@ -27,6 +27,18 @@ REPLIES = b"".join(reply for _, reply in SESSION)
 ENDS = {1: [0, 23, 59, 95, 132], 2: [0, 24, 60, 96, 133]}
 REPLIED = [0, 22, 44, 66, 85]
 
+# versions and lengths of bodies in headers behind which the bytes end, and the fault of each: the version is judged before the
+# length
+HEADERS = [
+    (1, 4_194_368, "TooLong"),
+    (0, 1, "BadVersion"),
+    (3, 1, "BadVersion"),
+    (9, 0, "BadVersion"),
+    (3, 4_194_369, "BadVersion"),
+    (0, 0xFFFFFFFF, "BadVersion"),
+    (3, 0xFFFFFFFF, "BadVersion"),
+    (2, 1_048_641, "Truncated"),
+]
 MOST_FRAMES = 1_000_000
 
 
@@ -66,7 +78,7 @@ class Run(unittest.TestCase):
             (CREATE[:22], "Truncated"),
             *((bytes([version]) + CREATE[1:], "BadVersion") for version in (0, 3, 9, 255)),
             (b"\x09" + CREATE[1:17], "Truncated"),
-            (HEADER.pack(3, 1, 1, 1, 0xFFFFFFFF), "BadVersion"),
+            *((HEADER.pack(version, 5, 1, 1, length), name) for version, length, name in HEADERS),
         ]
         for version, limits in LIMITS.items():
             lengths = [(limits.body, "Truncated"), (limits.body + 1, "TooLong"), (0xFFFFFFFF, "TooLong")]

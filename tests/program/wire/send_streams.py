@@ -137,6 +137,35 @@ class SendStreams(unittest.TestCase):
         self.assertEqual((done.returncode, done.stdout, faults(done.stderr)), (4, b"", b"fault: Read\n"))
 
 
+# sixty-four interruptions of a frame with a body of 18 bytes: before its header, within it, behind it and within the body
+WITHIN_A_FRAME = [
+    [(0, 64)],
+    [(5, 64)],
+    [(18, 64)],
+    [(30, 64)],
+    [(0, 32), (18, 32)],
+    [(17, 63), (35, 1)],
+    [(0, 1), (18, 63)],
+    [(7, 20), (18, 20), (25, 24)],
+]
+
+
+class WithinAFrame(unittest.TestCase):
+    """All parts of the second frame have one count: 64 interruptions are tried again, and the next is a fault."""
+
+    ends, ends_at = SendStreams.ends, SendStreams.ends_at
+
+    def test_each_place(self):
+        def rows(first, _):
+            for places in WITHIN_A_FRAME:
+                for more, printed, fault in ((0, 14, None), (1, 7, "Write")):
+                    *front, (last, times) = [(first + place, times) for place, times in places]
+                    at = ",".join(f"{place}:{count}" for place, count in [*front, (last, times + more)])
+                    yield f"SEND_INTERRUPTED_AT={at}", printed, fault
+
+        self.ends_at(FRAME_ENDS, rows)
+
+
 def each_at(places, times):
     """Returns the variable for this many interruptions at each of these places."""
     return ",".join(f"{place}:{times}" for place in places)

@@ -1,6 +1,4 @@
 //! The client's end.
 
 mod allocations;
-mod order;
-mod reply_frames;
 mod rows;

@@ -1,8 +1,8 @@
-//! One request and the replies that arrive for it, step by step. The bodies are those of the format.
+//! One request and the replies that arrive for it, step by step; and many requests, answered in another order. The bodies
+//! are those of the format.
 
-use crate::client::reply_frames::{Arriving, versioned};
-use droid_frame::{Frame, HashKind, Refusal, Reply, Request};
-use droid_wire_client::{Client, HearFault, Heard, SubmitFault};
+use droid_frame::{Blob, Frame, HashKind, Refusal, Reply, Request};
+use droid_wire_client::{Client, HearFault, Heard};
 use std::alloc::{AllocError, Global};
 use std::test::Fail;
 
@@ -12,161 +12,205 @@ const NODE: u8 = 130;
 
 const REFUSED: u8 = 136;
 
-fn frame(alloc: Global, arriving: Arriving) -> Result<Frame, AllocError> {
-    versioned(alloc, 1, arriving)
+const ONE: &[u8] = &[0, 0, 0, 1];
+
+/// A reply that arrives: its version, client, number, kind and body.
+type Arriving = (u8, u32, u64, u8, &'static [u8]);
+
+/// A reply, and how it is taken: `None` if it is malformed. And then how many requests are pending, the answer, and
+/// whether the request was refused for memory.
+type Step = (Arriving, Option<Heard>, usize, Option<u32>, bool);
+
+const ANSWERED: Option<Heard> = Some(Heard::Answered);
+
+const TURNED_DOWN: Option<Heard> = Some(Heard::Refused);
+
+const REPEATED: Option<Heard> = Some(Heard::Repeated);
+
+const STRANGER: Option<Heard> = Some(Heard::Stranger);
+
+/// A request of version 1, of client 1 and number 1.
+const FIRST_VERSION: [Step; 10] = [
+    ((1, 1, 2, MADE, ONE), STRANGER, 1, None, false),
+    ((1, 2, 1, MADE, ONE), STRANGER, 1, None, false),
+    ((1, 1, 1, REFUSED, &[18]), TURNED_DOWN, 1, None, true),
+    ((1, 1, 1, NODE, ONE), STRANGER, 1, None, true),
+    ((1, 1, 1, MADE, ONE), ANSWERED, 0, Some(1), true),
+    ((1, 1, 1, MADE, ONE), REPEATED, 0, Some(1), true),
+    ((1, 1, 1, REFUSED, &[18]), REPEATED, 0, Some(1), true),
+    ((1, 1, 1, REFUSED, &[19]), REPEATED, 0, Some(1), true),
+    ((1, 1, 1, NODE, ONE), STRANGER, 0, Some(1), true),
+    ((1, 1, 0, MADE, ONE), STRANGER, 0, Some(1), true),
+];
+
+/// A request of version 2: a reply of the other version is for a stranger, whatever it says.
+const SECOND_VERSION: [Step; 7] = [
+    ((1, 1, 1, MADE, ONE), STRANGER, 1, None, false),
+    ((1, 1, 1, REFUSED, &[18]), STRANGER, 1, None, false),
+    ((2, 1, 1, REFUSED, &[18]), TURNED_DOWN, 1, None, true),
+    ((1, 1, 1, MADE, ONE), STRANGER, 1, None, true),
+    ((2, 1, 1, MADE, ONE), ANSWERED, 0, Some(1), true),
+    ((1, 1, 1, MADE, ONE), STRANGER, 0, Some(1), true),
+    ((2, 1, 1, MADE, ONE), REPEATED, 0, Some(1), true),
+];
+
+/// A request of version 1 isn't answered in version 2, and what is no reply changes nothing.
+const NO_REPLIES: [Step; 9] = [
+    ((2, 1, 1, MADE, ONE), STRANGER, 1, None, false),
+    ((0, 1, 1, MADE, ONE), None, 1, None, false),
+    ((3, 1, 1, MADE, ONE), None, 1, None, false),
+    ((1, 1, 1, MADE, &[0, 0, 1]), None, 1, None, false),
+    ((1, 1, 1, 1, ONE), None, 1, None, false),
+    ((1, 1, 1, REFUSED, &[20]), None, 1, None, false),
+    ((1, 2, 9, 0, &[]), None, 1, None, false),
+    ((1, 1, 1, REFUSED, &[]), None, 1, None, false),
+    ((1, 1, 1, MADE, ONE), ANSWERED, 0, Some(1), false),
+];
+
+fn made(answer: Option<&Reply>) -> Option<u32> {
+    match answer {
+        Some(Reply::Made { profile }) => Some(*profile),
+        _ => None,
+    }
 }
 
-fn create() -> Request {
-    create_with(HashKind::Md5)
+/// Takes one reply, and returns whether that goes as the step says.
+fn goes(alloc: Global, client: &mut Client, step: &Step) -> Result<bool, AllocError> {
+    let (arriving, wanted, pending, answer, is_refused) = *step;
+    let heard = match client.on_reply(frame(alloc, arriving)?) {
+        Ok(heard) => Some(heard),
+        Err(HearFault::Malformed) => None,
+        Err(HearFault::Memory) => return Ok(false),
+    };
+    let refused = if is_refused {
+        Some(Refusal::Memory)
+    } else {
+        None
+    };
+    Ok(
+        heard == wanted
+            && client.pending() == pending
+            && made(client.answer(1)) == answer
+            && client.refusal(1) == refused,
+    )
 }
 
-fn create_with(hash: HashKind) -> Request {
-    Request::CreateProfile {
+fn frame(alloc: Global, arriving: (u8, u32, u64, u8, &[u8])) -> Result<Frame, AllocError> {
+    let (version, client, number, kind, body) = arriving;
+    Ok(Frame {
+        version,
+        kind,
+        client,
+        number,
+        body: Blob::copy_of(alloc, body)?,
+    })
+}
+
+/// Submits a CreateProfile, whose frame has to have this body, and takes the replies. Returns whether all goes as the
+/// steps say.
+fn go(
+    alloc: Global,
+    version: u8,
+    hash: HashKind,
+    body: &[u8],
+    steps: &[Step],
+) -> Result<bool, AllocError> {
+    let request = Request::CreateProfile {
         scan_limit: 65_536,
         match_all: false,
         hash,
+    };
+    if !request.fits(version) {
+        return Ok(false);
     }
-}
-
-fn is_made(answer: Option<&Reply>, wanted: Option<u32>) -> bool {
-    match (answer, wanted) {
-        (Some(Reply::Made { profile }), Some(wanted)) => *profile == wanted,
-        (None, None) => true,
-        _ => false,
+    let mut client = Client::new(alloc, 1, 1);
+    let mut right = client.submit(version, request).ok() == Some(1);
+    right &= match client.pending_at(0) {
+        Some(frame) => {
+            let head = (frame.version, frame.kind, frame.client, frame.number);
+            head == (version, 1, 1, 1) && frame.body.as_slice() == body
+        }
+        None => false,
+    };
+    right &= client.pending() == 1 && client.pending_at(1).is_none();
+    for step in steps {
+        right &= goes(alloc, &mut client, step)?;
     }
+    let none = client.answer(0).is_none() && client.answer(2).is_none();
+    Ok(right && none && client.pending_at(0).is_none())
 }
 
 #[test]
-fn client_core(rt: HostRuntime) -> Result<(), Fail> {
-    let one = [0, 0, 0, 1];
-    let refused = Some(Refusal::Memory);
-    let steps: [(Arriving, Heard, usize, Option<u32>, Option<Refusal>); 10] = [
-        ((1, 2, MADE, &one), Heard::Stranger, 1, None, None),
-        ((2, 1, MADE, &one), Heard::Stranger, 1, None, None),
-        ((1, 1, REFUSED, &[18]), Heard::Refused, 1, None, refused),
-        ((1, 1, NODE, &one), Heard::Stranger, 1, None, refused),
-        ((1, 1, MADE, &one), Heard::Answered, 0, Some(1), refused),
-        ((1, 1, MADE, &one), Heard::Repeated, 0, Some(1), refused),
-        ((1, 1, REFUSED, &[18]), Heard::Repeated, 0, Some(1), refused),
-        ((1, 1, REFUSED, &[19]), Heard::Repeated, 0, Some(1), refused),
-        ((1, 1, NODE, &one), Heard::Stranger, 0, Some(1), refused),
-        ((1, 0, MADE, &one), Heard::Stranger, 0, Some(1), refused),
-    ];
-    let mut client = Client::new(rt.alloc(), 1, 1);
-    let request = create();
-    assert!(rt; request.fits(1));
-    assert!(rt; client.submit(1, request).ok() == Some(1));
-    assert!(rt; client.pending() == 1);
-    for (arriving, heard, pending, answer, refusal) in steps {
-        let found = client.on_reply(frame(rt.alloc(), arriving)?).ok();
-        assert!(rt; found == Some(heard), "{arriving:?}");
-        assert!(rt; client.pending() == pending, "{arriving:?}");
-        assert!(rt; is_made(client.answer(1), answer), "{arriving:?}");
-        assert!(rt; client.refusal(1) == refusal, "{arriving:?}");
-    }
+fn steps(rt: HostRuntime) -> Result<(), Fail> {
+    let (alloc, first, second) = (rt.alloc(), [0, 1, 0, 0, 0], [0, 1, 0, 0, 0, 2]);
+    assert!(rt; go(alloc, 1, HashKind::Md5, &first, &FIRST_VERSION)?);
+    assert!(rt; go(alloc, 1, HashKind::Md5, &first, &NO_REPLIES)?);
+    assert!(rt; go(alloc, 2, HashKind::Sha256, &second, &SECOND_VERSION)?);
     Ok(())
 }
 
-/// A reply in another version than its request is for a stranger, whatever it says, and changes nothing.
-#[test]
-fn two_versions(rt: HostRuntime) -> Result<(), Fail> {
-    let one = [0, 0, 0, 1];
-    let refused = Some(Refusal::Memory);
-    let steps: [(u8, u8, &[u8], Heard, Option<u32>, Option<Refusal>); 7] = [
-        (1, MADE, &one, Heard::Stranger, None, None),
-        (1, REFUSED, &[18], Heard::Stranger, None, None),
-        (2, REFUSED, &[18], Heard::Refused, None, refused),
-        (1, MADE, &one, Heard::Stranger, None, refused),
-        (2, MADE, &one, Heard::Answered, Some(1), refused),
-        (1, MADE, &one, Heard::Stranger, Some(1), refused),
-        (2, MADE, &one, Heard::Repeated, Some(1), refused),
-    ];
-    let mut client = Client::new(rt.alloc(), 1, 1);
-    let request = create_with(HashKind::Sha256);
-    assert!(rt; !request.fits(1) && request.fits(2));
-    assert!(rt; client.submit(2, request).ok() == Some(1));
-    let pending = client.pending_at(0).expect(&rt, "the request is pending");
-    assert!(rt; (pending.version, pending.kind) == (2, 1));
-    assert!(rt; pending.body.as_slice() == [0, 1, 0, 0, 0, 2].as_slice());
-    for (version, kind, body, heard, answer, refusal) in steps {
-        let arriving = versioned(rt.alloc(), version, (1, 1, kind, body))?;
-        let found = client.on_reply(arriving).ok();
-        assert!(rt; found == Some(heard), "{version} {kind}");
-        assert!(rt; is_made(client.answer(1), answer), "{version} {kind}");
-        assert!(rt; client.refusal(1) == refusal, "{version} {kind}");
+const COUNT: u64 = 100;
+
+// Every other request is of version 2.
+fn version_of(number: u64) -> u8 {
+    if number % 2 == 0 { 1 } else { 2 }
+}
+
+/// Returns whether two of each three requests are pending, in order of their numbers.
+fn are_in_order(client: &Client) -> bool {
+    let mut right = client.pending() == 66 && client.pending_at(66).is_none();
+    for index in 0..66usize {
+        let wanted = index as u64 / 2 * 3 + 1 + index as u64 % 2;
+        right &= client.pending_at(index).map(|frame| frame.number) == Some(wanted);
     }
-    Ok(())
+    right
 }
 
-/// A request of version 1 isn't answered in version 2, and no reply is of version 0 or 3.
-#[test]
-fn other_versions(rt: HostRuntime) -> Result<(), Fail> {
-    let made: Arriving = (1, 1, MADE, &[0, 0, 0, 1]);
-    let mut client = Client::new(rt.alloc(), 1, 1);
-    let request = create();
-    assert!(rt; request.fits(1));
-    assert!(rt; client.submit(1, request).ok() == Some(1));
-    let second = client.on_reply(versioned(rt.alloc(), 2, made)?);
-    assert!(rt; second.ok() == Some(Heard::Stranger));
-    for version in [0, 3] {
-        let none = client.on_reply(versioned(rt.alloc(), version, made)?);
-        assert!(rt; matches!(&none, Err(HearFault::Malformed)), "{version}");
+fn have_their_own(client: &Client) -> bool {
+    let mut right = client.pending() == 0;
+    for number in 0..COUNT {
+        right &= match client.answer(number) {
+            Some(Reply::Progress { held, missing: 0 }) => u64::from(*held) == number,
+            _ => false,
+        };
     }
-    assert!(rt; client.pending() == 1);
-    let first = client.on_reply(versioned(rt.alloc(), 1, made)?);
-    assert!(rt; first.ok() == Some(Heard::Answered));
-    Ok(())
+    right
 }
 
-/// The frame of a request is the one of the format, and is freed with the answer.
-#[test]
-fn frames_that_are_pending(rt: HostRuntime) -> Result<(), Fail> {
-    let mut client = Client::new(rt.alloc(), 7, 258);
-    let request = create();
-    assert!(rt; request.fits(1));
-    assert!(rt; client.submit(1, request).ok() == Some(258));
-    let frame = client.pending_at(0).expect(&rt, "the request is pending");
-    assert!(rt; (frame.version, frame.kind, frame.client, frame.number) == (1, 1, 7, 258));
-    assert!(rt; frame.body.as_slice() == [0, 1, 0, 0, 0].as_slice());
-    assert!(rt; client.pending_at(1).is_none());
-    let answer = self::frame(rt.alloc(), (7, 258, MADE, &[0, 0, 0, 9]))?;
-    assert!(rt; client.on_reply(answer).ok() == Some(Heard::Answered));
-    assert!(rt; client.pending_at(0).is_none());
-    assert!(rt; is_made(client.answer(258), Some(9)));
-    assert!(rt; client.answer(257).is_none() && client.answer(259).is_none());
-    Ok(())
-}
-
-#[test]
-fn no_reply_at_all(rt: HostRuntime) -> Result<(), Fail> {
-    let one = [0, 0, 0, 1];
-    let mut client = Client::new(rt.alloc(), 1, 1);
-    let request = create();
-    assert!(rt; request.fits(1));
-    assert!(rt; client.submit(1, request).ok() == Some(1));
-    let malformed: [Arriving; 5] = [
-        (1, 1, MADE, &[0, 0, 1]),
-        (1, 1, 1, &one),
-        (1, 1, REFUSED, &[20]),
-        (2, 9, 0, &[]),
-        (1, 1, REFUSED, &[]),
-    ];
-    for arriving in malformed {
-        let heard = client.on_reply(frame(rt.alloc(), arriving)?);
-        assert!(rt; matches!(&heard, Err(HearFault::Malformed)), "{arriving:?}");
-        assert!(rt; client.pending() == 1, "{arriving:?}");
+/// Submits a hundred requests, of client 3 from number 0 on. Answers every third, then the others, each with its own number:
+/// 37 and 100 have no common divisor, so a hundred steps go to each number once. Returns whether all goes well.
+fn are_answered(alloc: Global) -> Result<bool, AllocError> {
+    let mut client = Client::new(alloc, 3, 0);
+    let mut right = true;
+    for number in 0..COUNT {
+        let request = Request::Status {
+            profile: 1,
+            file: 1,
+        };
+        let version = version_of(number);
+        if !request.fits(version) {
+            return Ok(false);
+        }
+        right &= client.submit(version, request).ok() == Some(number);
     }
-    Ok(())
+    for step in 0..3 * COUNT {
+        let number = step.wrapping_mul(37) % COUNT;
+        if step == COUNT {
+            right &= are_in_order(&client);
+        }
+        if number % 3 == step / COUNT {
+            let before = client.pending();
+            let body = [0, 0, 0, (number % 256) as u8, 0, 0, 0, 0];
+            let frame = frame(alloc, (version_of(number), 3, number, 134, &body))?;
+            right &= client.on_reply(frame).ok() == Some(Heard::Answered);
+            right &= client.pending().saturating_add(1) == before;
+        }
+    }
+    Ok(right && have_their_own(&client))
 }
 
 #[test]
-fn last_number(rt: HostRuntime) -> Result<(), Fail> {
-    let mut client = Client::new(rt.alloc(), 1, 9_223_372_036_854_775_807);
-    let (first, second) = (create(), create());
-    assert!(rt; first.fits(1) && second.fits(1));
-    assert!(rt; client.submit(1, first).ok() == Some(9_223_372_036_854_775_807));
-    let fault = client.submit(1, second);
-    assert!(rt; matches!(&fault, Err(SubmitFault::NumbersUsedUp)));
-    assert!(rt; client.pending() == 1);
+fn answers_out_of_order(rt: HostRuntime) -> Result<(), Fail> {
+    assert!(rt; are_answered(rt.alloc())?);
     Ok(())
 }

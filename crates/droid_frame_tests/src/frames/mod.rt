@@ -1,11 +1,6 @@
 //! Frames, their bodies and their values.
 
+mod bodies;
 mod example;
-mod fault_texts;
-mod filters;
 mod memory;
-mod replies;
-mod reply_bodies;
-mod request_texts;
-mod requests;
 mod values;

@@ -2,7 +2,4 @@
 
 mod frame_streams;
 mod inputs;
-mod interruptions;
-mod reply_writers;
-mod stream_faults;
 mod writers;
