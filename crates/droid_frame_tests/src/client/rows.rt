@@ -187,10 +187,11 @@ fn are_answered(alloc: Global) -> Result<bool, AllocError> {
             profile: 1,
             file: 1,
         };
-        if !request.fits(version_of(number)) {
+        let version = version_of(number);
+        if !request.fits(version) {
             return Ok(false);
         }
-        right &= client.submit(version_of(number), request).ok() == Some(number);
+        right &= client.submit(version, request).ok() == Some(number);
     }
     for step in 0..3 * COUNT {
         let number = step.wrapping_mul(37) % COUNT;

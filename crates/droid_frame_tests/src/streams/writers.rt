@@ -1,6 +1,8 @@
 //! Frames and replies over writers that stop.
 
-use droid_frame::{Arrival, Noted, WriteFault, read_frame, reply_of, write_frame, write_reply};
+use droid_frame::{
+    Arrival, Noted, WriteFault, body_limit, read_frame, reply_of, write_frame, write_reply,
+};
 use droid_testing::{BYTE_BY_BYTE, Manner, STEADY, ShakyWriter, Stop, VECTORS, Vector};
 use std::alloc::Global;
 
@@ -23,6 +25,9 @@ fn written(
     let Ok(Arrival::Frame(frame)) = read_frame(alloc, &mut input) else {
         return None;
     };
+    if frame.body.len() > body_limit(2) {
+        return None;
+    }
     if !is_reply {
         return Some(write_frame(&frame, writer));
     }
