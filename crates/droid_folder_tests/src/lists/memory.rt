@@ -13,8 +13,8 @@ use std::test::Fail;
 fn is_compared(alloc: Global) -> Result<bool, AllocError> {
     is_reported(
         alloc,
-        &["f5515/e", "f5111/a", "f5212/b", "f5313/c", "f5414/d"],
-        &["f6111/a", "f5919/z", "f5712/b", "f5313/y", "f5414/d"],
+        "f5515/e f5111/a f5212/b f5313/c f5414/d",
+        "f6111/a f5919/z f5712/b f5313/y f5414/d",
         "c00lt11.>23.-4..+.4.",
     )
 }
@@ -63,11 +63,7 @@ const HASH_AND_FOLDER: [Difference; 2] = [
 /// Returns whether a profile and two files are compared right: `/b` is the same.
 fn is_seen(alloc: Global) -> Result<bool, AllocError> {
     let expected: &[Difference] = &HASH_AND_FOLDER;
-    match see_profile(
-        alloc,
-        items(alloc, &["f5111/b", "f5213/a"])?,
-        CSV.as_bytes(),
-    ) {
+    match see_profile(alloc, items(alloc, "f5111/b f5213/a")?, CSV.as_bytes()) {
         Ok(seen) => Ok(seen.differences.as_slice() == expected),
         Err(SeeFault::Memory) => Err(AllocError),
         Err(_) => Ok(false),
