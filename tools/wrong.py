@@ -9,7 +9,7 @@ leaves open, and changes outside of functions. It prints each wrong body that no
 status 0 if there is none.
 
 It notes below out/refused/ which were refused, with checksums of the code of the crate and of all below it, and of the
-edit. After an interrupt or a change it tries only the rest; with --anew it tries all.
+edit. After an interrupt or a change it tries only the rest, and what no longer applies; with --anew it tries all.
 """
 import argparse
 import collections
@@ -188,6 +188,12 @@ def asked():
     return [crate for crate in found if edits_of(crate) and (not given.crates or crate in given.crates)], given.anew
 
 
+def is_settled(edit, code):
+    """Returns whether an earlier run has refused it and its old texts still stand: one may be a comment, and a changed
+    comment leaves the checksums of the code as they were."""
+    return was_refused(edit, code) and edit.applied(Texts(folder(edit.crate))) is not None
+
+
 def tried(edits, code):
     """Proves the crates of these wrong bodies, and tries them; returns the result of each."""
     chosen = list(dict.fromkeys(edit.crate for edit in edits))
@@ -222,7 +228,7 @@ def main():
     with alone():
         code = CodeSums(chosen)
         all_edits = [Edit(path) for crate in chosen for path in edits_of(crate)]
-        edits = [it for it in all_edits if is_anew or not was_refused(it, code)]
+        edits = [it for it in all_edits if is_anew or not is_settled(it, code)]
         found = tried(edits, code) if edits else {}
     return 0 if report(edits, found, len(all_edits) - len(edits)) else 1
 

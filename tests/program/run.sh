@@ -19,6 +19,7 @@
 #   identification.py   a file of each shape by random registries, beside the model
 #   install.py    the manual page, the completions and what `make install` writes
 #   release.py    the released program: `make run` and `make install` without the kit, damaged releases, other machines
+#   wrong.py      which wrong bodies `make wrong` tries again after a change, with an invented kit
 #   readme.sh     the commands of README.md and of the program's page, pasted into a shell
 set -u
 top=$(cd "$(dirname "$0")/../.." && pwd)
@@ -74,6 +75,7 @@ part sh "$tests/signatures/run.sh" "$program"
 part python3 "$tests/identification.py" "$program"
 part python3 "$tests/install.py" "$program"
 part python3 "$tests/release.py"
+part python3 "$tests/wrong.py"
 # (0 unless it was ended)
 wait "$!" || echo failed >>"$work/ended"
 failed=$(grep -c failed "$work/ended")
