@@ -13,43 +13,39 @@ from concurrent.futures import ThreadPoolExecutor
 CRATES = os.path.join(os.path.dirname(os.path.abspath(__file__)), "..", "..", "crates")
 # the tests of each crate that pass whichever allocation is refused
 TESTS = {
-    "droid_core_tests": [
-        "memory::one_after_the_other",
-        "memory::worked_row",
-        "memory::in_one_run",
-        "memory::in_one_run_of_version_2",
-        "script_memory::each_growth_of_a_script",
-        "script_memory::each_growth_of_version_2",
-    ],
-    "droid_format_tests": [
-        "pronom::memory::each_growth_of_a_registry",
-        "pronom::memory::each_growth_of_a_search",
-        "export::memory::each_growth_of_small_texts",
-        "export::memory::each_growth_of_an_export",
-        "export::row_texts::each_growth_of_rows",
-    ],
-    "droid_frame_tests": [
-        "frames::memory::each_growth_of_a_request",
+    "droid_base_tests": [
+        "formats::export::memory::each_growth_of_an_export",
+        "formats::export::memory::each_growth_of_small_texts",
+        "formats::export::row_texts::each_growth_of_rows",
+        "formats::pronom::memory::each_growth_of_a_registry",
+        "formats::pronom::memory::each_growth_of_a_search",
+        "frames::client::allocations::short_and_again",
         "frames::memory::each_growth_of_a_reply",
-        "streams::frame_streams::growths_refused",
-        "client::allocations::short_and_again",
+        "frames::memory::each_growth_of_a_request",
+        "frames::streams::frame_streams::growths_refused",
+        "hashes::assembly::memory::each_growth_refused",
+        "store::memory::each_growth_of_the_store",
     ],
-    "droid_store_tests": ["store::memory::each_growth_of_the_store"],
+    "droid_service_tests": [
+        "requests::memory::in_one_run",
+        "requests::memory::in_one_run_of_version_2",
+        "requests::memory::one_after_the_other",
+        "requests::memory::worked_row",
+        "requests::script_memory::each_growth_of_a_script",
+        "requests::script_memory::each_growth_of_version_2",
+        "server::sending::memory::each_growth_of_a_sending",
+        "server::serving::memory::each_growth_of_serving",
+        "server::turns::memory::each_growth_of_turns",
+    ],
     "droid_folder_tests": [
-        "lists::memory::each_growth_of_a_report",
-        "lists::memory::each_growth_of_a_list",
-        "lists::memory::each_growth_of_a_profile",
-        "manifests::memory::each_growth_of_a_list",
-        "manifests::memory::each_growth_of_a_manifest",
-        "manifests::memory::each_growth_of_a_text",
-        "profiles::memory::each_allocation",
-        "verify::memory::each_allocation",
-    ],
-    "droid_hash_tests": ["assembly::memory::each_growth_refused"],
-    "droid_server_tests": [
-        "sending::memory::each_growth_of_a_sending",
-        "serving::memory::each_growth_of_serving",
-        "turns::memory::each_growth_of_turns",
+        "folders::lists::memory::each_growth_of_a_list",
+        "folders::lists::memory::each_growth_of_a_profile",
+        "folders::lists::memory::each_growth_of_a_report",
+        "folders::manifests::memory::each_growth_of_a_list",
+        "folders::manifests::memory::each_growth_of_a_manifest",
+        "folders::manifests::memory::each_growth_of_a_text",
+        "folders::profiles::memory::each_allocation",
+        "folders::verify::memory::each_allocation",
     ],
 }
 # with fewer allocations, the library did not count them
@@ -89,7 +85,7 @@ class Growths(unittest.TestCase):
 
     def test_an_assembly_allocates_only_when_it_is_made(self):
         """The test that makes every call allocates as often as the one that makes none."""
-        with_calls, without = (count("droid_hash_tests", f"assembly::memory::{test}") for test in ("each_growth_refused", "growths_without_calls"))
+        with_calls, without = (count("droid_base_tests", f"hashes::assembly::memory::{test}") for test in ("each_growth_refused", "growths_without_calls"))
         self.assertEqual(with_calls, without)
 
 

@@ -2,7 +2,7 @@
 """Tests how the built program assembles files from pieces: pieces.py PROGRAM
 
 - the messages of RFC 1321 (A.5) and of FIPS 180-4's examples, in pieces of some sizes and in some orders
-- a million letters `a` (FIPS 180-4's example too), in pieces of 63 letters and more (droid_hash_tests has pieces of one)
+- a million letters `a` (FIPS 180-4's example too), in pieces of 63 letters and more (droid_base_tests has pieces of one)
 - the files of the most pieces and of the greatest sizes
 
 Of each message the digest stands in the standard. A registry has a format for each: it has the message's first five bytes and

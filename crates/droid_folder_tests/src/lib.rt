@@ -1,15 +1,7 @@
-//! Tests of the profiles of folders, and of what differs between a folder and a list of its files.
+//! Tests of folders: their profiles, what differs between a folder and a list of its files, and submissions.
 #![tactic(auto)]
 
 #[cfg(test)]
-mod lists;
+mod folders;
 #[cfg(test)]
-mod manifests;
-#[cfg(test)]
-mod memory_tree;
-#[cfg(test)]
-mod noting_watcher;
-#[cfg(test)]
-mod profiles;
-#[cfg(test)]
-mod verify;
+mod submissions;

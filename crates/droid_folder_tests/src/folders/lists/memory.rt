@@ -1,0 +1,78 @@
+// Each test also passes if any one allocation is refused: tests/memory refuses each in turn.
+//! Out of memory: a call that fails for it works when it is called again.
+
+use crate::folders::lists::cases::{is_reported, items};
+use droid_fixity::{Changes, Difference};
+use droid_fixity_lists::{ListFault, read_profile};
+use droid_fixity_profile::{SeeFault, see_profile};
+use std::alloc::{AllocError, Global};
+use std::test::Fail;
+
+/// Returns whether a comparison is right: `/a` has another length, `/b` another moment, `/c` is now `/y`, `/e` is missing, and
+/// `/z` is new.
+fn is_compared(alloc: Global) -> Result<bool, AllocError> {
+    is_reported(
+        alloc,
+        "f5515/e f5111/a f5212/b f5313/c f5414/d",
+        "f6111/a f5919/z f5712/b f5313/y f5414/d",
+        "c00lt11.>23.-4..+.4.",
+    )
+}
+
+#[test]
+fn each_growth_of_a_report(rt: HostRuntime) -> Result<(), Fail> {
+    let alloc = rt.alloc();
+    assert!(rt; is_compared(alloc).or_else(|_| is_compared(alloc))?);
+    Ok(())
+}
+
+/// Two files, the first with two formats, and a folder.
+const CSV: &str =
+    "ID,PARENT_ID,URI,FILE_PATH,NAME,METHOD,STATUS,SIZE,TYPE,EXT,LAST_MODIFIED,EXTENSION_MISMATCH,MD5_HASH,FORMAT_COUNT,PUID,MIME_TYPE,FORMAT_NAME,FORMAT_VERSION\n1,,u,/b,b,,Done,5,File,,2026-01-31T23:59:51,false,07070707070707070707070707070731,2,fmt/1,,,\n1,,u,/b,b,,Done,5,File,,2026-01-31T23:59:51,false,07070707070707070707070707070731,2,fmt/2,,,\n2,,u,/a,a,,Done,5,File,,2026-01-31T23:59:52,false,07070707070707070707070707070732,0,,,,\n3,,u,/d,d,,Done,,Folder,,2026-01-31T23:59:53,false,,,,,,\n";
+
+/// Returns whether a profile is read right.
+fn is_read(alloc: Global) -> Result<bool, AllocError> {
+    match read_profile(alloc, CSV.as_bytes()) {
+        Ok(items) => Ok(items.len() == 3),
+        Err(ListFault::Memory) => Err(AllocError),
+        Err(_) => Ok(false),
+    }
+}
+
+#[test]
+fn each_growth_of_a_list(rt: HostRuntime) -> Result<(), Fail> {
+    let alloc = rt.alloc();
+    assert!(rt; is_read(alloc).or_else(|_| is_read(alloc))?);
+    Ok(())
+}
+
+/// `/a` has another hash, and `/d` is missing.
+const HASH_AND_FOLDER: [Difference; 2] = [
+    Difference::Changed {
+        listed: 0,
+        found: 0,
+        changes: Changes {
+            kind: false,
+            length: false,
+            hash: true,
+        },
+    },
+    Difference::Missing { listed: 2 },
+];
+
+/// Returns whether a profile and two files are compared right: `/b` is the same.
+fn is_seen(alloc: Global) -> Result<bool, AllocError> {
+    let expected: &[Difference] = &HASH_AND_FOLDER;
+    match see_profile(alloc, items(alloc, "f5111/b f5213/a")?, CSV.as_bytes()) {
+        Ok(seen) => Ok(seen.differences.as_slice() == expected),
+        Err(SeeFault::Memory) => Err(AllocError),
+        Err(_) => Ok(false),
+    }
+}
+
+#[test]
+fn each_growth_of_a_profile(rt: HostRuntime) -> Result<(), Fail> {
+    let alloc = rt.alloc();
+    assert!(rt; is_seen(alloc).or_else(|_| is_seen(alloc))?);
+    Ok(())
+}

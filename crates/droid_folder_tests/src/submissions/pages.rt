@@ -1,0 +1,128 @@
+//! The examples of the pages of `droid_hash`, `droid_tree`, `droid_tree_upload`, `droid_tree_submission` and
+//! `droid_tree_remote`. What they work with is lent to them.
+
+use crate::submissions::page_service::PageService;
+use crate::submissions::page_tree::{PageTree, Unwatched, entry_of};
+use droid_frame::{HashKind, HashValue, Noted, Text};
+use droid_hash::RunningHash;
+use droid_tree::{FolderEntry, count, name_of, read_folder};
+use droid_tree_remote::{Sender, export, submit};
+use droid_tree_submission::{Options, submit_tree};
+use droid_tree_upload::{
+    Destination, SubmissionFault, Upload, Uploaded, create_profile, upload_file,
+};
+use std::alloc::Global;
+use std::test::Fail;
+
+/// The MD5 of `abc` (RFC 1321).
+const MD5_OF_ABC: [u8; 16] = [
+    0x90, 0x01, 0x50, 0x98, 0x3c, 0xd2, 0x4f, 0xb0, 0xd6, 0x96, 0x3f, 0x7d, 0x28, 0xe1, 0x7f, 0x72,
+];
+
+/// What the service exports of the tree, by the model in tests/program/model.
+const TEXT: &str =
+    "\"ID\",\"PARENT_ID\",\"URI\",\"FILE_PATH\",\"NAME\",\"METHOD\",\"STATUS\",\"SIZE\",\"TYPE\",\"EXT\",\"LAST_MODIFIED\",\"EXTENSION_MISMATCH\",\"SHA256_HASH\",\"FORMAT_COUNT\",\"PUID\",\"MIME_TYPE\",\"FORMAT_NAME\",\"FORMAT_VERSION\"\n\
+\"1\",\"\",\"file:/a.txt\",\"/a.txt\",\"a.txt\",\"Extension\",\"Done\",\"5\",\"File\",\"txt\",\"1970-01-01T00:00:00\",\"false\",\"185f8db32271fe25f561a6fc938b2e264306ec304eda518007d1764826381969\",\"1\",\"dev/4\",\"text/plain\",\"Plain\",\"\"\n\
+\"2\",\"\",\"file:/b.txt\",\"/b.txt\",\"b.txt\",\"Extension\",\"Done\",\"3\",\"File\",\"txt\",\"1970-01-01T00:00:00\",\"false\",\"ba7816bf8f01cfea414140de5dae2223b00361a396177a9cb410ff61f20015ad\",\"1\",\"dev/4\",\"text/plain\",\"Plain\",\"\"\n";
+
+const OPTIONS: Options = Options {
+    scan_limit: 65_536,
+    match_all: false,
+    hash: HashKind::Sha256,
+    piece_size: 4,
+};
+
+/// All that a run works with.
+type Run = Upload<PageTree, Sender<PageService>, Unwatched>;
+
+/// Makes a run over the tree. The submission's name is the empty one.
+fn run_over(alloc: Global) -> Run {
+    let name = Text::from(String::new(alloc));
+    Upload {
+        alloc,
+        tree: PageTree,
+        client: Sender::new(alloc, PageService::new(alloc), 7, name),
+        watcher: Unwatched,
+    }
+}
+
+#[test]
+fn hash(rt: HostRuntime) {
+    let mut running = RunningHash::of(HashKind::Md5);
+    running.update(b"a");
+    running.update(b"bc");
+    let found: HashValue = running.finish();
+    assert!(rt; found == HashValue::Md5(MD5_OF_ABC));
+}
+
+#[test]
+fn tree(rt: HostRuntime) {
+    let alloc = rt.alloc();
+    let mut tree = PageTree;
+    let is_counted = match count(alloc, &mut tree, 100_000) {
+        Ok(counted) => (counted.files == 2) & (counted.bytes == 8),
+        Err(_) => false,
+    };
+    let entries = match read_folder(alloc, &mut tree, "") {
+        Ok(Ok(listing)) => listing.entries.len(),
+        _ => 0,
+    };
+    assert!(rt; is_counted & (entries == 2));
+}
+
+/// Returns whether a file is taken.
+fn takes(upload: &mut Run, entry: &FolderEntry) -> Result<bool, SubmissionFault> {
+    let Some(name) = name_of(entry) else {
+        return Ok(false);
+    };
+    let profile = create_profile(upload, 65_536, false, HashKind::Sha256)?;
+    let into = Destination {
+        profile,
+        folder: 0,
+        piece_size: 65_536,
+        hash: HashKind::Sha256,
+    };
+    let uploaded = upload_file(upload, into, "/a.txt", name, entry)?;
+    Ok(matches!(&uploaded, Uploaded::Taken(_)))
+}
+
+#[test]
+fn upload(rt: HostRuntime) -> Result<(), Fail> {
+    let alloc = rt.alloc();
+    let entry = entry_of(alloc, "a.txt", "Hello", 0)?;
+    let mut upload = run_over(alloc);
+    let taken = takes(&mut upload, &entry);
+    assert!(rt; matches!(taken, Ok(true)));
+    Ok(())
+}
+
+/// Returns whether all of the tree is submitted.
+fn submits(upload: &mut Run) -> Result<bool, SubmissionFault> {
+    let submitted = submit_tree(upload, OPTIONS)?;
+    Ok(submitted.whole && submitted.nodes.len() == 2)
+}
+
+#[test]
+fn submission(rt: HostRuntime) {
+    let mut upload = run_over(rt.alloc());
+    let submitted = submits(&mut upload);
+    assert!(rt; matches!(submitted, Ok(true)));
+}
+
+/// Returns whether all of the tree is submitted, and what is written is one export.
+fn exports(upload: &mut Run, csv: &mut Noted<Vec<u8>>) -> bool {
+    let Ok(submitted) = submit(upload, OPTIONS) else {
+        return false;
+    };
+    let is_one = export(&mut upload.client, submitted.profile, csv);
+    submitted.whole & matches!(is_one, Ok(true))
+}
+
+#[test]
+fn remote(rt: HostRuntime) {
+    let alloc = rt.alloc();
+    let mut csv = Noted::new(Vec::new(alloc));
+    let mut upload = run_over(alloc);
+    let whole = exports(&mut upload, &mut csv);
+    assert!(rt; whole & (csv.stream.as_slice() == TEXT.as_bytes()));
+}

@@ -1,6 +1,0 @@
-//! Frames, their bodies and their values.
-
-mod bodies;
-mod example;
-mod memory;
-mod values;

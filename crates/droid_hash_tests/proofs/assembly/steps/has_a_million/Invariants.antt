@@ -1,6 +1,0 @@
--- no piece is pending
-use Rattle.std.proofs.Common.{◌≡◌, None}
-use Rattle.droid_hash_tests.proofs.assembly.steps.has_a_million.Given as goal
-
-abbrev pub invariant-loop-index : goal.invariant-loop-index
-invariant-loop-index l = l.assembly.pending ≡ None
