@@ -11,7 +11,7 @@ use Rattle.clap.specs.declared.error.kind.ErrorKind.TheVariants.{OutOfMemory}
 use Rattle.clap.specs.declared.parser.matches.ArgMatches.{ArgMatches}
 use Rattle.clap.specs.declared.parser.matches.ArgMatches.TheViews.{out-ArgMatches, out-SubCommand}
 use Rattle.clap.specs.declared.parser.matches.SubCommand.{SubCommand}
-use Rattle.droid_desk_arguments.specs.Asking.{IsAsked, IsAskedBy, IsConversion, IsCount, IsMany, IsOneByOne, IsProfile, IsReport, IsSubmit, IsVerify, ReadsMany, has_no_checksums, names_two, reads_nothing}
+use Rattle.droid_desk_arguments.specs.Asking.{IsAsked, IsAskedBy, IsConversion, IsCount, IsMany, IsOneByOne, IsProfile, IsReport, IsSubmit, IsVerify, ReadsMany, has_no_checksums, measures_twice, names_two, reads_nothing}
 use Rattle.droid_desk_arguments.specs.declared.arguments.Asked.{Asked}
 use Rattle.droid_desk_arguments.specs.declared.arguments.Asked.TheVariants.{Profile, Submit, Verify, Report, Registry, Script, Run, Serve, ServeMany, Send, Compact}
 use Rattle.droid_desk_arguments.specs.declared.registry_options.RegistryOptions.{RegistryOptions}
@@ -56,13 +56,21 @@ no_checksums rows hash manifest named there none options is =
     let bad : true ≡ false = none ∙ (ap (λ (h : HashKind). has_no_checksums h manifest) one ∙ (ap (λ (m : Option Text). has_no_checksums options.hash m) file ∙ is.checksums)) in
     cc
 
--- formats of files that are not read, and two registries
+-- formats of files that are not read, two measures, and two registries
 pub nothing_read : (rows : List Row) (quick identify : Bool) → IsFlag (one_of (codes "quick") rows) quick → IsFlag (one_of (codes "identify") rows) identify
     → true ≡ reads_nothing quick identify → (options : VerifyOptions) → IsVerify rows options → ⊥
 nothing_read rows quick identify is_quick is_identify none options is =
     let one : quick ≡ options.quick = same_flag (one_of (codes "quick") rows) quick options.quick is_quick is.quick in
     let other : identify ≡ options.identify = same_flag (one_of (codes "identify") rows) identify options.identify is_identify is.identify in
     let bad : true ≡ false = none ∙ (ap (λ (b : Bool). reads_nothing b identify) one ∙ (ap (λ (b : Bool). reads_nothing options.quick b) other ∙ is.reads_files)) in
+    cc
+
+pub measured_twice : (rows : List Row) (quick sizes_only : Bool) → IsFlag (one_of (codes "quick") rows) quick → IsFlag (one_of (codes "sizes-only") rows) sizes_only
+    → true ≡ measures_twice quick sizes_only → (options : VerifyOptions) → IsVerify rows options → ⊥
+measured_twice rows quick sizes_only is_quick is_sizes twice options is =
+    let one : quick ≡ options.quick = same_flag (one_of (codes "quick") rows) quick options.quick is_quick is.quick in
+    let other : sizes_only ≡ options.sizes_only = same_flag (one_of (codes "sizes-only") rows) sizes_only options.sizes_only is_sizes is.sizes_only in
+    let bad : true ≡ false = twice ∙ (ap (λ (b : Bool). measures_twice b sizes_only) one ∙ (ap (λ (b : Bool). measures_twice options.quick b) other ∙ is.one_measure)) in
     cc
 
 pub two_named : (rows : List Row) (everyday : Bool) (registry : Option Text) → IsFlag (one_of (codes "everyday") rows) everyday → registry ≡ first_of (codes "registry") rows

@@ -70,17 +70,23 @@ names_two everyday (Some path) = everyday
 abbrev pub reads_nothing : Bool → Bool → Bool
 reads_nothing quick identify = quick && identify
 
+-- sizes alone are to be compared, and modification times too
+abbrev pub measures_twice : Bool → Bool → Bool
+measures_twice quick sizes_only = quick && sizes_only
+
 -- the options of `verify`
 pub record IsVerify (rows : List Row) (options : VerifyOptions) : Type 0 where
   pub folder : Some options.folder.now ≡ first_of (codes "folder") rows
   pub against : Some options.against.now ≡ first_of (codes "against") rows
   pub quick : IsFlag (one_of (codes "quick") rows) options.quick
+  pub sizes_only : IsFlag (one_of (codes "sizes-only") rows) options.sizes_only
   pub identify : IsFlag (one_of (codes "identify") rows) options.identify
   pub registry : option_map (λ path. path.now) options.registry ≡ first_of (codes "registry") rows
   pub everyday : Bool
   pub is_flag : IsFlag (one_of (codes "everyday") rows) everyday
   pub names_one : names_two everyday (option_map (λ path. path.now) options.registry) ≡ false
   pub reads_files : reads_nothing options.quick options.identify ≡ false
+  pub one_measure : measures_twice options.quick options.sizes_only ≡ false
   pub limit : IsNumberOr 32 65536 (one_of (codes "limit") rows) options.limit
   pub match_all : IsFlag (one_of (codes "match-all") rows) options.match_all
   pub quiet : IsFlag (one_of (codes "quiet") rows) options.quiet

@@ -81,9 +81,10 @@ submit_command = with_rule (with_rule (with_rule (with_rule submit_files export_
 abbrev pub against_option : Rule
 against_option = needed (option_named (codes "against"))
 
--- what is compared
+-- what is compared, and by what
 abbrev pub verify_input : App
-verify_input = with_rule (with_rule (with_rule (new_app (codes "verify")) folder_word) against_option) (flag_named (codes "quick"))
+verify_input =
+    with_rule (with_rule (with_rule (with_rule (new_app (codes "verify")) folder_word) against_option) (flag_named (codes "quick"))) (flag_named (codes "sizes-only"))
 
 -- by what its files are identified
 abbrev pub verify_files : App

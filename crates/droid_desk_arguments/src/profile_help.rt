@@ -43,9 +43,11 @@ CSV is also kept in memory. Below, FILE means PAGE too.
 Symbolic links below DIR are never followed, and are no part of a profile. What can't be profiled has
 no row: sockets and devices; names that are not UTF-8 or that a profile can't have; a name that a
 folder lists twice; folders that can't be listed, with everything in them; files that can't be opened
-or read; and files whose length changes, or that are replaced, while they are read. Each of these and
-each link is printed on standard error with its path and the reason, and written to the file of
---skipped. Paths that are not UTF-8 or have control characters are printed with escapes.
+or read; files that change (also by a rename or by their rights) or are replaced between the listing
+of their folder and the end of their reading; and what lies so deep that its path, with DIR, has more
+than 4,095 bytes. Each of these and each link is printed on standard error with its path and the
+reason, and written to the file of --skipped. Paths that are not UTF-8 or have control characters are
+printed with escapes.
 
 Standard error also has the registry with its MD5, and the progress: every ten seconds, or on a
 terminal in one line that is updated. The summary at the end counts the files identified by
@@ -54,16 +56,18 @@ and how many links are among that, bytes and seconds.
 
 At the end each FILE is complete, or as it was before. No two may have the same path. FILE may be
 inside DIR: its old version is listed, the new one isn't. To write the CSV into DIR itself use
---output, not `>`: a file that grows while it is read is skipped.
+--output, not `>`: a file that grows while it is read is skipped. FILE.N.unfinished beside a FILE is
+what an ended run left: the next run with this FILE removes it, unless a run still writes it.
 
 Exit status:
 
   0  everything in the folder is in the CSV, but for symbolic links
   2  the command line is wrong
   3  the registry file could not be opened or read, or is not a registry
-  4  DIR is not a folder (Folder); the CSV or a FILE could not be written (Write); a FILE could not
-     be created or replaced (Output); there are more than 4,294,967,295 folders and files (Numbers);
-     or memory ran out (Memory). Standard output ends with a whole row, if it could be written
+  4  DIR is no folder, or can't be listed (Folder); the CSV or a FILE could not be written (Write); a
+     FILE could not be created or replaced (Output); there are more than 4,294,967,295 folders and
+     files (Numbers); or memory ran out (Memory). Standard output ends with a whole row, if it could
+     be written
   5  the CSV is written, but something other than symbolic links was skipped
   6  there was no memory for the command line
 

@@ -42,7 +42,9 @@ request is made from what the request asks and from the submission's name.
 The profile keeps what was submitted. A folder or file that has changed since then is skipped, a
 folder with everything inside it; a folder also changes when an entry is added to it or removed from
 it. Another --name makes another profile, of the folder as it is now. With another --piece-size than
-before, all files in the profile count as changed.
+before, all files in the profile count as changed. A file that changes (also by a rename or by its
+rights) or is replaced between the listing of its folder and the end of its reading is skipped, and so
+is what lies so deep that its path, with DIR, has more than 4,095 bytes.
 
 Two submissions of one client need two names. Use the client for submissions only: `send` would take
 numbers that `submit` needs.
@@ -62,7 +64,7 @@ Exit status:
   0  the service's profile is this folder: it has exactly the folders and files of DIR
   2  the command line is wrong
   4  the command ended early, by one of these faults:
-       Folder     DIR is not a folder
+       Folder     DIR is no folder, or can't be listed
        Socket     nobody listened on the port within --wait
        Broken     the connection broke, and could not be made again within --wait
        Stranger   a frame came that does not reply to the request

@@ -2,7 +2,7 @@
 
 ghost use Rattle.std.specs.Prelude.{◌≡◌, codes, false, option_map};
 ghost use Rattle.clap.specs.Words.{found_of, rows_of, rule_of};
-ghost use Rattle.droid_desk_arguments.specs.Asking.{IsAskedBy, IsVerify, names_two, reads_nothing};
+ghost use Rattle.droid_desk_arguments.specs.Asking.{IsAskedBy, IsVerify, measures_twice, names_two, reads_nothing};
 ghost use Rattle.droid_desk_arguments.specs.Commands.{against_option, verify_command};
 ghost use Rattle.droid_desk_options.specs.Made.{Makes};
 ghost use Rattle.droid_desk_options.specs.Values.{Reads};
@@ -11,8 +11,8 @@ use crate::arguments::{Asked, TWO_REGISTRIES};
 use crate::profile::{DEFAULT_LIMIT, MATCH_ALL, QUIET};
 use crate::profile_help::{MATCH_ALL_HELP, OWN_REGISTRY_HELP, QUIET_HELP};
 use crate::verify_help::{
-    AGAINST_HELP, IDENTIFY_HELP, OWN_EVERYDAY_HELP, QUICK_HELP, VERIFY_ABOUT, VERIFY_FOLDER_HELP,
-    VERIFY_HELP,
+    AGAINST_HELP, IDENTIFY_HELP, OWN_EVERYDAY_HELP, QUICK_HELP, SIZES_ONLY_HELP, VERIFY_ABOUT,
+    VERIFY_FOLDER_HELP, VERIFY_HELP,
 };
 use clap::{Arg, ArgMatches, Command};
 use droid_desk_options::{
@@ -27,11 +27,17 @@ const AGAINST: &str = "against";
 
 const QUICK: &str = "quick";
 
+const SIZES_ONLY: &str = "sizes-only";
+
 const IDENTIFY: &str = "identify";
 
 /// The error for formats of files that are not read.
 const NO_FILE_IS_READ: &str =
     "the options '--quick' and '--identify' cannot be used together: '--quick' reads no file";
+
+/// The error for files that are to be compared by two measures.
+const TWO_MEASURES: &str =
+    "the options '--quick' and '--sizes-only' cannot be used together: '--quick' compares modification times too";
 
 /// The folder to compare, and with what.
 #[derive(Clone, Copy)]
@@ -42,6 +48,8 @@ pub struct VerifyOptions<'a> {
     pub against: &'a str,
     /// Whether sizes and moments alone are compared, and no file is read.
     pub quick: bool,
+    /// Whether sizes alone are compared, of a list without hashes.
+    pub sizes_only: bool,
     /// Whether the formats are compared too.
     pub identify: bool,
     /// The path of the registry file, or `None` for the built-in registry of everyday formats.
@@ -67,8 +75,12 @@ fn verify_options<'a>(verify: &ArgMatches<'a>) -> Option<VerifyOptions<'a>>
     let folder = verify.get_str(FOLDER)?;
     let against = verify.get_str(AGAINST)?;
     let quick = flag_of(verify, QUICK);
+    let sizes_only = flag_of(verify, SIZES_ONLY);
     let identify = flag_of(verify, IDENTIFY);
     if reads_nothing(quick, identify) {
+        return None;
+    }
+    if measures_twice(quick, sizes_only) {
         return None;
     }
     let registry = verify.get_str(REGISTRY);
@@ -83,6 +95,7 @@ fn verify_options<'a>(verify: &ArgMatches<'a>) -> Option<VerifyOptions<'a>>
         folder,
         against,
         quick,
+        sizes_only,
         identify,
         registry,
         limit,
@@ -95,6 +108,8 @@ fn verify_options<'a>(verify: &ArgMatches<'a>) -> Option<VerifyOptions<'a>>
 pub(crate) fn mistake_in_verify(verify: &ArgMatches<'_>) -> &'static str {
     if reads_nothing(flag_of(verify, QUICK), flag_of(verify, IDENTIFY)) {
         NO_FILE_IS_READ
+    } else if measures_twice(flag_of(verify, QUICK), flag_of(verify, SIZES_ONLY)) {
+        TWO_MEASURES
     } else {
         TWO_REGISTRIES
     }
@@ -105,6 +120,13 @@ fn reads_nothing(quick: bool, identify: bool) -> bool
     ensures { result ≡ reads_nothing quick identify }
 {
     quick && identify
+}
+
+/// Returns whether sizes alone are to be compared, and modification times too.
+fn measures_twice(quick: bool, sizes_only: bool) -> bool
+    ensures { result ≡ measures_twice quick sizes_only }
+{
+    quick && sizes_only
 }
 
 /// Returns whether the built-in registry is asked for beside a file.
@@ -126,6 +148,7 @@ pub(crate) fn verify<'a>(alloc: Global) -> Result<Command<'a>, AllocError>
         .option(folder(alloc, VERIFY_FOLDER_HELP))
         .option(against(alloc))
         .option(flag(alloc, QUICK, QUICK_HELP))
+        .option(flag(alloc, SIZES_ONLY, SIZES_ONLY_HELP))
         .option(flag(alloc, IDENTIFY, IDENTIFY_HELP))
         .option(registry(alloc, OWN_REGISTRY_HELP))
         .option(flag(alloc, EVERYDAY, OWN_EVERYDAY_HELP))

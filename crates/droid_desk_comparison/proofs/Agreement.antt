@@ -52,19 +52,34 @@ same_items (next ∷ shown) = ap (λ (its : List Item). its ++ items_of false sh
 one_list : (result : Result (List Item) UnreadList) (items others : List Item) → result ≡ Ok items → result ≡ Ok others → items ≡ others
 one_list result items others is also = cc
 
+-- the items of both sides are those of the records, each in order of path
+pub record AreOfRecords (shown : List Record) (checked : Checked) : Type 0 where
+  pub listed_are : IsPermutation (exports.items_of shown) checked.listed
+  pub found_are : IsPermutation (exports.items_of shown) checked.found
+
+pub of_records : (bytes : List _) (shown : List Record) (listed : List Item) (checked : Checked) → Lists bytes (exports.items_of shown) → Says Profile bytes (Ok listed)
+    → IsInventory (readable_in [] listed) checked.listed → IsInventory (readable_in [] (items_of false shown)) checked.found → AreOfRecords shown checked
+of_records bytes shown listed checked lists says readable found =
+    let items = exports.items_of shown in
+    let comes = says lists.0 lists.1 in
+    let read : comes.0 ≡ items = one_list (of_profile (profile_of lists.0)) comes.0 items comes.1 (ap of_profile lists.2) in
+    let first : IsPermutation items listed = subst (λ (its : List Item). IsPermutation its listed) read comes.2.same in
+    let second : IsPermutation listed checked.listed = subst (λ (its : List Item). IsPermutation its checked.listed) (all_read listed) readable.same in
+    record {
+      listed_are = IsPermutation-trans items listed checked.listed first second;
+      found_are = subst (λ (its : List Item). IsPermutation its checked.found) (all_read (items_of false shown) ∙ same_items shown) found.same;
+    }
+
 module _ (agree : (listed : Result (List Item) ListFault) (items found : List Item) (seen : Seen) → listed ≡ Ok items → IsPermutation items found → Sees listed found (Ok seen) → seen.differences.items ≡ []) where
   pub no_difference : (bytes : List _) (shown : List Record) (listed : List Item) (checked : Checked) → Lists bytes (exports.items_of shown) → Says Profile bytes (Ok listed)
       → IsInventory (readable_in [] listed) checked.listed → IsInventory (readable_in [] (items_of false shown)) checked.found → IsReport checked.listed checked.found checked.differences.items → checked.differences.items ≡ []
   no_difference bytes shown listed checked lists says readable found report =
       let items = exports.items_of shown in
-      let comes = says lists.0 lists.1 in
-      let read : comes.0 ≡ items = one_list (of_profile (profile_of lists.0)) comes.0 items comes.1 (ap of_profile lists.2) in
-      let first : IsPermutation items listed = subst (λ (its : List Item). IsPermutation its listed) read comes.2.same in
-      let second : IsPermutation listed checked.listed = subst (λ (its : List Item). IsPermutation its checked.listed) (all_read listed) readable.same in
+      let are = of_records bytes shown listed checked lists says readable found in
       let seen : Seen = record { differences = checked.differences; listed = checked.listed; found = checked.found } in
       let sees : Sees (profile_of lists.0) items (Ok seen) = (
-        record { items = items; are = lists.2; has = record { same = IsPermutation-trans items listed checked.listed first second; in_order = readable.in_order } },
-        record { same = subst (λ (its : List Item). IsPermutation its checked.found) (all_read (items_of false shown) ∙ same_items shown) found.same; in_order = found.in_order },
+        record { items = items; are = lists.2; has = record { same = are.listed_are; in_order = readable.in_order } },
+        record { same = are.found_are; in_order = found.in_order },
         report,
       ) in
       agree (profile_of lists.0) items items seen lists.2 (IsPermutation-refl items) sees

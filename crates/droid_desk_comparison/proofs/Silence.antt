@@ -1,5 +1,5 @@
 -- Nothing is reported at the path of an item that agrees with what was found.
-use Rattle.std.proofs.Common.{◌≡◌, ◌∙◌, ℕ, zero, suc, Bool, true, false, not, cond, List, [], ◌∷◌, filter, map, Option, Some, refl, sym, ap}
+use Rattle.std.proofs.Common.{◌≡◌, ◌∙◌, ℕ, zero, suc, Bool, true, false, not, ◌&&◌, cond, List, [], ◌∷◌, filter, map, Option, Some, refl, sym, ap}
 use Rattle.std.specs.Cmp.Lexicographic.{slice_cmp}
 use Rattle.std.specs.List.{AllByRecursion, slice_get}
 use Rattle.std.specs.Option.{option_map_or}
@@ -11,12 +11,17 @@ use Rattle.std.proofs.lemmas.Cmp.{nat_list_cmp_total, tied_itself}
 use Rattle.std.proofs.lemmas.Map.Keys.{any_passes_from_place}
 use Rattle.std.proofs.lemmas.Slice.Eq.{bytes_eq-Decides}
 use Rattle.droid_frame.specs.Hashes.{hash_bytes}
+use Rattle.droid_fixity_forms.specs.FilePairs.{IsFilePair}
 use Rattle.droid_fixity_forms.specs.Inventories.{AreInOrder, IsBefore}
-use Rattle.droid_fixity_forms.specs.Items.{bears, changes_between, is_any, other_moment}
+use Rattle.droid_fixity_forms.specs.Items.{bears, both_hashed, changes_between, is_any, other_moment}
 use Rattle.droid_fixity_forms.specs.Reports.{IsDifference, changed, is_absent, missing, moved, new, path_at, path_of, touched}
 use Rattle.droid_fixity_forms.specs.item_types.difference.Difference.{Difference}
 use Rattle.droid_fixity_forms.specs.item_types.item.Item.{Item}
+use Rattle.droid_fixity_forms.specs.item_types.pair.FilePair.{FilePair}
+use Rattle.droid_desk_comparison.specs.Compared.{by_hashes, by_moments, differs, hashed_by, is_hashed, is_unchecked}
 use Rattle.droid_desk_comparison.specs.Findings.{IsSilentAt, is_file_at, is_reported}
+use Rattle.droid_desk_comparison.specs.declared.measure.Measure.{Measure}
+use Rattle.droid_desk_comparison.specs.declared.measure.Measure.TheVariants.{Hashes, Sizes, Moments}
 
 abbrev paths : List Item → List (List ℕ)
 paths items = map (λ item. item.path) items
@@ -81,9 +86,20 @@ only_passes test other items item only =
 
 -- ---- the report
 
-module _ (quick : Bool) (listed found : List Item) (l f : ℕ) (a b : Item) (up : AreInOrder (paths listed)) (down : AreInOrder (paths found)) (here : slice_get listed l ≡ Some a) (there : slice_get found f ≡ Some b)
-    (same : a.path ≡ b.path) (alike : is_any (changes_between a b) ≡ false) (moment : quick ≡ true → other_moment a.modified b.modified ≡ false) where
-  silent : (d : Difference) → IsDifference listed found d → is_reported quick found d ≡ true → path_of listed found d ≡ a.path → ⊥
+-- by what files are compared
+moments_are : (how : Measure) → by_moments how ≡ true → how ≡ Moments
+moments_are Hashes is = absurd cc
+moments_are Sizes is = absurd cc
+moments_are Moments is = refl
+
+hashes_are : (how : Measure) → by_hashes how ≡ true → how ≡ Hashes
+hashes_are Hashes is = refl
+hashes_are Sizes is = absurd cc
+hashes_are Moments is = absurd cc
+
+module _ (how : Measure) (listed found : List Item) (l f : ℕ) (a b : Item) (up : AreInOrder (paths listed)) (down : AreInOrder (paths found)) (here : slice_get listed l ≡ Some a) (there : slice_get found f ≡ Some b)
+    (same : a.path ≡ b.path) (alike : is_any (changes_between a b) ≡ false) (moment : how ≡ Moments → other_moment a.modified b.modified ≡ false) where
+  silent : (d : Difference) → IsDifference listed found d → is_reported how found d ≡ true → path_of listed found d ≡ a.path → ⊥
   silent d (changed {l = k} {f = g} {a = c} {b = e} at also one any) reported is =
       let path : c.path ≡ a.path = sym (path_is listed k c at) ∙ is in
       let first : c ≡ a = one_item listed k l c a up at here path in
@@ -94,7 +110,7 @@ module _ (quick : Bool) (listed found : List Item) (l f : ℕ) (a b : Item) (up 
       let path : c.path ≡ a.path = sym (path_is listed k c at) ∙ is in
       let first : c ≡ a = one_item listed k l c a up at here path in
       let second : e ≡ b = one_item found g f e b down also there (sym one ∙ (path ∙ same)) in
-      let bad : true ≡ false = sym other ∙ (ap (λ (x : Item). other_moment x.modified e.modified) first ∙ (ap (λ (x : Item). other_moment a.modified x.modified) second ∙ moment (and_parts quick (is_file_at found g) reported).0)) in
+      let bad : true ≡ false = sym other ∙ (ap (λ (x : Item). other_moment x.modified e.modified) first ∙ (ap (λ (x : Item). other_moment a.modified x.modified) second ∙ moment (moments_are how (and_parts (by_moments how) (is_file_at found g) reported).0))) in
       cc
   silent d (missing {l = k} {a = c} at absent never) reported is =
       let path : c.path ≡ a.path = sym (path_is listed k c at) ∙ is in
@@ -110,6 +126,29 @@ module _ (quick : Bool) (listed found : List Item) (l f : ℕ) (a b : Item) (up 
       let bad : true ≡ false = sym absent ∙ absent_there c.path found f b there (path ∙ same) in
       cc
 
-  pub all_silent : (report : List Difference) → AllByRecursion (IsDifference listed found) report → AllByRecursion (IsSilentAt quick listed found a.path) report
+  pub all_silent : (report : List Difference) → AllByRecursion (IsDifference listed found) report → AllByRecursion (IsSilentAt how listed found a.path) report
   all_silent [] all = tt
   all_silent (d ∷ report) all = ((λ reported is. silent d all.0 reported is), all_silent report all.1)
+
+-- ---- the files that were not compared
+
+module _ (how : Measure) (listed found : List Item) (l f : ℕ) (a b : Item) (up : AreInOrder (paths listed)) (down : AreInOrder (paths found)) (here : slice_get listed l ≡ Some a) (there : slice_get found f ≡ Some b)
+    (same : a.path ≡ b.path) (hashed : how ≡ Hashes → both_hashed a b ≡ true) where
+  compared : (pair : FilePair) → IsFilePair listed found pair → is_unchecked how listed found pair ≡ true → path_at listed pair.listed ≡ a.path → ⊥
+  compared pair it unchecked is =
+      let path : it.a.path ≡ a.path = sym (path_is listed pair.listed it.a it.here) ∙ is in
+      let first : it.a ≡ a = one_item listed pair.listed l it.a a up it.here here path in
+      let second : it.b ≡ b = one_item found pair.found f it.b b down it.there there (sym it.same ∙ (path ∙ same)) in
+      let front = and_parts (by_hashes how && not (is_hashed listed found pair)) (not (differs listed found pair)) unchecked in
+      let parts = and_parts (by_hashes how) (not (is_hashed listed found pair)) front.0 in
+      let yes : is_hashed listed found pair ≡ true =
+      ap (λ (o : Option Item). hashed_by o (slice_get found pair.found)) it.here
+      ∙ (ap (λ (o : Option Item). hashed_by (Some it.a) o) it.there
+      ∙ (ap (λ (x : Item). both_hashed x it.b) first ∙ (ap (λ (x : Item). both_hashed a x) second ∙ hashed (hashes_are how parts.0)))) in
+      let bad : true ≡ false = sym parts.1 ∙ ap not yes in
+      cc
+
+  pub all_compared : (pairs : List FilePair) → AllByRecursion (IsFilePair listed found) pairs
+      → AllByRecursion (λ pair. is_unchecked how listed found pair ≡ true → ¬ (path_at listed pair.listed ≡ a.path)) pairs
+  all_compared [] all = tt
+  all_compared (pair ∷ pairs) all = ((λ unchecked is. compared pair all.0 unchecked is), all_compared pairs all.1)

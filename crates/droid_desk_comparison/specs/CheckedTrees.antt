@@ -2,6 +2,7 @@
 use Rattle.std.specs.Prelude.{◌≡◌, Bool, true, false, not, List, [], ◌++◌, filter}
 use Rattle.std.specs.List.{flat_map}
 use Rattle.droid_fixity_formats.specs.declared.file_formats.FileFormats.{FileFormats}
+use Rattle.droid_fixity_forms.specs.FilePairs.{AreFilePairs}
 use Rattle.droid_fixity_forms.specs.Inventories.{IsTwice}
 use Rattle.droid_fixity_forms.specs.Reports.{IsReport}
 use Rattle.droid_fixity_forms.specs.item_types.item.Item.{Item}
@@ -78,13 +79,14 @@ IsAfterWalk (faults.Twice same) found = IsTwice found same.path
 
 -- The recorder has all that was skipped, and keeps what is unreadable. The report has exactly the differences between the
 -- items of the list that could be read and those of these items that could: a folder that was found and could not be listed
--- later is unreadable, and nothing else is reported of it and of what lies below it.
+-- later is unreadable, and nothing else is reported of it and of what lies below it. The files are those of both.
 pub record Compares {W : Type 0} (listed found : List Item) (checked : Checked) (old new : Recorder W) : Type 0 where
   pub has_all : old.has_all ≡ true
   pub unreadable : new.skipped.items ≡ unreadable_in old.skipped.items
   pub listed_are : IsInventory (readable_in new.skipped.items listed) checked.listed
   pub found_are : IsInventory (readable_in new.skipped.items found) checked.found
   pub report : IsReport checked.listed checked.found checked.differences.items
+  pub files : AreFilePairs checked.listed checked.found checked.files.items
 
 module _ {T W : Type 0} (observes : T → Observation → T → Type 0) (hears : W → Heard → W → Type 0) (registry : Contents) (options : Options) (files_only identify : Bool) where
   abbrev Made : Type 0

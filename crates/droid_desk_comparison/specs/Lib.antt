@@ -11,7 +11,9 @@ pub use Rattle.droid_desk_profile.specs.Registry
 pub use Rattle.droid_desk_profile.specs.outputs_types as outputs_types
 pub use Rattle.droid_desk_profile.specs.profiler_types as profiler_types
 pub use Rattle.droid_desk_profile.specs.walk_types as walk_types
+pub mod Agreements
 pub mod CheckedTrees
+pub mod Compared
 pub mod Findings
 pub mod KeptItems
 pub mod ListedTrees

@@ -19,6 +19,7 @@ is_regular kinds.Folder = false
 is_regular kinds.File = true
 is_regular kinds.Link = false
 is_regular kinds.Other = false
+is_regular kinds.TooLong = false
 
 -- A regular file whose name is text and whose moment can be written. The walk skips any other file, and reports why.
 abbrev pub is_noted : FolderEntry → Bool

@@ -13,7 +13,7 @@ use Rattle.droid_fixity_forms.specs.item_types.difference.Difference.TheVariants
 use Rattle.droid_fixity_forms.specs.item_types.item.Item.{Item}
 use Rattle.droid_desk_comparison.specs.declared.finding.Finding.{Finding}
 use Rattle.droid_desk_comparison.specs.declared.finding.Kind.{Kind}
-use Rattle.droid_desk_comparison.specs.declared.finding.Kind.TheVariants.{Differs, Unreadable, Formats}
+use Rattle.droid_desk_comparison.specs.declared.finding.Kind.TheVariants.{Differs, Unchecked, Unreadable, Formats}
 
 -- the names of the columns
 abbrev pub column_names : List (List ℕ)
@@ -29,12 +29,14 @@ difference_name (Touched l f) = codes "changed"
 
 abbrev pub name_of : Kind → List ℕ
 name_of (Differs difference) = difference_name difference
+name_of (Unchecked pair) = codes "unchecked"
 name_of (Unreadable why) = codes "unreadable"
 name_of Formats = codes "format"
 
--- why an entry could not be read
+-- why an entry could not be read, or a file not compared
 abbrev pub reason_of : Kind → List ℕ
 reason_of (Differs difference) = []
+reason_of (Unchecked pair) = codes "no hash to compare"
 reason_of (Unreadable why) = cause_text why
 reason_of Formats = []
 
@@ -45,6 +47,7 @@ listed_of listed (Differs (Missing l)) = slice_get listed l
 listed_of listed (Differs (New f)) = None
 listed_of listed (Differs (Moved l f)) = slice_get listed l
 listed_of listed (Differs (Touched l f)) = slice_get listed l
+listed_of listed (Unchecked pair) = slice_get listed pair.listed
 listed_of listed (Unreadable why) = None
 listed_of listed Formats = None
 
@@ -54,6 +57,7 @@ found_of found (Differs (Missing l)) = None
 found_of found (Differs (New f)) = slice_get found f
 found_of found (Differs (Moved l f)) = slice_get found f
 found_of found (Differs (Touched l f)) = slice_get found f
+found_of found (Unchecked pair) = slice_get found pair.found
 found_of found (Unreadable why) = None
 found_of found Formats = None
 

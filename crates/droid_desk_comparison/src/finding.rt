@@ -4,13 +4,16 @@ ghost use Rattle.std.specs.Prelude.{◌≡◌, ◌++◌, [], ◌∷◌, IfOk, On
 ghost use Rattle.std.specs.Ordering.{nat_cmp};
 ghost use Rattle.std.specs.Cmp.Lexicographic.{slice_cmp};
 ghost use Rattle.droid_fixity_forms.specs.Reports.{path_at, path_of};
-ghost use Rattle.droid_desk_comparison.specs.Findings.{AreFindings, difference_at, finding_at, format_at, is_file_at, is_reported, unreadable_at};
+ghost use Rattle.droid_desk_comparison.specs.Compared.{is_unchecked};
+ghost use Rattle.droid_desk_comparison.specs.Findings.{AreFindings, difference_at, finding_at, format_at, is_file_at, is_reported, unchecked_at, unreadable_at};
 ghost use Rattle.droid_fixity_forms.specs.Items as items;
 
+use crate::compared::is_unchecked;
+use crate::measure::{Measure, by_moments};
 use crate::tree_check::Checked;
 use droid_desk_profile::SkippedEntry;
 use droid_fixity_formats::FormatChange;
-use droid_fixity_forms::{Difference, Item};
+use droid_fixity_forms::{Difference, FilePair, Item};
 use droid_frame::{Blob, NodeKind};
 use droid_tree::Skipped;
 use std::alloc::{AllocError, Global};
@@ -34,34 +37,39 @@ pub struct Finding {
 pub enum Kind {
     /// A difference between the list and the tree.
     Differs(Difference),
+    /// A file that the list and the tree have, and of which nothing known differs, was not compared: not both have a hash.
+    Unchecked(FilePair),
     /// An entry could not be read, for this reason.
     Unreadable(Skipped),
     /// A file has other formats than the list gives it.
     Formats,
 }
 
-/// Returns what is reported, in order of path: the differences, all that is unreadable, and the files with other formats.
-/// Differences of the moment alone are reported only if no file was read (`quick`), and of files.
+/// Returns what is reported, in order of path: the differences, the files that were not compared, all that is unreadable, and
+/// the files with other formats. Differences of the moment alone are reported only if moments are compared, and of files. Files
+/// that were not compared are reported only if they are to be compared by hashes.
 pub fn findings_of(
     alloc: Global,
-    quick: bool,
+    how: Measure,
     checked: &Checked,
     unreadable: &[SkippedEntry],
     changes: &[FormatChange],
 ) -> Result<Vec<Finding>, AllocError>
-    ensures { IfOk result (λ findings. AreFindings quick checked.now.listed checked.now.found checked.now.differences.items unreadable.now changes.now findings.items) }
+    ensures { IfOk result (λ findings. AreFindings how checked.now.listed checked.now.found checked.now.differences.items checked.now.files.items unreadable.now changes.now findings.items) }
 {
     let mut findings = Vec::new(alloc);
     let listed = checked.listed.as_slice();
     let found = checked.found.as_slice();
     add_differences(
         alloc,
-        quick,
+        how,
         &mut findings,
         listed,
         found,
         checked.differences.as_slice(),
     )?;
+    let files = checked.files.as_slice();
+    add_unchecked(alloc, how, &mut findings, listed, found, files)?;
     add_unreadable(alloc, &mut findings, unreadable)?;
     add_changes(alloc, &mut findings, changes)?;
     findings.sort_unstable_by(|first, second| order_of(first, second));
@@ -78,16 +86,16 @@ fn order_of(first: &Finding, second: &Finding) -> Ordering
 /// Appends the differences that are reported.
 fn add_differences(
     alloc: Global,
-    quick: bool,
+    how: Measure,
     findings: &mut Vec<Finding>,
     listed: &[Item],
     found: &[Item],
     differences: &[Difference],
 ) -> Result<(), AllocError>
-    ensures { OnOk result (findings.new.items ≡ findings.old.items ++ map (difference_at listed.now found.now) (filter (is_reported quick found.now) differences.now)) }
+    ensures { OnOk result (findings.new.items ≡ findings.old.items ++ map (difference_at listed.now found.now) (filter (is_reported how found.now) differences.now)) }
 {
     for difference in differences {
-        add_difference(alloc, quick, findings, listed, found, *difference)?;
+        add_difference(alloc, how, findings, listed, found, *difference)?;
     }
     Ok(())
 }
@@ -95,15 +103,15 @@ fn add_differences(
 /// Appends a difference, if it is reported.
 fn add_difference(
     alloc: Global,
-    quick: bool,
+    how: Measure,
     findings: &mut Vec<Finding>,
     listed: &[Item],
     found: &[Item],
     difference: Difference,
 ) -> Result<(), AllocError>
-    ensures { OnOk result (findings.new.items ≡ findings.old.items ++ map (difference_at listed.now found.now) (filter (is_reported quick found.now) (difference ∷ []))) }
+    ensures { OnOk result (findings.new.items ≡ findings.old.items ++ map (difference_at listed.now found.now) (filter (is_reported how found.now) (difference ∷ []))) }
 {
-    if is_reported(quick, found, difference) {
+    if is_reported(how, found, difference) {
         let finding = finding_of(
             alloc,
             path_of(listed, found, difference),
@@ -130,15 +138,15 @@ fn finding_of(alloc: Global, path: &[u8], kind: Kind) -> Result<Finding, AllocEr
 }
 
 /// Returns whether a difference is reported.
-fn is_reported(quick: bool, found: &[Item], difference: Difference) -> bool
-    ensures { result ≡ is_reported quick found.now difference }
+fn is_reported(how: Measure, found: &[Item], difference: Difference) -> bool
+    ensures { result ≡ is_reported how found.now difference }
 {
     match difference {
         Difference::Changed { .. } => true,
         Difference::Missing { .. } => true,
         Difference::New { .. } => true,
         Difference::Moved { .. } => true,
-        Difference::Touched { found: place, .. } => quick && is_file_at(found, place),
+        Difference::Touched { found: place, .. } => by_moments(how) && is_file_at(found, place),
     }
 }
 
@@ -159,6 +167,42 @@ fn is_file(kind: NodeKind) -> bool
         NodeKind::File => true,
         NodeKind::Folder => false,
     }
+}
+
+/// Appends the files that were not compared, if they are reported.
+fn add_unchecked(
+    alloc: Global,
+    how: Measure,
+    findings: &mut Vec<Finding>,
+    listed: &[Item],
+    found: &[Item],
+    pairs: &[FilePair],
+) -> Result<(), AllocError>
+    ensures { OnOk result (findings.new.items ≡ findings.old.items ++ map (unchecked_at listed.now) (filter (is_unchecked how listed.now found.now) pairs.now)) }
+{
+    for pair in pairs {
+        add_pair(alloc, how, findings, listed, found, *pair)?;
+    }
+    Ok(())
+}
+
+/// Appends a file, if it was not compared.
+fn add_pair(
+    alloc: Global,
+    how: Measure,
+    findings: &mut Vec<Finding>,
+    listed: &[Item],
+    found: &[Item],
+    pair: FilePair,
+) -> Result<(), AllocError>
+    ensures { OnOk result (findings.new.items ≡ findings.old.items ++ map (unchecked_at listed.now) (filter (is_unchecked how listed.now found.now) (pair ∷ []))) }
+{
+    if is_unchecked(how, listed, found, pair) {
+        let path = path_at(listed, pair.listed);
+        let finding = finding_of(alloc, path, Kind::Unchecked(pair))?;
+        findings.push(finding)?;
+    }
+    Ok(())
 }
 
 /// Appends all that is unreadable.

@@ -4,24 +4,33 @@ ghost use Rattle.std.specs.Prelude.{◌≡◌, ℕ, Bool, List, [], Ok, Some, tr
 ghost use Rattle.std.specs.List.{AllByRecursion};
 ghost use Rattle.csv.specs.Reading.{AreRecords, default_config, strip_bom};
 ghost use Rattle.csv.specs.declared.parser.State.TheVariants as st;
-ghost use Rattle.droid_desk_comparison.specs.CheckedTrees.{formats_of, items_of, readable_in};
+ghost use Rattle.droid_desk_comparison.specs.Agreements.{Agree, EachFoundIsSame, EachListedIsSame, HaveHashes};
+ghost use Rattle.droid_desk_comparison.specs.CheckedTrees.{Compares, formats_of, items_of, readable_in};
+ghost use Rattle.droid_desk_comparison.specs.Compared.{is_hashed, is_unchecked};
 ghost use Rattle.droid_desk_comparison.specs.Findings.{AreFindings, IsSilentAt};
 ghost use Rattle.droid_fixity_forms.specs.ListForms.{form_of};
 ghost use Rattle.droid_fixity_forms.specs.Listings.{ListSays};
 ghost use Rattle.droid_desk_comparison.specs.declared.finding.Finding.{Finding};
 ghost use Rattle.droid_fixity_forms.specs.declared.list_form.ListForm.TheVariants.{Profile};
 ghost use Rattle.droid_fixity_forms.specs.declared.list_content.Listed.{Listed};
+ghost use Rattle.droid_desk_comparison.specs.declared.measure.Measure.{Measure};
+ghost use Rattle.droid_desk_comparison.specs.declared.measure.Measure.TheVariants.{Hashes, Moments};
 ghost use Rattle.droid_desk_comparison.specs.declared.tree_check.Checked.{Checked};
+ghost use Rattle.droid_desk_profile.specs.outputs_types.recorder.Recorder.{Recorder};
+ghost use Rattle.droid_desk_profile.specs.outputs_types.skipped_entry.SkippedEntry.{SkippedEntry};
 ghost use Rattle.droid_desk_profile.specs.Filters.{meets};
 ghost use Rattle.droid_desk_profile.specs.Rows.{fields};
 ghost use Rattle.droid_desk_profile.specs.Text.{shown_rows, text};
 ghost use Rattle.droid_fixity_formats.specs.Formats.{HasRows, changes_in};
 ghost use Rattle.droid_fixity_formats.specs.declared.format_row.FormatRow.{FormatRow};
+ghost use Rattle.droid_fixity_formats.specs.declared.format_change.FormatChange.{FormatChange};
+ghost use Rattle.droid_fixity_forms.specs.FilePairs.{AreFilePairs};
 ghost use Rattle.droid_fixity_forms.specs.Inventories.{AreInOrder};
-ghost use Rattle.droid_fixity_forms.specs.Items.{changes_between, is_any, other_moment};
-ghost use Rattle.droid_fixity_forms.specs.Reports.{IsReport};
+ghost use Rattle.droid_fixity_forms.specs.Items.{both_hashed, changes_between, is_any, other_moment};
+ghost use Rattle.droid_fixity_forms.specs.Reports.{IsReport, path_at};
 ghost use Rattle.droid_fixity_forms.specs.item_types.difference.Difference.{Difference};
 ghost use Rattle.droid_fixity_forms.specs.item_types.item.Item.{Item};
+ghost use Rattle.droid_fixity_forms.specs.item_types.pair.FilePair.{FilePair};
 ghost use Rattle.droid_fixity_forms.specs.Listings.{IsInventory};
 ghost use Rattle.droid_fixity_profile.specs.Exports.{AreRecordsOf};
 ghost use Rattle.droid_frame.specs.types.filter.Filter.{Filter};
@@ -31,28 +40,58 @@ ghost use Rattle.droid_desk_profile.specs.Registry.{Contents};
 
 use droid_fixity_profile::{export_lists_its_records, the_items_of_the_list_agree};
 
-/// States that the export of a tree's records, which `profile` writes, is read as a profile; and that it has no difference
-/// to a tree with these records in which nothing is unreadable.
+/// States that nothing is reported where a list and a tree agree, and nowhere else: if nothing is, files being compared by
+/// their hashes, each folder and file of the list was found and each that was found is in the list, each file with an equal
+/// hash on both sides, and nothing was unreadable.
+pub fn nothing_reported_is_agreement()
+    ensures listed { (listed found : List Item) (differences : List Difference) (pairs : List FilePair) (unreadable : List SkippedEntry) (changes : List FormatChange) →
+        IsReport listed found differences → AreFilePairs listed found pairs → AreFindings Hashes listed found differences pairs unreadable changes [] → EachListedIsSame listed found }
+    ensures found { (listed found : List Item) (differences : List Difference) (pairs : List FilePair) (unreadable : List SkippedEntry) (changes : List FormatChange) →
+        IsReport listed found differences → AreFilePairs listed found pairs → AreFindings Hashes listed found differences pairs unreadable changes [] → EachFoundIsSame listed found }
+    ensures unreadable { (how : Measure) (listed found : List Item) (differences : List Difference) (pairs : List FilePair) (unreadable : List SkippedEntry) (changes : List FormatChange) →
+        AreFindings how listed found differences pairs unreadable changes [] → unreadable ≡ [] }
+{}
+
+/// States the same of the list itself and of the whole tree, and not only of what was compared of them: if nothing is reported,
+/// files being compared by their hashes, all of both was compared, and they agree.
+pub fn all_was_compared_where_nothing_is_reported<W>()
+    ensures { (listed found : List Item) (checked : Checked) (changes : List FormatChange) (old new : Recorder W) → Compares listed found checked old new
+        → AreFindings Hashes checked.listed checked.found checked.differences.items checked.files.items new.skipped.items changes [] → Agree listed found }
+{}
+
+/// States that the export of a tree's records, which `profile` writes, is read as a profile; that it has no difference to a
+/// tree with these records in which nothing is unreadable; and that each of its files is then compared by a hash, if each
+/// record of a file has one.
 pub fn a_profile_agrees_with_its_tree()
     ensures form { (registry : Contents) (criteria : Filter) (hash : HashKind) (nodes : List Record) (in_bag : Bool) → form_of in_bag (text registry criteria hash nodes) ≡ Profile }
     ensures agrees { (registry : Contents) (criteria : Filter) (hash : HashKind) (nodes : List Record) (in_bag : Bool) (listed : Listed) (checked : Checked) → AreRecordsOf hash nodes
         → ListSays in_bag (text registry criteria hash nodes) (Ok listed) → IsInventory (readable_in [] listed.items) checked.listed
         → IsInventory (readable_in [] (items_of false (filter (meets criteria) nodes))) checked.found → IsReport checked.listed checked.found checked.differences.items → checked.differences.items ≡ [] }
+    ensures hashed { (registry : Contents) (criteria : Filter) (hash : HashKind) (nodes : List Record) (in_bag : Bool) (listed : Listed) (checked : Checked) → AreRecordsOf hash nodes → HaveHashes nodes
+        → ListSays in_bag (text registry criteria hash nodes) (Ok listed) → IsInventory (readable_in [] listed.items) checked.listed
+        → IsInventory (readable_in [] (items_of false (filter (meets criteria) nodes))) checked.found → AreFilePairs checked.listed checked.found checked.files.items
+        → AllByRecursion (λ pair. is_hashed checked.listed checked.found pair ≡ true) checked.files.items }
 {
     export_lists_its_records();
     the_items_of_the_list_agree();
 }
 
-/// States that nothing is reported where there is no difference, nothing is unreadable, and no file has other formats.
+/// States that nothing is reported where there is no difference, nothing is unreadable, no file has other formats, and each file
+/// has a hash on both sides, if files are to be compared by hashes.
 pub fn nothing_is_reported_of_agreement()
-    ensures { (quick : Bool) (listed found : List Item) (findings : List Finding) → AreFindings quick listed found [] [] [] findings → findings ≡ [] }
+    ensures { (how : Measure) (listed found : List Item) (pairs : List FilePair) (findings : List Finding) → AreFindings how listed found [] pairs [] [] findings
+        → (how ≡ Hashes → AllByRecursion (λ pair. is_hashed listed found pair ≡ true) pairs) → findings ≡ [] }
 {}
 
 /// States that nothing is reported at the path of an item of the list that agrees with what was found: the same kind, the
-/// same length and hash where both have one, and the same moment if moments are reported.
+/// same length and hash where both have one, and the same moment if moments are reported; and that it is not reported as
+/// unchecked, if both have a hash.
 pub fn what_agrees_is_not_reported()
-    ensures { (quick : Bool) (listed found : List Item) (report : List Difference) (l f : ℕ) (a b : Item) → AreInOrder (map (λ item. item.path) listed) → AreInOrder (map (λ item. item.path) found) → IsReport listed found report
-        → slice_get listed l ≡ Some a → slice_get found f ≡ Some b → a.path ≡ b.path → is_any (changes_between a b) ≡ false → (quick ≡ true → other_moment a.modified b.modified ≡ false) → AllByRecursion (IsSilentAt quick listed found a.path) report }
+    ensures agrees { (how : Measure) (listed found : List Item) (report : List Difference) (l f : ℕ) (a b : Item) → AreInOrder (map (λ item. item.path) listed) → AreInOrder (map (λ item. item.path) found) → IsReport listed found report
+        → slice_get listed l ≡ Some a → slice_get found f ≡ Some b → a.path ≡ b.path → is_any (changes_between a b) ≡ false → (how ≡ Moments → other_moment a.modified b.modified ≡ false) → AllByRecursion (IsSilentAt how listed found a.path) report }
+    ensures unchecked { (how : Measure) (listed found : List Item) (pairs : List FilePair) (l f : ℕ) (a b : Item) → AreInOrder (map (λ item. item.path) listed) → AreInOrder (map (λ item. item.path) found) → AreFilePairs listed found pairs
+        → slice_get listed l ≡ Some a → slice_get found f ≡ Some b → a.path ≡ b.path → (how ≡ Hashes → both_hashed a b ≡ true)
+        → AllByRecursion (λ pair. is_unchecked how listed found pair ≡ true → ¬ (path_at listed pair.listed ≡ a.path)) pairs }
 {}
 
 /// States that no file of a tree has other formats than the rows of the export of its records. `text_is_read_back` of

@@ -176,6 +176,7 @@ fn is_regular(kind: EntryKind) -> bool
         EntryKind::File => true,
         EntryKind::Link => false,
         EntryKind::Other => false,
+        EntryKind::TooLong => false,
     }
 }
 

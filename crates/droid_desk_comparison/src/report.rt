@@ -127,6 +127,7 @@ fn listed_of(listed: &[Item], kind: Kind) -> Option<&Item>
         | Kind::Differs(Difference::Moved { listed: place, .. })
         | Kind::Differs(Difference::Touched { listed: place, .. }) => listed.get(place),
         Kind::Differs(Difference::New { .. }) => None,
+        Kind::Unchecked(pair) => listed.get(pair.listed),
         Kind::Unreadable(_) => None,
         Kind::Formats => None,
     }
@@ -142,6 +143,7 @@ fn found_of(found: &[Item], kind: Kind) -> Option<&Item>
         | Kind::Differs(Difference::Moved { found: place, .. })
         | Kind::Differs(Difference::Touched { found: place, .. }) => found.get(place),
         Kind::Differs(Difference::Missing { .. }) => None,
+        Kind::Unchecked(pair) => found.get(pair.found),
         Kind::Unreadable(_) => None,
         Kind::Formats => None,
     }
@@ -157,17 +159,19 @@ fn name_of(finding: &Finding) -> &[u8]
         Kind::Differs(Difference::New { .. }) => b"new",
         Kind::Differs(Difference::Moved { .. }) => b"moved",
         Kind::Differs(Difference::Touched { .. }) => b"changed",
+        Kind::Unchecked(_) => b"unchecked",
         Kind::Unreadable(_) => b"unreadable",
         Kind::Formats => b"format",
     }
 }
 
-/// Returns why an entry could not be read.
+/// Returns why an entry could not be read, or a file not compared.
 fn reason_of(finding: &Finding) -> &[u8]
     ensures { result.now ≡ texts.reason_of finding.now.kind }
 {
     match finding.kind {
         Kind::Differs(_) => b"",
+        Kind::Unchecked(_) => b"no hash to compare",
         Kind::Unreadable(why) => cause(why).as_bytes(),
         Kind::Formats => b"",
     }

@@ -4,8 +4,8 @@ ghost use Rattle.std.specs.Prelude.{◌≡◌, Some};
 ghost use Rattle.droid_desk_comparison.specs.Summaries as summaries;
 
 use crate::finding::{Finding, Kind};
-use droid_fixity_forms::{Difference, Item};
-use droid_frame::NodeKind;
+use crate::measure::{Measure, by_hashes};
+use droid_fixity_forms::Difference;
 use std::fmt::{self, Display, Formatter, Write};
 
 /// How many findings of each kind there are.
@@ -19,6 +19,8 @@ pub struct KindCounts {
     pub added: u64,
     /// Files that moved.
     pub moved: u64,
+    /// Files that were not compared.
+    pub unchecked: u64,
     /// What could not be read.
     pub unreadable: u64,
     /// Files with other formats.
@@ -28,11 +30,11 @@ pub struct KindCounts {
 /// The summary of a comparison.
 #[derive(Clone, Copy)]
 pub struct Summary {
-    /// Whether no file was read.
-    pub quick: bool,
+    /// By what files were compared.
+    pub how: Measure,
     /// Whether formats were compared.
     pub identify: bool,
-    /// How many files the folder has.
+    /// How many files were compared.
     pub files: u64,
     /// How many bytes they have together.
     pub bytes: u64,
@@ -50,6 +52,7 @@ impl KindCounts {
             missing: 0,
             added: 0,
             moved: 0,
+            unchecked: 0,
             unreadable: 0,
             formats: 0,
         };
@@ -70,6 +73,7 @@ impl KindCounts {
             Kind::Differs(Difference::Missing { .. }) => counts.missing = one_more(counts.missing),
             Kind::Differs(Difference::New { .. }) => counts.added = one_more(counts.added),
             Kind::Differs(Difference::Moved { .. }) => counts.moved = one_more(counts.moved),
+            Kind::Unchecked(_) => counts.unchecked = one_more(counts.unchecked),
             Kind::Unreadable(_) => counts.unreadable = one_more(counts.unreadable),
             Kind::Formats => counts.formats = one_more(counts.formats),
         }
@@ -78,47 +82,10 @@ impl KindCounts {
 }
 
 /// Adds one, up to the greatest number of 64 bits.
-fn one_more(count: u64) -> u64
+pub(crate) fn one_more(count: u64) -> u64
     ensures { result ≡ summaries.one_more count }
 {
     count.saturating_add(1)
-}
-
-/// Returns how many files there are among items.
-pub fn files_in(items: &[Item]) -> u64
-    ensures { result ≡ summaries.files_in items.now }
-{
-    let mut files = 0;
-    for item in items {
-        files = with_item(item.kind, files);
-    }
-    files
-}
-
-fn with_item(kind: NodeKind, count: u64) -> u64
-    ensures { result ≡ summaries.with_item kind count }
-{
-    match kind {
-        NodeKind::File => one_more(count),
-        NodeKind::Folder => count,
-    }
-}
-
-/// Returns how many bytes items have together, or the greatest number there is.
-pub fn bytes_in(items: &[Item]) -> u64
-    ensures { result ≡ summaries.bytes_in items.now }
-{
-    let mut bytes: u64 = 0;
-    for item in items {
-        bytes = bytes.saturating_add(known_bytes(item.length));
-    }
-    bytes
-}
-
-fn known_bytes(length: Option<u64>) -> u64
-    ensures { result ≡ summaries.known_bytes length }
-{
-    length.unwrap_or(0)
 }
 
 /// A name and a number, in a line.
@@ -134,6 +101,27 @@ impl Display for CountLine {
     #[tactic(auto, unfolding(crate::specs::Summaries::count_line))]
     fn fmt<W: Write>(&self, f: &mut Formatter<W>) -> fmt::Result {
         writeln!(f, "{}: {}", self.name, self.count)
+    }
+}
+
+/// The line of what was not compared, if files were compared by hashes.
+#[derive(Clone, Copy)]
+struct UncheckedLine {
+    how: Measure,
+    count: u64,
+}
+
+impl Display for UncheckedLine {
+    ghost output = { λ line. Some (summaries.unchecked_line line.how line.count) };
+
+    #[tactic(auto, unfolding(crate::specs::Summaries::unchecked_line))]
+    fn fmt<W: Write>(&self, f: &mut Formatter<W>) -> fmt::Result {
+        if by_hashes(self.how) {
+            let count = line("unchecked", self.count);
+            write!(f, "{count}")
+        } else {
+            Ok(())
+        }
     }
 }
 
@@ -166,24 +154,24 @@ fn line(name: &'static str, count: u64) -> CountLine
 }
 
 /// Names the number of files.
-fn files_name(quick: bool) -> &'static str
-    ensures { result.now ≡ summaries.files_name quick }
+fn files_name(how: Measure) -> &'static str
+    ensures { result.now ≡ summaries.files_name how }
 {
-    if quick {
-        "files compared by size and modification time alone"
-    } else {
-        "files compared"
+    match how {
+        Measure::Hashes => "files compared",
+        Measure::Sizes => "files compared by size alone",
+        Measure::Moments => "files compared by size and modification time alone",
     }
 }
 
 /// Names the number of bytes.
-fn bytes_name(quick: bool) -> &'static str
-    ensures { result.now ≡ summaries.bytes_name quick }
+fn bytes_name(how: Measure) -> &'static str
+    ensures { result.now ≡ summaries.bytes_name how }
 {
-    if quick {
-        "bytes not read"
-    } else {
-        "bytes compared"
+    match how {
+        Measure::Hashes => "bytes compared",
+        Measure::Sizes => "bytes not compared",
+        Measure::Moments => "bytes not read",
     }
 }
 
@@ -192,20 +180,24 @@ impl Display for Summary {
 
     #[tactic(auto, unfolding(crate::specs::Summaries::summary_text))]
     fn fmt<W: Write>(&self, f: &mut Formatter<W>) -> fmt::Result {
-        let files = line(files_name(self.quick), self.files);
-        let bytes = line(bytes_name(self.quick), self.bytes);
+        let files = line(files_name(self.how), self.files);
+        let bytes = line(bytes_name(self.how), self.bytes);
         let changed = line("changed", self.kinds.changed);
         let missing = line("missing", self.kinds.missing);
         let added = line("new", self.kinds.added);
         let moved = line("moved", self.kinds.moved);
         let unreadable = line("unreadable", self.kinds.unreadable);
+        let unchecked = UncheckedLine {
+            how: self.how,
+            count: self.kinds.unchecked,
+        };
         let formats = FormatLine {
             identify: self.identify,
             count: self.kinds.formats,
         };
         write!(
             f,
-            "{files}{bytes}{changed}{missing}{added}{moved}{unreadable}{formats}"
+            "{files}{bytes}{changed}{missing}{added}{moved}{unreadable}{unchecked}{formats}"
         )
     }
 }

@@ -2,6 +2,7 @@
 
 ghost use Rattle.std.specs.Prelude.{◌≡◌, ◌≤◌, IfErr, IfOk};
 ghost use Rattle.droid_desk_comparison.specs.CheckedTrees.{ChecksTree, Compares, EndsCheck, IsAfterWalk, fault_of, is_unreadable, options_for, readable_in, unreadable_in};
+ghost use Rattle.droid_fixity_forms.specs.FilePairs.{AreFilePairs};
 ghost use Rattle.droid_fixity_forms.specs.ListForms.{names_files_alone};
 ghost use Rattle.droid_fixity_forms.specs.Reports.{IsReport};
 ghost use Rattle.droid_fixity_forms.specs.Listings.{IsInventory};
@@ -11,7 +12,9 @@ use crate::readable_items::{keep_readable, readable_of};
 use droid_desk_profile::{
     Options, ProfileFault, Profiler, Recorder, Registry, SkippedEntry, profile,
 };
-use droid_fixity_forms::{Difference, Inventory, Item, Listed, SamePath, compare};
+use droid_fixity_forms::{
+    Difference, FilePair, Inventory, Item, Listed, SamePath, compare, file_pairs,
+};
 use droid_frame::HashKind;
 use droid_tree::{Skipped, Tree, Watcher};
 use std::alloc::{AllocError, Global};
@@ -22,6 +25,8 @@ use std::mem;
 pub struct Checked {
     /// All differences, in order of path. They name items by their places in `listed` and `found`.
     pub differences: Vec<Difference>,
+    /// The files that both have under one path, in order of path.
+    pub files: Vec<FilePair>,
     /// The items of the list that could be read.
     pub listed: Inventory,
     /// The items of the tree that could be read: a folder that was found may not be listed later.
@@ -164,6 +169,7 @@ fn compare_readable(
     ensures listed { IfOk result (λ checked. IsInventory (readable_in unreadable.now listed) checked.listed) }
     ensures found { IfOk result (λ checked. IsInventory (readable_in unreadable.now items.items) checked.found) }
     ensures report { IfOk result (λ checked. IsReport checked.listed checked.found checked.differences.items) }
+    ensures files { IfOk result (λ checked. AreFilePairs checked.listed checked.found checked.files.items) }
     ensures ended { IfErr result (λ fault. IsAfterWalk fault items.items) }
 {
     let mut items = items;
@@ -176,8 +182,10 @@ fn compare_readable(
     let _items = found.as_slice();
     let listed = readable_of(alloc, unreadable, listed)?;
     let differences = compare(alloc, &listed, &found)?;
+    let files = file_pairs(alloc, &listed, &found)?;
     Ok(Checked {
         differences,
+        files,
         listed,
         found,
     })

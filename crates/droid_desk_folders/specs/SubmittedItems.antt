@@ -14,6 +14,7 @@ node_kind entries.Folder = nodes.Folder
 node_kind entries.File = nodes.File
 node_kind entries.Link = nodes.File
 node_kind entries.Other = nodes.File
+node_kind entries.TooLong = nodes.File
 
 -- the item of a folder or file
 abbrev pub item_of_node : Node → Item

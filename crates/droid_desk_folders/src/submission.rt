@@ -9,10 +9,10 @@ use crate::profile_comparison::{Compared, ComparisonFault};
 use crate::submission_ending::SubmissionEnding;
 use crate::submit_settings::{connection_of, sender_of, submission_name, walk_options};
 use droid_desk_arguments::SubmitOptions;
-use droid_desk_report::{Recorder, Reporter, Verbosity, absolute_path};
+use droid_desk_report::{Recorder, Reporter, Verbosity, absolute_path, is_folder};
 use droid_frame::{Noted, Refusal};
 use droid_tree::NODE_LIMIT;
-use droid_tree_disk::{Folder, System, is_folder};
+use droid_tree_disk::{Folder, System};
 use droid_tree_remote::{
     Options, RemoteFault, Sender, Streams, SubmissionFault, TransferFault, Upload, options_of,
 };

@@ -16,7 +16,11 @@ const MISTAKE: &str = "this is a mistake in droid_desk or in the service";
 
 impl SubmissionEnding {
     /// Prints the fault to standard error, and behind it a sentence that says what happened and what to do.
-    pub fn print<R: Files + Eprint>(self, rt: &R, options: SubmitOptions<'_>) -> io::Result<()> {
+    pub fn print<R: Files + Eprint + AllocGlobal>(
+        self,
+        rt: &R,
+        options: SubmitOptions<'_>,
+    ) -> io::Result<()> {
         let Some(name) = self.fault_name() else {
             return Ok(());
         };

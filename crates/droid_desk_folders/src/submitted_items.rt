@@ -58,5 +58,6 @@ fn node_kind(kind: EntryKind) -> NodeKind
         EntryKind::File => NodeKind::File,
         EntryKind::Link => NodeKind::File,
         EntryKind::Other => NodeKind::File,
+        EntryKind::TooLong => NodeKind::File,
     }
 }

@@ -1,5 +1,6 @@
 //! Sentences that say why a folder or a file can't be used, and what to do.
 
+use crate::folder_check::why_unlisted;
 use crate::places::folder_of;
 use droid_desk_progress::Shown;
 use std::fs::{self, Files};
@@ -9,10 +10,14 @@ use std::io::{self, ErrorKind};
 pub const NO_MEMORY: &str =
     "out of memory: close other programs, or allow this one more, and try again";
 
-/// Says why a path is not a folder.
-pub fn print_no_folder<R: Files + Eprint>(rt: &R, path: &str) -> io::Result<()> {
+/// Says why a path is not a folder, or can't be listed.
+pub fn print_no_folder<R: Files + Eprint + AllocGlobal>(rt: &R, path: &str) -> io::Result<()> {
     let shown = Shown(path.as_bytes());
     match fs::metadata(rt, path) {
+        Ok(found) if found.is_dir() => match why_unlisted(rt, path) {
+            Some(kind) => eprintln!(rt; "{shown}: cannot be listed: {kind}"),
+            None => eprintln!(rt; "{shown}: could not be listed: try again"),
+        },
         Ok(_) => eprintln!(rt; "{shown}: not a folder: name the folder that has the files"),
         Err(error) => match error.kind() {
             ErrorKind::NotFound => eprintln!(rt; "{shown}: no such folder: check the path"),
@@ -23,6 +28,9 @@ pub fn print_no_folder<R: Files + Eprint>(rt: &R, path: &str) -> io::Result<()> 
 
 /// Says why a file could not be created or replaced.
 pub fn print_no_output<R: Files + Eprint>(rt: &R, path: &str) -> io::Result<()> {
+    if path.is_empty() {
+        return eprintln!(rt; "the name of an output file is empty: name a file");
+    }
     let shown = Shown(path.as_bytes());
     if let Ok(found) = fs::metadata(rt, path)
         && !found.is_file()

@@ -4,6 +4,7 @@
 
 mod csv_records;
 mod folder_advice;
+mod folder_check;
 mod places;
 mod recorder;
 mod skipped_entry;
@@ -14,6 +15,7 @@ pub use csv_records::{finish_csv, new_csv, write_record};
 pub use droid_desk_progress::{Reporter, Shown, Verbosity, cause, walk_fault_name};
 pub use droid_export::{HashText, moment_text};
 pub use folder_advice::{NO_MEMORY, print_no_folder, print_no_output};
+pub use folder_check::is_folder;
 pub use places::{absolute_path, folder_of, is_same_place, lies_in, name_of};
 pub use recorder::Recorder;
 pub use skipped_entry::SkippedEntry;

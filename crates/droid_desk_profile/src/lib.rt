@@ -17,13 +17,13 @@ mod walk_options;
 
 pub use droid_desk_report::{
     HashText, NO_MEMORY, Recorder, Reporter, Shown, SkippedEntry, SkippedPaths, Verbosity, cause,
-    finish_csv, holds_above, new_csv, paths_of, print_no_folder, write_record,
+    finish_csv, holds_above, is_folder, new_csv, paths_of, print_no_folder, write_record,
 };
 pub use droid_profile_csv::{
     Options, ProfileFault, Profiler, Recipient, RecipientFault, Registry, profile,
 };
 pub use droid_pronom::RegistryFault;
-pub use droid_tree_disk::{Folder, System, is_folder};
+pub use droid_tree_disk::{Folder, System};
 pub use folder_profile::profile_folder;
 pub use named_registry::{NamedRegistry, RegistryLine, RegistryName};
 pub use other_files::OtherFiles;

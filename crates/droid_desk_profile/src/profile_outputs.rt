@@ -149,7 +149,7 @@ fn create<'a, R: Files<File = File> + AllocGlobal>(
 }
 
 /// Creates a file, if there is one, and appends which it is.
-fn begin<R: Files>(
+fn begin<R: Files<File = File>>(
     output: &mut Option<Output<'_, R>>,
     file: OutputFile,
     own: &mut Vec<FileId>,
@@ -167,7 +167,7 @@ fn begin<R: Files>(
 }
 
 /// Puts a file in its place, if there is one.
-fn complete<R: Files>(
+fn complete<R: Files<File = File>>(
     output: Option<Output<'_, R>>,
     file: OutputFile,
 ) -> Result<(), ProfileEnding> {

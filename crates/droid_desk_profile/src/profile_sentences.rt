@@ -12,7 +12,11 @@ use std::io;
 
 impl ProfileEnding {
     /// Prints the fault to standard error, and behind it a sentence that says what happened and what to do.
-    pub fn print<R: Files + Eprint>(self, rt: &R, options: ProfileOptions<'_>) -> io::Result<()> {
+    pub fn print<R: Files + Eprint + AllocGlobal>(
+        self,
+        rt: &R,
+        options: ProfileOptions<'_>,
+    ) -> io::Result<()> {
         let Some(name) = self.fault_name() else {
             return Ok(());
         };

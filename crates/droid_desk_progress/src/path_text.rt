@@ -77,7 +77,7 @@ pub fn cause(why: Skipped) -> &'static str
         Skipped::Changed => "it changed while it was read",
         Skipped::OtherHash => "its hash in the profile is another",
         Skipped::Refused(Refusal::BadName) => "its name is too long or can't be in a profile",
-        Skipped::Refused(Refusal::PathTooLong) => "its path is longer than 4,096 bytes",
+        Skipped::Refused(Refusal::PathTooLong) => "with DIR, its path has more than 4,095 bytes",
         Skipped::Refused(Refusal::TooLarge) => "it is too large",
         Skipped::Refused(Refusal::BadOption) => "its modification time is out of range",
         Skipped::Refused(Refusal::LimitReached(_)) => "the profile has no place for more",

@@ -16,7 +16,7 @@ use droid_report::ProfileFault;
 use droid_report_page::texts;
 use droid_tree_disk::Output;
 use std::alloc::AllocError;
-use std::fs::Files;
+use std::fs::{File, Files};
 use std::time::{Clock, SystemTime, UNIX_EPOCH};
 
 /// The last second that a moment's text has a form for: 9999-12-31T23:59:59.
@@ -58,7 +58,7 @@ pub fn title_of(absolute: &str) -> &str
 }
 
 /// Writes a page to a file, and puts it in its place once it is complete.
-pub fn put_page<R: Files>(output: Output<'_, R>, page: &str) -> Result<(), PageFault> {
+pub fn put_page<R: Files<File = File>>(output: Output<'_, R>, page: &str) -> Result<(), PageFault> {
     let mut output = output;
     if let Err(fault) = write_page(&mut output, page) {
         output.give_up();

@@ -16,7 +16,7 @@ pub use csv_page::{PageTexts, page_of_csv};
 pub use csv_report::{page_now, put_page, title_of};
 pub use droid_desk_outputs::{
     HashText, NO_MEMORY, Recorder, Reporter, Shown, SkippedEntry, SkippedPaths, Verbosity,
-    absolute_path, cause, entry_line, finish_csv, folder_of, header_line, holds_above,
+    absolute_path, cause, entry_line, finish_csv, folder_of, header_line, holds_above, is_folder,
     is_same_place, lies_in, name_of, new_csv, paths_of, print_no_folder, print_no_output,
     skipped_csv, walk_fault_name, write_record,
 };

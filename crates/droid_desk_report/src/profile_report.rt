@@ -53,7 +53,7 @@ where
     }
 }
 
-fn put<R: Files>(output: Output<'_, R>, page: &str) -> ReportEnding {
+fn put<R: Files<File = File>>(output: Output<'_, R>, page: &str) -> ReportEnding {
     match put_page(output, page) {
         Ok(()) => ReportEnding::Whole,
         Err(fault) => no_page(fault),

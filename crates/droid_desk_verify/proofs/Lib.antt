@@ -1,2 +1,3 @@
+mod Agreeing
 mod ListReading
 mod Writing

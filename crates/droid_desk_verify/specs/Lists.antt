@@ -1,10 +1,14 @@
 -- What a list says, and the formats that it gives files (this project's own).
 use Rattle.std.specs.Prelude.{◌≡◌, ◌&&◌, ◌++◌, ℕ, Bool, true, false, not, List, Option, Some, None, Result, Ok, Err, Vec, ⊤, codes}
 use Rattle.std.specs.declared.alloc.Global.{Global}
+use Rattle.droid_frame.specs.types.hash_kind.HashKind.{HashKind}
+use Rattle.droid_frame.specs.types.hash_kind.HashKind.TheVariants as kinds
 use Rattle.droid_desk_comparison.specs.Formats.{HasRows}
 use Rattle.droid_desk_arguments.specs.declared.verify.VerifyOptions.{VerifyOptions}
 use Rattle.droid_desk_comparison.specs.ListForms.{form_of, names_files_alone}
 use Rattle.droid_desk_comparison.specs.Listings.{ListSays}
+use Rattle.droid_desk_comparison.specs.declared.measure.Measure.{Measure}
+use Rattle.droid_desk_comparison.specs.declared.measure.Measure.TheVariants.{Hashes, Sizes, Moments}
 use Rattle.droid_desk_comparison.specs.format_types.format_row.FormatRow.{FormatRow}
 use Rattle.droid_desk_comparison.specs.list_forms.list_form.ListForm.{ListForm}
 use Rattle.droid_desk_comparison.specs.list_forms.list_form.ListForm.TheVariants.{Profile, Checksum}
@@ -12,7 +16,21 @@ use Rattle.droid_desk_comparison.specs.list_forms.list_content.Listed.{Listed}
 use Rattle.droid_desk_comparison.specs.manifest_types.form.ManifestForm.TheVariants as forms
 use Rattle.droid_desk_verify.specs.declared.lists.Lists.{Lists}
 use Rattle.droid_desk_verify.specs.declared.verify_ending.VerifyEnding.{VerifyEnding}
-use Rattle.droid_desk_verify.specs.declared.verify_ending.VerifyEnding.TheVariants.{NoList, NoFormats, NoMemory}
+use Rattle.droid_desk_verify.specs.declared.verify_ending.VerifyEnding.TheVariants.{HasHashes, NoList, NoFormats, NoMemory}
+
+-- by what files are compared
+abbrev pub measure_of : Bool → Bool → Measure
+measure_of true sizes_only = Moments
+measure_of false true = Sizes
+measure_of false false = Hashes
+
+-- sizes alone are compared only where no file of the list has a hash
+abbrev pub may_measure : Measure → HashKind → Bool
+may_measure Hashes hash = true
+may_measure Sizes kinds.Nothing = true
+may_measure Sizes kinds.Md5 = false
+may_measure Sizes kinds.Sha256 = false
+may_measure Moments hash = true
 
 -- formats are compared if that is asked for, and files are read
 abbrev pub is_identified : VerifyOptions → Bool
@@ -33,16 +51,19 @@ AreRows false text None = ⊤
 
 -- a text that is read as a list comes to the list with its rows. It has none for formats to be compared with, if it names
 -- files alone; and memory may run out.
-abbrev pub GivesLists : Bool → Listed → List ℕ → Result Lists VerifyEnding → Type 0
-GivesLists identify listed text (Ok lists) = (lists.listed ≡ listed) × AreRows identify text lists.rows
-GivesLists identify listed text (Err NoFormats) = (identify ≡ true) × (names_files_alone listed.form ≡ true)
-GivesLists identify listed text (Err NoMemory) = ⊤
-GivesLists identify listed text (Err _) = ⊥
+abbrev pub GivesLists : Measure → Bool → Listed → List ℕ → Result Lists VerifyEnding → Type 0
+GivesLists how identify listed text (Ok lists) = (lists.listed ≡ listed) × AreRows identify text lists.rows × (lists.how ≡ how)
+GivesLists how identify listed text (Err NoFormats) = (identify ≡ true) × (names_files_alone listed.form ≡ true)
+GivesLists how identify listed text (Err NoMemory) = ⊤
+GivesLists how identify listed text (Err _) = ⊥
 
--- what comes of a text: the list that it is, with its rows; or why it is none
-abbrev pub ListsSay : Bool → Bool → List ℕ → Result Lists VerifyEnding → Type 0
-ListsSay in_bag identify text (Ok lists) = ListSays in_bag text (Ok lists.listed) × AreRows identify text lists.rows
-ListsSay in_bag identify text (Err (NoList fault)) = ListSays in_bag text (Err fault)
-ListsSay in_bag identify text (Err NoFormats) = (identify ≡ true) × (names_files_alone (form_of in_bag text) ≡ true)
-ListsSay in_bag identify text (Err NoMemory) = ⊤
-ListsSay in_bag identify text (Err _) = ⊥
+-- What comes of a text: the list that it is, with its rows; or why it is none. Sizes alone are not compared where it has a
+-- hash.
+abbrev pub ListsSay : Bool → Measure → Bool → List ℕ → Result Lists VerifyEnding → Type 0
+ListsSay in_bag how identify text (Ok lists) =
+    ListSays in_bag text (Ok lists.listed) × AreRows identify text lists.rows × (lists.how ≡ how) × (may_measure how lists.listed.hash ≡ true)
+ListsSay in_bag how identify text (Err HasHashes) = (listed : Listed) × ListSays in_bag text (Ok listed) × (may_measure how listed.hash ≡ false)
+ListsSay in_bag how identify text (Err (NoList fault)) = ListSays in_bag text (Err fault)
+ListsSay in_bag how identify text (Err NoFormats) = (identify ≡ true) × (names_files_alone (form_of in_bag text) ≡ true)
+ListsSay in_bag how identify text (Err NoMemory) = ⊤
+ListsSay in_bag how identify text (Err _) = ⊥

@@ -6,11 +6,13 @@ use Rattle.std.specs.declared.alloc.Global.{Global}
 use Rattle.droid_frame.specs.Seen.{Counts}
 use Rattle.droid_frame.specs.Writes.{StopsWithin, WriterStops}
 use Rattle.droid_frame.specs.stream_types.stream_record.Seen.{Seen}
+use Rattle.droid_desk_comparison.specs.Compared.{compared_in}
 use Rattle.droid_desk_comparison.specs.Findings.{AreFindings}
 use Rattle.droid_desk_comparison.specs.Formats.{changes_in}
 use Rattle.droid_desk_comparison.specs.ReportTexts.{report_text}
-use Rattle.droid_desk_comparison.specs.Summaries.{bytes_in, counts_of, files_in}
+use Rattle.droid_desk_comparison.specs.Summaries.{bytes_at, counts_of, files_at}
 use Rattle.droid_desk_comparison.specs.declared.finding.Finding.{Finding}
+use Rattle.droid_desk_comparison.specs.declared.measure.Measure.{Measure}
 use Rattle.droid_desk_comparison.specs.declared.summary.Summary.{Summary}
 use Rattle.droid_desk_comparison.specs.declared.tree_check.Checked.{Checked}
 use Rattle.droid_desk_comparison.specs.format_types.file_formats.FileFormats.{FileFormats}
@@ -26,22 +28,28 @@ abbrev pub changes_by : Option (Vec FormatRow Global) → List FileFormats → L
 changes_by None files = []
 changes_by (Some rows) files = changes_in rows.items files
 
--- the summary of a comparison with these findings
-abbrev pub summary_of : Bool → Bool → Checked → List Finding → Summary
-summary_of quick identify checked findings =
-    record { quick = quick; identify = identify; files = files_in checked.found; bytes = bytes_in checked.found; kinds = counts_of findings }
+-- the summary of a comparison with these findings: how many files were compared, and how many findings there are
+abbrev pub summary_of : Measure → Bool → Checked → List Finding → Summary
+summary_of how identify checked findings =
+    record {
+      how = how;
+      identify = identify;
+      files = files_at (compared_in how checked.listed checked.found checked.files.items checked.differences.items);
+      bytes = bytes_at checked.found (compared_in how checked.listed checked.found checked.files.items checked.differences.items);
+      kinds = counts_of findings;
+    }
 
 -- the report, the summary, and whether anything is reported, by what is found
-pub record HasFindings (quick identify : Bool) (checked : Checked) (findings : List Finding) (outcome : Outcome) : Type 0 where
+pub record HasFindings (how : Measure) (identify : Bool) (checked : Checked) (findings : List Finding) (outcome : Outcome) : Type 0 where
   pub text : outcome.text.items ≡ report_text checked.listed checked.found findings
-  pub summary : outcome.summary ≡ summary_of quick identify checked findings
+  pub summary : outcome.summary ≡ summary_of how identify checked findings
   pub differs : outcome.differs ≡ not (length findings == 0)
 
--- what is reported is all that differs, and the outcome is that of it
-pub record IsOutcome (quick : Bool) (rows : Option (Vec FormatRow Global)) (files : List FileFormats) (checked : Checked) (unreadable : List SkippedEntry) (outcome : Outcome) : Type 0 where
+-- what is reported is all that differs or was not compared, and the outcome is that of it
+pub record IsOutcome (how : Measure) (rows : Option (Vec FormatRow Global)) (files : List FileFormats) (checked : Checked) (unreadable : List SkippedEntry) (outcome : Outcome) : Type 0 where
   pub findings : List Finding
-  pub are : AreFindings quick checked.listed checked.found checked.differences.items unreadable (changes_by rows files) findings
-  pub has : HasFindings quick (is_some rows) checked findings outcome
+  pub are : AreFindings how checked.listed checked.found checked.differences.items checked.files.items unreadable (changes_by rows files) findings
+  pub has : HasFindings how (is_some rows) checked findings outcome
 
 -- the ending, if the report was written
 abbrev pub ending_by : Bool → VerifyEnding

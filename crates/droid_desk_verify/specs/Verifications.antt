@@ -3,13 +3,16 @@ use Rattle.std.specs.Prelude.{◌≡◌, ℕ, Bool, true, false, List, [], Optio
 use Rattle.std.specs.Option.{is_some}
 use Rattle.std.specs.declared.alloc.Global.{Global}
 use Rattle.droid_desk_arguments.specs.declared.verify.VerifyOptions.{VerifyOptions}
-use Rattle.droid_desk_comparison.specs.CheckedTrees.{ChecksTree, EndsCheck, options_for}
+use Rattle.droid_desk_comparison.specs.Agreements.{Agree}
+use Rattle.droid_desk_comparison.specs.CheckedTrees.{ChecksTree, EndsCheck, items_found, options_for}
+use Rattle.droid_desk_comparison.specs.Compared.{by_moments}
 use Rattle.droid_desk_comparison.specs.Heard.{Heard}
 use Rattle.droid_desk_comparison.specs.ListForms.{names_files_alone}
 use Rattle.droid_desk_comparison.specs.ListedTrees.{ChecksListing, EndsListing}
 use Rattle.droid_desk_comparison.specs.Observation.{Observation}
 use Rattle.droid_desk_comparison.specs.Registry.{Contents}
 use Rattle.droid_desk_comparison.specs.declared.item_keeper.ItemKeeper.{ItemKeeper}
+use Rattle.droid_desk_comparison.specs.declared.measure.Measure.{Measure}
 use Rattle.droid_desk_comparison.specs.declared.noted_files.NotedFiles.{NotedFiles}
 use Rattle.droid_desk_comparison.specs.declared.tree_check.CheckFault.{CheckFault}
 use Rattle.droid_desk_comparison.specs.declared.tree_check.Checked.{Checked}
@@ -33,20 +36,20 @@ use Rattle.droid_desk_verify.specs.declared.verify_ending.VerifyEnding.TheVarian
 abbrev pub without_report : VerifyEnding → Verified
 without_report ending = record { ending = ending; summary = None }
 
--- The report of a comparison: all that differs, which was written, or its writer stopped; or memory ran out, and nothing
--- was written.
-pub data Finishes {O : Type 0} (contents : O → Option (List ℕ)) (quick : Bool) (rows : Option (Vec FormatRow Global)) (formats : List FileFormats) (checked : Checked) (unreadable : List SkippedEntry)
+-- The report of a comparison: all that differs or was not compared. It was written, or its writer stopped; or memory ran out,
+-- and nothing was written.
+pub data Finishes {O : Type 0} (contents : O → Option (List ℕ)) (how : Measure) (rows : Option (Vec FormatRow Global)) (formats : List FileFormats) (checked : Checked) (unreadable : List SkippedEntry)
     (old new : O) (verified : Verified) : Type 0 where
-  Reported : (outcome : Outcome) → IsOutcome quick rows formats checked unreadable outcome → WritesOutcome (contents old) (contents new) outcome verified.ending
-      → verified.summary ≡ Some outcome.summary → Finishes contents quick rows formats checked unreadable old new verified
-  Unreported : verified ≡ without_report NoMemory → new ≡ old → Finishes contents quick rows formats checked unreadable old new verified
+  Reported : (outcome : Outcome) → IsOutcome how rows formats checked unreadable outcome → WritesOutcome (contents old) (contents new) outcome verified.ending
+      → verified.summary ≡ Some outcome.summary → Finishes contents how rows formats checked unreadable old new verified
+  Unreported : verified ≡ without_report NoMemory → new ≡ old → Finishes contents how rows formats checked unreadable old new verified
 
 module _ {T W O : Type 0} (observes : T → Observation → T → Type 0) (hears : W → Heard → W → Type 0) (contents : O → Option (List ℕ)) (registry : Contents) (options : Options) (lists : Lists) where
   -- A tree that was read: compared to its end and reported; or the comparison ended early, and nothing was written.
   pub data VerifiesTree (old new : Profiler T (Recorder W) ItemKeeper) (before after : O) (verified : Verified) : Type 0 where
     Read : (checked : Checked)
         → ChecksTree observes hears registry (options_for options lists.listed.hash) (names_files_alone lists.listed.form) (is_some lists.rows) lists.listed.items checked old new
-        → Finishes contents false lists.rows new.recipient.formats.items checked new.watcher.skipped.items before after verified → VerifiesTree old new before after verified
+        → Finishes contents lists.how lists.rows new.recipient.formats.items checked new.watcher.skipped.items before after verified → VerifiesTree old new before after verified
     Unread : (fault : CheckFault)
         → EndsCheck observes hears registry (options_for options lists.listed.hash) (names_files_alone lists.listed.form) (is_some lists.rows) fault old new
         → verified ≡ without_report (unchecked fault) → after ≡ before → VerifiesTree old new before after verified
@@ -55,10 +58,17 @@ module _ {T W O : Type 0} (observes : T → Observation → T → Type 0) (hears
   pub data VerifiesListing (old new : Profiler (NotedFiles T) (Recorder W) ItemKeeper) (before after : O) (verified : Verified) : Type 0 where
     Listed : (checked : Checked)
         → ChecksListing observes hears registry (options_for options Nothing) (names_files_alone lists.listed.form) lists.listed.items checked old new
-        → Finishes contents true None new.recipient.formats.items checked new.watcher.skipped.items before after verified → VerifiesListing old new before after verified
+        → Finishes contents lists.how None new.recipient.formats.items checked new.watcher.skipped.items before after verified → VerifiesListing old new before after verified
     Unlisted : (fault : CheckFault)
         → EndsListing observes hears registry (options_for options Nothing) (names_files_alone lists.listed.form) fault old new
         → verified ≡ without_report (unchecked fault) → after ≡ before → VerifiesListing old new before after verified
+
+  -- The tree was read and compared, nothing in it was unreadable, and the list and the tree agree.
+  pub record FindsAgreement (old new : Profiler T (Recorder W) ItemKeeper) : Type 0 where
+    pub checked : Checked
+    pub checks : ChecksTree observes hears registry (options_for options lists.listed.hash) (names_files_alone lists.listed.form) (is_some lists.rows) lists.listed.items checked old new
+    pub all_readable : new.watcher.skipped.items ≡ []
+    pub agree : Agree lists.listed.items (items_found observes hears registry (options_for options lists.listed.hash) (names_files_alone lists.listed.form) (is_some lists.rows) checks.walks)
 
   -- ---- as the command does, with a tree that nobody looked at yet and nothing skipped
 
@@ -83,9 +93,9 @@ module _ {T W O : Type 0} (observes : T → Observation → T → Type 0) (hears
     pub begins : Begins tree watcher old.tree.tree old.watcher
     pub verifies : VerifiesListing old new before after verified
 
--- The tree was listed with `--quick`, and otherwise read, with the limit and the matching of the options where formats are
--- compared.
+-- The tree was listed if moments are compared, and otherwise read, with the limit and the matching of the options where
+-- formats are compared.
 abbrev pub VerifiesAs : {T W O : Type 0} → (T → Observation → T → Type 0) → (W → Heard → W → Type 0) → (O → Option (List ℕ)) → Contents → VerifyOptions → Lists → T → W → O → O → Verified → Type 0
 VerifiesAs observes hears contents registry options lists tree watcher before after verified =
     let walk = walk_options (is_some lists.rows) options.limit options.match_all in
-    MatchBool options.quick (ListsTree observes hears contents registry walk lists tree watcher before after verified) (ReadsTree observes hears contents registry walk lists tree watcher before after verified)
+    MatchBool (by_moments lists.how) (ListsTree observes hears contents registry walk lists tree watcher before after verified) (ReadsTree observes hears contents registry walk lists tree watcher before after verified)

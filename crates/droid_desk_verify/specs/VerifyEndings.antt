@@ -5,7 +5,7 @@ use Rattle.droid_desk_comparison.specs.list_forms.list_content.UnreadList.TheVar
 use Rattle.droid_desk_comparison.specs.declared.tree_check.CheckFault.{CheckFault}
 use Rattle.droid_desk_comparison.specs.declared.tree_check.CheckFault.TheVariants as faults
 use Rattle.droid_desk_verify.specs.declared.verify_ending.VerifyEnding.{VerifyEnding}
-use Rattle.droid_desk_verify.specs.declared.verify_ending.VerifyEnding.TheVariants.{Same, Differing, NoFolder, Unopened, NoList, NoFormats, NoMemory, Numbers, Twice, Unwritten}
+use Rattle.droid_desk_verify.specs.declared.verify_ending.VerifyEnding.TheVariants.{Same, Differing, NoFolder, Unopened, NoList, HasHashes, NoFormats, NoMemory, Numbers, Twice, Unwritten}
 
 -- of a list that cannot be read
 abbrev pub unlisted : UnreadList → VerifyEnding
@@ -27,6 +27,7 @@ status_of Differing = 5
 status_of NoFolder = 4
 status_of (Unopened cause) = 3
 status_of (NoList fault) = 3
+status_of HasHashes = 3
 status_of NoFormats = 3
 status_of NoMemory = 4
 status_of Numbers = 4
@@ -40,6 +41,7 @@ fault_text Differing = None
 fault_text NoFolder = Some (codes "Folder")
 fault_text (Unopened cause) = Some (codes "Open")
 fault_text (NoList fault) = Some (codes "List")
+fault_text HasHashes = Some (codes "Hashes")
 fault_text NoFormats = Some (codes "Formats")
 fault_text NoMemory = Some (codes "Memory")
 fault_text Numbers = Some (codes "Numbers")

@@ -3,15 +3,15 @@
 ghost use Rattle.std.specs.Prelude.{◌≡◌, ◌++◌, IfOk, codes, string_bytes};
 ghost use Rattle.droid_desk_verify.specs.Lists.{is_identified, listed_folder};
 
-use crate::lists::{Lists, read_lists};
+use crate::lists::{Lists, measure_of, read_lists};
 use crate::verification::{ClearLine, Verified, verify_as};
 use crate::verify_ending::VerifyEnding;
 use droid_desk_arguments::VerifyOptions;
 use droid_desk_comparison::{
-    Folder, ListForm, ManifestForm, NamedRegistry, Registry, RegistryLine, Reporter, System,
-    Verbosity, is_folder,
+    Folder, Item, ListForm, ManifestForm, Measure, NamedRegistry, Registry, RegistryLine, Reporter,
+    Shown, System, Verbosity, is_folder,
 };
-use droid_frame::Noted;
+use droid_frame::{HashKind, NodeKind, Noted};
 use std::alloc::{AllocError, Global};
 use std::env::Env;
 use std::fs::{self, File, Files};
@@ -88,7 +88,11 @@ where
         return Err(VerifyEnding::NoMemory);
     };
     match fs::read(rt, options.against) {
-        Ok(text) => read_lists(rt.alloc(), in_bag, is_identified(options), text.as_slice()),
+        Ok(text) => {
+            let how = measure_of(options.quick, options.sizes_only);
+            let identify = is_identified(options);
+            read_lists(rt.alloc(), in_bag, how, identify, text.as_slice())
+        }
         Err(error) if error.kind() == ErrorKind::OutOfMemory => Err(VerifyEnding::NoMemory),
         Err(error) => Err(VerifyEnding::Unopened(error.kind())),
     }
@@ -124,6 +128,7 @@ where
     match folder_of(rt, options.folder, lists.listed.form) {
         Ok(tree) => {
             let alloc = rt.alloc();
+            warn_of_no_hash(rt, options, &lists);
             let reporter = Reporter::new(rt, alloc, verbosity);
             let mut output = Noted::new(io::writer(rt));
             let verified = verify_as(alloc, tree, reporter, &mut output, registry, options, lists);
@@ -131,6 +136,27 @@ where
         }
         Err(_) => VerifyEnding::NoMemory,
     }
+}
+
+/// Says before the walk, which may take long, that no file can be compared by its hash.
+fn warn_of_no_hash<R: Eprint>(rt: &R, options: VerifyOptions<'_>, lists: &Lists) {
+    if !options.quiet && has_no_hash(lists) {
+        let list = Shown(options.against.as_bytes());
+        let _ = eprintln!(rt;
+            "{list}: has no hash of any file: each will be unchecked; --sizes-only and --quick compare without"
+        );
+    }
+}
+
+/// Returns whether files are to be compared by their hashes, and the list has files and no hash.
+fn has_no_hash(lists: &Lists) -> bool {
+    lists.how == Measure::Hashes
+        && lists.listed.hash == HashKind::Nothing
+        && has_file(lists.listed.items.as_slice())
+}
+
+fn has_file(items: &[Item]) -> bool {
+    items.iter().any(|item| item.kind == NodeKind::File)
 }
 
 /// Returns the folder whose files the list names.

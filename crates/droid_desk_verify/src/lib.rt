@@ -2,6 +2,7 @@
 #![tactic(auto)]
 
 mod folder_check;
+pub mod laws;
 mod lists;
 mod outcome;
 mod verification;

@@ -1,9 +1,11 @@
-//! What a list says, and the formats that it gives files.
+//! What a list says, the formats that it gives files, and by what its files are compared.
 
-ghost use Rattle.droid_desk_verify.specs.Lists.{GivesLists, ListsSay};
+ghost use Rattle.std.specs.Prelude.{◌≡◌};
+ghost use Rattle.droid_desk_verify.specs.Lists.{GivesLists, ListsSay, may_measure, measure_of};
 
 use crate::verify_ending::VerifyEnding;
-use droid_desk_comparison::{FormatRow, Listed, read_formats, read_list};
+use droid_desk_comparison::{FormatRow, Listed, Measure, read_formats, read_list};
+use droid_frame::HashKind;
 use std::alloc::Global;
 
 /// What a list says.
@@ -13,20 +15,28 @@ pub struct Lists {
     pub listed: Listed,
     /// The formats that its rows give files, if they are compared.
     pub rows: Option<Vec<FormatRow>>,
+    /// By what its files are compared.
+    pub how: Measure,
 }
 
 /// Reads a list, and if formats are compared (`identify`) those of its rows. `in_bag` says whether the folder that it
-/// describes is a bag.
+/// describes is a bag, and `how` by what its files are to be compared: a list with a hash is not compared by sizes alone.
 pub fn read_lists(
     alloc: Global,
     in_bag: bool,
+    how: Measure,
     identify: bool,
     text: &[u8],
 ) -> Result<Lists, VerifyEnding>
-    ensures { ListsSay in_bag identify text.now result }
+    ensures { ListsSay in_bag how identify text.now result }
 {
     match read_list(alloc, in_bag, text) {
-        Ok(listed) => with_formats(alloc, identify, listed, text),
+        Ok(listed) => {
+            if !may_measure(how, listed.hash) {
+                return Err(VerifyEnding::HasHashes);
+            }
+            with_formats(alloc, how, identify, listed, text)
+        }
         Err(fault) => Err(VerifyEnding::unlisted(fault)),
     }
 }
@@ -34,14 +44,19 @@ pub fn read_lists(
 /// Reads the formats of a list, if they are compared. A list of checksums has none.
 fn with_formats(
     alloc: Global,
+    how: Measure,
     identify: bool,
     listed: Listed,
     text: &[u8],
 ) -> Result<Lists, VerifyEnding>
-    ensures { GivesLists identify listed text.now result }
+    ensures { GivesLists how identify listed text.now result }
 {
     if !identify {
-        return Ok(Lists { listed, rows: None });
+        return Ok(Lists {
+            listed,
+            rows: None,
+            how,
+        });
     }
     if listed.form.names_files_alone() {
         return Err(VerifyEnding::NoFormats);
@@ -50,7 +65,34 @@ fn with_formats(
         Ok(rows) => Ok(Lists {
             listed,
             rows: Some(rows),
+            how,
         }),
         Err(_) => Err(VerifyEnding::NoMemory),
+    }
+}
+
+/// Returns by what files are compared, as the options say.
+pub(crate) fn measure_of(quick: bool, sizes_only: bool) -> Measure
+    ensures { result ≡ measure_of quick sizes_only }
+{
+    match (quick, sizes_only) {
+        (true, _) => Measure::Moments,
+        (false, true) => Measure::Sizes,
+        (false, false) => Measure::Hashes,
+    }
+}
+
+/// Returns whether files may be compared so that have hashes of this kind: by sizes alone, only if they have none.
+fn may_measure(how: Measure, hash: HashKind) -> bool
+    ensures { result ≡ may_measure how hash }
+{
+    match how {
+        Measure::Hashes => true,
+        Measure::Sizes => match hash {
+            HashKind::Nothing => true,
+            HashKind::Md5 => false,
+            HashKind::Sha256 => false,
+        },
+        Measure::Moments => true,
     }
 }

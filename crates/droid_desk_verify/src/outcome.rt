@@ -6,8 +6,8 @@ ghost use Rattle.droid_desk_verify.specs.Outcomes.{HasFindings, IsOutcome, Repor
 
 use crate::verify_ending::VerifyEnding;
 use droid_desk_comparison::{
-    Checked, FileFormats, Finding, FormatChange, FormatRow, KindCounts, SkippedEntry, Summary,
-    bytes_in, files_in, findings_of, format_changes, report_text,
+    Checked, FileFormats, Finding, FormatChange, FormatRow, KindCounts, Measure, SkippedEntry,
+    Summary, compared_amount, findings_of, format_changes, report_text,
 };
 use droid_frame::{SteadyWrite, WriteState, write_all};
 use std::alloc::{AllocError, Global};
@@ -24,20 +24,20 @@ pub struct Outcome {
 }
 
 /// Returns what a comparison came to. `rows` are those of the list, if formats are compared, and `formats` those that were
-/// found. `quick` says that no file was read.
+/// found. `how` says by what files were compared.
 pub fn outcome_of(
     alloc: Global,
-    quick: bool,
+    how: Measure,
     rows: &Option<Vec<FormatRow>>,
     formats: &[FileFormats],
     checked: &Checked,
     unreadable: &[SkippedEntry],
 ) -> Result<Outcome, AllocError>
-    ensures { IfOk result (λ outcome. IsOutcome quick rows.now formats.now checked.now unreadable.now outcome) }
+    ensures { IfOk result (λ outcome. IsOutcome how rows.now formats.now checked.now unreadable.now outcome) }
 {
     let changes = changes_by(alloc, rows, formats)?;
-    let findings = findings_of(alloc, quick, checked, unreadable, changes.as_slice())?;
-    let outcome = outcome_by(alloc, quick, rows.is_some(), checked, findings.as_slice())?;
+    let findings = findings_of(alloc, how, checked, unreadable, changes.as_slice())?;
+    let outcome = outcome_by(alloc, how, rows.is_some(), checked, findings.as_slice())?;
     Ok(outcome)
 }
 
@@ -61,20 +61,20 @@ fn changes_by(
 /// Returns what a comparison with these findings came to.
 fn outcome_by(
     alloc: Global,
-    quick: bool,
+    how: Measure,
     identify: bool,
     checked: &Checked,
     findings: &[Finding],
 ) -> Result<Outcome, AllocError>
-    ensures { IfOk result (λ outcome. HasFindings quick identify checked.now findings.now outcome) }
+    ensures { IfOk result (λ outcome. HasFindings how identify checked.now findings.now outcome) }
 {
-    let found = checked.found.as_slice();
+    let amount = compared_amount(how, checked);
     let text = report_text(alloc, checked, findings)?;
     let summary = Summary {
-        quick,
+        how,
         identify,
-        files: files_in(found),
-        bytes: bytes_in(found),
+        files: amount.files,
+        bytes: amount.bytes,
         kinds: KindCounts::of(findings),
     };
     Ok(Outcome {

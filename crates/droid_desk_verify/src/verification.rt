@@ -11,8 +11,8 @@ use crate::verify_ending::VerifyEnding;
 use crate::verify_walk::walk_options;
 use droid_desk_arguments::VerifyOptions;
 use droid_desk_comparison::{
-    Checked, FileFormats, FormatRow, ItemKeeper, NotedFiles, Options, Profiler, Recorder, Registry,
-    SkippedEntry, Summary, Tree, Watcher, check_listing, check_tree,
+    Checked, FileFormats, FormatRow, ItemKeeper, Measure, NotedFiles, Options, Profiler, Recorder,
+    Registry, SkippedEntry, Summary, Tree, Watcher, by_moments, check_listing, check_tree,
 };
 use droid_frame::SteadyWrite;
 use std::alloc::Global;
@@ -32,8 +32,8 @@ pub struct Verified {
     pub summary: Option<Summary>,
 }
 
-/// Compares a tree with a list as the options say, and writes what differs: by the hashes of its files, or (`quick`) by their
-/// sizes and moments.
+/// Compares a tree with a list as the options and the list say, and writes what differs: by the hashes or sizes of its files, or
+/// by their sizes and moments, without reading one.
 pub fn verify_as<T: Tree + Drop, W: Watcher + ClearLine + Drop, O: SteadyWrite>(
     alloc: Global,
     tree: T,
@@ -43,19 +43,19 @@ pub fn verify_as<T: Tree + Drop, W: Watcher + ClearLine + Drop, O: SteadyWrite>(
     options: VerifyOptions<'_>,
     lists: Lists,
 ) -> Verified
-    // The tree is listed if that is asked for, and otherwise read; it is searched as the options say.
+    // The tree is listed if moments are compared, and otherwise read; it is searched as the options say.
     ensures verified { VerifiesAs T.observes W.hears O.contents registry.now options.entry lists tree watcher output.old output.new result }
     ensures stopped { (start : ℕ) → Counts start (O.seen output.old) 0 → ReportsUnwritten start (O.seen output.new) (O.room output.new) result.ending }
 {
     let walk = walk_options(lists.rows.is_some(), options.limit, options.match_all);
-    if options.quick {
+    if by_moments(lists.how) {
         list_files(alloc, tree, watcher, output, registry, walk, lists)
     } else {
         read_files(alloc, tree, watcher, output, registry, walk, lists)
     }
 }
 
-/// Compares a tree by the hashes of its files.
+/// Compares a tree by the hashes or sizes of its files.
 fn read_files<T: Tree + Drop, W: Watcher + ClearLine + Drop, O: SteadyWrite>(
     alloc: Global,
     tree: T,
@@ -122,13 +122,13 @@ pub fn verify_tree<T: Tree, W: Watcher + ClearLine, O: SteadyWrite>(
     ensures stopped { (start : ℕ) → Counts start (O.seen output.old) 0 → ReportsUnwritten start (O.seen output.new) (O.room output.new) result.ending }
 {
     let alloc = profiler.alloc;
-    let Lists { listed, rows } = lists;
+    let Lists { listed, rows, how } = lists;
     match check_tree(profiler, registry, options, listed, rows.is_some()) {
         Ok(checked) => {
             profiler.watcher.watcher.clear_line();
             let formats = profiler.recipient.formats.as_slice();
             let unreadable = profiler.watcher.skipped.as_slice();
-            finish(alloc, output, false, &rows, formats, &checked, unreadable)
+            finish(alloc, output, how, &rows, formats, &checked, unreadable)
         }
         Err(fault) => {
             profiler.watcher.watcher.clear_line();
@@ -151,14 +151,14 @@ pub fn verify_listing<T: Tree, W: Watcher + ClearLine, O: SteadyWrite>(
     ensures stopped { (start : ℕ) → Counts start (O.seen output.old) 0 → ReportsUnwritten start (O.seen output.new) (O.room output.new) result.ending }
 {
     let alloc = profiler.alloc;
-    let Lists { listed, .. } = lists;
+    let Lists { listed, how, .. } = lists;
     match check_listing(profiler, registry, options, listed) {
         Ok(checked) => {
             profiler.watcher.watcher.clear_line();
-            let rows: Option<Vec<FormatRow>> = None;
+            let none: Option<Vec<FormatRow>> = None;
             let formats = profiler.recipient.formats.as_slice();
             let unreadable = profiler.watcher.skipped.as_slice();
-            finish(alloc, output, true, &rows, formats, &checked, unreadable)
+            finish(alloc, output, how, &none, formats, &checked, unreadable)
         }
         Err(fault) => {
             profiler.watcher.watcher.clear_line();
@@ -171,16 +171,16 @@ pub fn verify_listing<T: Tree, W: Watcher + ClearLine, O: SteadyWrite>(
 fn finish<O: SteadyWrite>(
     alloc: Global,
     output: &mut O,
-    quick: bool,
+    how: Measure,
     rows: &Option<Vec<FormatRow>>,
     formats: &[FileFormats],
     checked: &Checked,
     unreadable: &[SkippedEntry],
 ) -> Verified
-    ensures finished { Finishes O.contents quick rows.now formats.now checked.now unreadable.now output.old output.new result }
+    ensures finished { Finishes O.contents how rows.now formats.now checked.now unreadable.now output.old output.new result }
     ensures stopped { (start : ℕ) → Counts start (O.seen output.old) 0 → ReportsUnwritten start (O.seen output.new) (O.room output.new) result.ending }
 {
-    match outcome_of(alloc, quick, rows, formats, checked, unreadable) {
+    match outcome_of(alloc, how, rows, formats, checked, unreadable) {
         Ok(outcome) => {
             let ending = write_outcome(output, &outcome);
             Verified {

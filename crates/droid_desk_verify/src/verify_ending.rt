@@ -9,9 +9,9 @@ use std::io::ErrorKind;
 /// How the comparison of a folder ends.
 #[derive(Drop)]
 pub enum VerifyEnding {
-    /// Nothing differs.
+    /// Nothing differs, and each file was compared.
     Same,
-    /// Something differs, or could not be read.
+    /// Something differs, could not be read, or was not compared.
     Differing,
     /// There is no such folder.
     NoFolder,
@@ -19,6 +19,8 @@ pub enum VerifyEnding {
     Unopened(ErrorKind),
     /// The list is none, for this reason. The reason is never [`UnreadList::Memory`].
     NoList(UnreadList),
+    /// The list has hashes, and sizes alone are to be compared.
+    HasHashes,
     /// The list gives files no formats, and formats are to be compared.
     NoFormats,
     /// Out of memory.
@@ -62,7 +64,10 @@ impl VerifyEnding {
         match self {
             VerifyEnding::Same => 0,
             VerifyEnding::Differing => 5,
-            VerifyEnding::Unopened(_) | VerifyEnding::NoList(_) | VerifyEnding::NoFormats => 3,
+            VerifyEnding::Unopened(_)
+            | VerifyEnding::NoList(_)
+            | VerifyEnding::HasHashes
+            | VerifyEnding::NoFormats => 3,
             VerifyEnding::NoFolder
             | VerifyEnding::NoMemory
             | VerifyEnding::Numbers
@@ -80,6 +85,7 @@ impl VerifyEnding {
             VerifyEnding::NoFolder => Some("Folder"),
             VerifyEnding::Unopened(_) => Some("Open"),
             VerifyEnding::NoList(_) => Some("List"),
+            VerifyEnding::HasHashes => Some("Hashes"),
             VerifyEnding::NoFormats => Some("Formats"),
             VerifyEnding::NoMemory => Some("Memory"),
             VerifyEnding::Numbers => Some("Numbers"),

@@ -8,7 +8,11 @@ use std::io::{self, ErrorKind};
 
 impl VerifyEnding {
     /// Prints the fault to standard error, and behind it a sentence that says what happened and what to do.
-    pub fn print<R: Files + Eprint>(&self, rt: &R, options: VerifyOptions<'_>) -> io::Result<()> {
+    pub fn print<R: Files + Eprint + AllocGlobal>(
+        &self,
+        rt: &R,
+        options: VerifyOptions<'_>,
+    ) -> io::Result<()> {
         let Some(name) = self.fault_name() else {
             return Ok(());
         };
@@ -20,6 +24,9 @@ impl VerifyEnding {
             VerifyEnding::NoFolder => print_no_folder(rt, options.folder),
             VerifyEnding::Unopened(kind) => print_unopened(rt, list, *kind),
             VerifyEnding::NoList(fault) => print_no_list(rt, list, fault),
+            VerifyEnding::HasHashes => {
+                eprintln!(rt; "{list}: has hashes: leave out --sizes-only, and they are compared")
+            }
             VerifyEnding::NoFormats => {
                 eprintln!(rt;
                     "{list}: a list of checksums has no formats: name the CSV of a profile, or leave out --identify"

@@ -1,3 +1,4 @@
+mod Files
 mod Merging
 mod Moves
 mod Order

@@ -109,7 +109,7 @@ pair_right {all = all} {others = others} {lost = lost} {came = came} s pair d (i
 -- ---- each difference is reported at a pair
 
 -- the item of the list at a pair
-one_item : (items : List Item) (k l : ℕ) (a b : Item) → Some k ≡ Some l → slice_get items k ≡ Some a → slice_get items l ≡ Some b → (k ≡ l) × (a ≡ b)
+pub one_item : (items : List Item) (k l : ℕ) (a b : Item) → Some k ≡ Some l → slice_get items k ≡ Some a → slice_get items l ≡ Some b → (k ≡ l) × (a ≡ b)
 one_item items k l a b place here there =
     let same : k ≡ l = cc in
     let again : slice_get items l ≡ Some a = subst (λ (n : ℕ). slice_get items n ≡ Some a) same here in
@@ -237,7 +237,7 @@ order_given_by : {Y : Type 0} (g : Y → List ℕ) (o : Option Y) (ys : List Y) 
 order_given_by g None ys one rest = rest
 order_given_by g (Some y) ys one rest = (one y refl, rest)
 
-order_given : {X Y : Type 0} (Q : X → Type 0) (h : X → List ℕ) (g : Y → List ℕ) (f : X → Option Y) (xs : List X) → ((x : X) (y : Y) → Q x → f x ≡ Some y → g y ≡ h x)
+pub order_given : {X Y : Type 0} (Q : X → Type 0) (h : X → List ℕ) (g : Y → List ℕ) (f : X → Option Y) (xs : List X) → ((x : X) (y : Y) → Q x → f x ≡ Some y → g y ≡ h x)
     → AllByRecursion Q xs → AreInOrder (map h xs) → AreInOrder (map g (filter_map f xs))
 order_given Q h g f [] same all order = tt
 order_given Q h g f (x ∷ xs) same all order =

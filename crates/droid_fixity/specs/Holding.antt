@@ -1,5 +1,5 @@
 -- For proofs: which items hold a hash, and the difference at a pair.
-use Rattle.std.specs.Prelude.{ℕ, Bool, false, List, [], ◌∷◌, Option, Some, None, filter, slice_get, if◌then◌else◌}
+use Rattle.std.specs.Prelude.{ℕ, Bool, false, ◌&&◌, List, [], ◌∷◌, Option, Some, None, filter, slice_get, if◌then◌else◌}
 use Rattle.std.specs.BTreeMap.{BTreeMap, get_by}
 use Rattle.std.specs.Option.{option_and_then, option_map_or}
 use Rattle.std.specs.Ordering.{nat_cmp}
@@ -12,6 +12,7 @@ use Rattle.droid_fixity.specs.declared.difference.Difference.TheVariants.{Change
 use Rattle.droid_fixity.specs.declared.item.Item.{Item}
 use Rattle.droid_fixity.specs.declared.holders.Holder.{Holder}
 use Rattle.droid_fixity.specs.declared.holders.Holder.TheVariants.{One, Many}
+use Rattle.droid_fixity.specs.declared.pair.FilePair.{FilePair}
 use Rattle.droid_fixity.specs.declared.pair.Pair.{Pair}
 use Rattle.droid_fixity.specs.declared.pair.Pair.TheVariants.{Both, Listed, Found}
 
@@ -91,3 +92,17 @@ abbrev pub difference_at : List Item → List Item → (List ℕ → Option Hold
 difference_at listed found missing new (Both l f) = both_by (slice_get listed l) (slice_get found f) l f
 difference_at listed found missing new (Listed l) = option_and_then (λ item. or_missing (move_of listed found missing new item) l) (slice_get listed l)
 difference_at listed found missing new (Found f) = option_and_then (λ item. or_new (move_of listed found missing new item) f) (slice_get found f)
+
+-- the files at a pair, if both have one
+abbrev pub pair_at : ℕ → ℕ → FilePair
+pair_at l f = record { listed = l; found = f }
+
+abbrev pub pair_if : Option Item → Option Item → ℕ → ℕ → Option FilePair
+pair_if None b l f = None
+pair_if (Some a) None l f = None
+pair_if (Some a) (Some b) l f = if is_file a.kind && is_file b.kind then Some (pair_at l f) else None
+
+abbrev pub file_pair : List Item → List Item → Pair → Option FilePair
+file_pair listed found (Both l f) = pair_if (slice_get listed l) (slice_get found f) l f
+file_pair listed found (Listed l) = None
+file_pair listed found (Found f) = None

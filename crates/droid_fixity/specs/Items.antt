@@ -34,6 +34,21 @@ other_moment None b = false
 abbrev pub other_hash : HashValue → HashValue → Bool
 other_hash x y = (hash_kind_number (hash_value_kind x) == hash_kind_number (hash_value_kind y)) && not (bytes_eq (hash_bytes x) (hash_bytes y))
 
+-- whether both items have a hash, of one kind: only then their bytes can be compared
+abbrev pub both_hashed : Item → Item → Bool
+both_hashed a b =
+    not (hash_kind_number (hash_value_kind a.hash) == 0)
+    && (hash_kind_number (hash_value_kind a.hash) == hash_kind_number (hash_value_kind b.hash))
+
+-- whether both items have a length
+abbrev pub both_known : Option ℕ → Option ℕ → Bool
+both_known (Some x) (Some y) = true
+both_known (Some x) None = false
+both_known None b = false
+
+abbrev pub both_sized : Item → Item → Bool
+both_sized a b = both_known a.length b.length
+
 -- what differs between an item and an item of the same path
 abbrev pub changes_between : Item → Item → Changes
 changes_between a b = record {

@@ -70,6 +70,23 @@ impl Item {
             && self.hash.as_slice() != found.hash.as_slice()
     }
 
+    /// Returns whether both items have a hash, of one kind. Only then their bytes can be compared.
+    pub fn both_hashed(&self, found: &Item) -> bool
+        ensures { result ≡ items.both_hashed self.now found.now }
+    {
+        self.hash.kind().number() != 0 && self.hash.kind().number() == found.hash.kind().number()
+    }
+
+    /// Returns whether both items have a length.
+    pub fn both_sized(&self, found: &Item) -> bool
+        ensures { result ≡ items.both_sized self.now found.now }
+    {
+        match (self.length, found.length) {
+            (Some(_), Some(_)) => true,
+            _ => false,
+        }
+    }
+
     /// Returns whether both items have a moment and the moments differ.
     pub fn has_other_moment(&self, found: &Item) -> bool
         ensures { result ≡ items.other_moment self.now.modified found.now.modified }

@@ -9,10 +9,13 @@ mod inventory;
 mod item;
 mod laws;
 mod pair;
+mod path;
 mod report;
 
 pub use difference::Difference;
 pub use inventory::{Inventory, SamePath};
 pub use item::{Changes, Item};
 pub use laws::same_items_have_no_difference;
+pub use pair::{FilePair, file_pairs};
+pub use path::is_file_path;
 pub use report::compare;

@@ -1,15 +1,25 @@
 //! The merge of two inventories by path.
 
-ghost use Rattle.std.specs.Prelude.{◌≡◌, ◌<◌, IfOk, slice_get};
+ghost use Rattle.std.specs.Prelude.{◌≡◌, ◌<◌, ◌++◌, IfOk, OnOk, filter_map, option_copied, option_to_list, slice_get};
 ghost use Rattle.std.specs.Ordering.{nat_cmp};
 ghost use Rattle.std.specs.Cmp.Lexicographic.{slice_cmp};
-ghost use Rattle.droid_fixity.specs.Holding.{only_found, only_listed};
+ghost use Rattle.droid_fixity.specs.FilePairs.{AreFilePairs};
+ghost use Rattle.droid_fixity.specs.Holding.{file_pair, only_found, only_listed, pair_if};
 ghost use Rattle.droid_fixity.specs.Pairing.{Merges, found_after, listed_after, pair_by, pair_of};
 
 use crate::inventory::Inventory;
-use crate::item::Item;
+use crate::item::{Item, is_file};
 use std::alloc::{AllocError, Global};
 use std::cmp::Ordering;
+
+/// The places of a file that a list and the items found have under one path.
+#[derive(Clone, Copy, PartialEq, Eq)]
+pub struct FilePair {
+    /// Its place in the list.
+    pub listed: usize,
+    /// Its place among the items found.
+    pub found: usize,
+}
 
 /// A path, by the places of its items.
 #[derive(Clone, Copy)]
@@ -115,5 +125,74 @@ fn pair_by(item: &Item, other: &Item, listed_at: usize, found_at: usize) -> Pair
         Ordering::Less => Pair::Listed(listed_at),
         Ordering::Equal => Pair::Both(listed_at, found_at),
         Ordering::Greater => Pair::Found(found_at),
+    }
+}
+
+/// Pairs the files that a list and the items found have under one path, in the order of the paths. Fails only if memory
+/// runs out. The cost grows with the number of items.
+pub fn file_pairs(
+    alloc: Global,
+    listed: &Inventory,
+    found: &Inventory,
+) -> Result<Vec<FilePair>, AllocError>
+    ensures { IfOk result (λ files. AreFilePairs listed.now found.now files.items) }
+{
+    let pairs = pairs_of(alloc, listed, found)?;
+    let files = files_among(alloc, listed.as_slice(), found.as_slice(), pairs.as_slice())?;
+    Ok(files)
+}
+
+/// Returns the files at these pairs.
+fn files_among(
+    alloc: Global,
+    listed: &[Item],
+    found: &[Item],
+    pairs: &[Pair],
+) -> Result<Vec<FilePair>, AllocError>
+    ensures { IfOk result (λ files. files.items ≡ filter_map (file_pair listed.now found.now) pairs.now) }
+{
+    let mut files = Vec::new(alloc);
+    for pair in pairs {
+        note_file(&mut files, file_pair(listed, found, *pair))?;
+    }
+    Ok(files)
+}
+
+/// Adds a file, if there is one.
+fn note_file(files: &mut Vec<FilePair>, file: Option<FilePair>) -> Result<(), AllocError>
+    ensures { OnOk result (files.new.items ≡ files.old.items ++ option_to_list file) }
+{
+    if let Some(file) = file {
+        files.push(file)?;
+    }
+    Ok(())
+}
+
+/// Returns the files at a pair, if both sides have one.
+fn file_pair(listed: &[Item], found: &[Item], pair: Pair) -> Option<FilePair>
+    ensures { result ≡ file_pair listed.now found.now pair }
+{
+    match pair {
+        Pair::Both(before, after) => pair_if(listed.get(before), found.get(after), before, after),
+        Pair::Listed(_) => None,
+        Pair::Found(_) => None,
+    }
+}
+
+/// Returns the pair of two items, if both are files.
+fn pair_if(
+    item: Option<&Item>,
+    other: Option<&Item>,
+    listed: usize,
+    found: usize,
+) -> Option<FilePair>
+    ensures { result ≡ pair_if (option_copied item.entry) (option_copied other.entry) listed found }
+{
+    let item = item?;
+    let other = other?;
+    if is_file(item.kind) && is_file(other.kind) {
+        Some(FilePair { listed, found })
+    } else {
+        None
     }
 }

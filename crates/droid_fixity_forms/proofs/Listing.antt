@@ -28,10 +28,13 @@ manifest_comes expected items result is comes = subst (λ (e : Result (List Item
 pub profile_fails : (expected : Result (List Item) ListFault) (fault : ListFault) → (fault ≢ list.Memory → expected ≡ Err fault) → Comes (of_profile expected) (Err (profile_fault fault))
 profile_fails expected list.Memory gives = tt
 profile_fails expected list.Header gives = ap of_profile (gives (λ e. cc e))
-profile_fails expected (list.Record number) gives = ap of_profile (gives (λ e. cc e))
+profile_fails expected (list.Fields number) gives = ap of_profile (gives (λ e. cc e))
+profile_fails expected (list.Column number column) gives = ap of_profile (gives (λ e. cc e))
+profile_fails expected (list.Contradiction number column) gives = ap of_profile (gives (λ e. cc e))
 
 pub manifest_fails : (expected : Result (List Item) ManifestFault) (fault : ManifestFault) → (fault ≢ manifest.Memory → expected ≡ Err fault) → Comes (of_manifest expected) (Err (manifest_fault fault))
 manifest_fails expected manifest.Memory gives = tt
+manifest_fails expected manifest.Empty gives = ap of_manifest (gives (λ e. cc e))
 manifest_fails expected (manifest.Line line) gives = ap of_manifest (gives (λ e. cc e))
 manifest_fails expected (manifest.Path line) gives = ap of_manifest (gives (λ e. cc e))
 manifest_fails expected (manifest.Digest line) gives = ap of_manifest (gives (λ e. cc e))

@@ -1,4 +1,5 @@
 -- the definitions of the crates below, re-exported
+pub use Rattle.droid_fixity.specs.FilePairs
 pub use Rattle.droid_fixity.specs.Inventories
 pub use Rattle.droid_fixity.specs.Items
 pub use Rattle.droid_fixity.specs.Reports

@@ -1,10 +1,11 @@
 -- Which form a list of files has (this project's own): it is seen from its first line.
-use Rattle.std.specs.Prelude.{ℕ, ◌==◌, ◌||◌, Bool, true, false, not, List, [], ◌∷◌, take, length, Option, Some, None, Result, Ok, Err, codes, if◌then◌else◌}
+use Rattle.std.specs.Prelude.{ℕ, ◌==◌, ◌||◌, Bool, true, false, not, List, take, length, Option, Some, None, Result, Ok, Err, codes, if◌then◌else◌}
 use Rattle.std.specs.List.{position}
 use Rattle.std.specs.Option.{is_some}
 use Rattle.droid_fixity.specs.declared.item.Item.{Item}
 use Rattle.droid_fixity_manifest.specs.Lists.{items_of}
-use Rattle.droid_fixity_manifest.specs.Paths.{behind, or_all}
+use Rattle.droid_fixity_manifest.specs.Paths.{behind}
+use Rattle.droid_fixity_manifest.specs.Texts.{without_mark}
 use Rattle.droid_fixity_manifest.specs.declared.form.ManifestForm.{ManifestForm}
 use Rattle.droid_fixity_manifest.specs.declared.form.ManifestForm.TheVariants.{Checksums, Bag}
 use Rattle.droid_fixity_manifest.specs.declared.list_fault.ManifestFault.{ManifestFault}
@@ -15,10 +16,6 @@ use Rattle.droid_fixity_forms.specs.declared.list_form.ListForm.TheVariants.{Pro
 abbrev pub begins : List ℕ → List ℕ → Bool
 begins front text = is_some (behind front text)
 
--- a text without a byte order mark in front
-abbrev pub without_mark : List ℕ → List ℕ
-without_mark text = or_all text (behind (239 ∷ 187 ∷ 191 ∷ []) text)
-
 -- a profile's CSV begins with the name of its first column
 abbrev pub is_profile : List ℕ → Bool
 is_profile text = begins (codes "\"ID\",") (without_mark text) || begins (codes "ID,") (without_mark text)
@@ -28,9 +25,9 @@ abbrev pub front_by : List ℕ → Option ℕ → List ℕ
 front_by text None = text
 front_by text (Some place) = take place text
 
--- the first line, without its line feed
+-- the first line, without what ends it; a line of a bag may end in a carriage return
 abbrev pub first_line : List ℕ → List ℕ
-first_line text = front_by text (position (λ b. b == 10) text)
+first_line text = front_by text (position (λ b. (b == 10) || (b == 13)) text)
 
 -- whether there are items
 abbrev pub has_items : Result (List Item) ManifestFault → Bool

@@ -38,10 +38,13 @@ of_manifest (Err fault) = Err (faults.Manifest fault)
 abbrev pub profile_fault : ListFault → UnreadList
 profile_fault list.Memory = faults.Memory
 profile_fault list.Header = faults.Profile list.Header
-profile_fault (list.Record number) = faults.Profile (list.Record number)
+profile_fault (list.Fields number) = faults.Profile (list.Fields number)
+profile_fault (list.Column number column) = faults.Profile (list.Column number column)
+profile_fault (list.Contradiction number column) = faults.Profile (list.Contradiction number column)
 
 abbrev pub manifest_fault : ManifestFault → UnreadList
 manifest_fault manifest.Memory = faults.Memory
+manifest_fault manifest.Empty = faults.Manifest manifest.Empty
 manifest_fault (manifest.Line line) = faults.Manifest (manifest.Line line)
 manifest_fault (manifest.Path line) = faults.Manifest (manifest.Path line)
 manifest_fault (manifest.Digest line) = faults.Manifest (manifest.Digest line)

@@ -6,7 +6,9 @@
 mod list_content;
 mod list_form;
 
-pub use droid_fixity::{Changes, Difference, Inventory, Item, SamePath, compare};
+pub use droid_fixity::{
+    Changes, Difference, FilePair, Inventory, Item, SamePath, compare, file_pairs,
+};
 pub use droid_fixity_lists::ListFault;
 pub use droid_fixity_manifest::{ManifestFault, ManifestForm};
 pub use list_content::{Listed, UnreadList, read_list};

@@ -16,9 +16,9 @@ use std::alloc::{AllocError, Global};
 pub enum UnreadList {
     /// Out of memory.
     Memory,
-    /// The CSV is malformed. The reason is never [`ListFault::Memory`].
+    /// The CSV is malformed or contradicts itself. The reason is never [`ListFault::Memory`].
     Profile(ListFault),
-    /// The list of checksums is malformed. The reason is never [`ManifestFault::Memory`].
+    /// The list of checksums is malformed or names no file. The reason is never [`ManifestFault::Memory`].
     Manifest(ManifestFault),
     /// Two items have this path.
     Twice(SamePath),
@@ -96,7 +96,9 @@ fn profile_fault(fault: ListFault) -> UnreadList
     match fault {
         ListFault::Memory => UnreadList::Memory,
         ListFault::Header => UnreadList::Profile(fault),
-        ListFault::Record { .. } => UnreadList::Profile(fault),
+        ListFault::Fields { .. } => UnreadList::Profile(fault),
+        ListFault::Column { .. } => UnreadList::Profile(fault),
+        ListFault::Contradiction { .. } => UnreadList::Profile(fault),
     }
 }
 
@@ -120,6 +122,7 @@ fn manifest_fault(fault: ManifestFault) -> UnreadList
 {
     match fault {
         ManifestFault::Memory => UnreadList::Memory,
+        ManifestFault::Empty => UnreadList::Manifest(fault),
         ManifestFault::Line { .. } => UnreadList::Manifest(fault),
         ManifestFault::Path { .. } => UnreadList::Manifest(fault),
         ManifestFault::Digest { .. } => UnreadList::Manifest(fault),

@@ -1,12 +1,12 @@
 //! The form of a list of files.
 
-ghost use Rattle.std.specs.Prelude.{◌≡◌, ◌==◌, IfOk, option_map};
+ghost use Rattle.std.specs.Prelude.{◌≡◌, ◌==◌, ◌||◌, IfOk, option_map};
 ghost use Rattle.std.specs.List.{position};
 ghost use Rattle.droid_fixity_manifest.specs.Lists.{items_of};
 ghost use Rattle.droid_fixity_manifest.specs.Paths.{behind};
 ghost use Rattle.droid_fixity_forms.specs.ListForms as forms;
 
-use droid_fixity_manifest::{ManifestFault, ManifestForm, read_manifest};
+use droid_fixity_manifest::{ManifestFault, ManifestForm, read_manifest, without_mark};
 use std::alloc::{AllocError, Global};
 
 /// The form of a list of files.
@@ -49,16 +49,6 @@ fn is_profile(text: &[u8]) -> bool
     let quoted: &[u8] = b"\"ID\",";
     let plain: &[u8] = b"ID,";
     begins(quoted, text) || begins(plain, text)
-}
-
-/// Returns a text without a byte order mark in front.
-fn without_mark(text: &[u8]) -> &[u8]
-    ensures { result.now ≡ forms.without_mark text.now }
-{
-    match behind(b"\xef\xbb\xbf".as_slice(), text) {
-        Some(rest) => rest,
-        None => text,
-    }
 }
 
 /// Returns whether a text begins with these bytes.
@@ -109,25 +99,27 @@ fn is_of_bag(alloc: Global, line: &[u8]) -> Result<bool, AllocError>
     match read_manifest(alloc, ManifestForm::Bag, line) {
         Ok(items) => Ok(!items.as_slice().is_empty()),
         Err(ManifestFault::Memory) => Err(AllocError),
+        Err(ManifestFault::Empty) => Ok(false),
         Err(ManifestFault::Line { .. }) => Ok(false),
         Err(ManifestFault::Path { .. }) => Ok(false),
         Err(ManifestFault::Digest { .. }) => Ok(false),
     }
 }
 
-/// Returns the first line, without its line feed.
+/// Returns the first line, without what ends it.
 fn first_line(text: &[u8]) -> &[u8]
     ensures { result.now ≡ forms.first_line text.now }
 {
-    match first_feed(text) {
+    match first_end(text) {
         Some(place) => &text[..place],
         None => text,
     }
 }
 
-/// Returns the place of the first line feed.
-fn first_feed(text: &[u8]) -> Option<usize>
-    ensures { result ≡ position (λ b. b == 10) text.now }
+/// Returns the place of the first line feed or carriage return.
+fn first_end(text: &[u8]) -> Option<usize>
+    ensures { result ≡ position (λ b. (b == 10) || (b == 13)) text.now }
 {
-    text.iter().position(|byte| *byte == b'\n')
+    text.iter()
+        .position(|byte| *byte == b'\n' || *byte == b'\r')
 }

@@ -7,49 +7,50 @@ use Rattle.csv.specs.declared.parser.State.TheVariants as st
 use Rattle.droid_frame.specs.types.hash_kind.HashKind.{HashKind}
 use Rattle.droid_fixity.specs.declared.item.Item.{Item}
 use Rattle.droid_fixity_lists.specs.PlainRows.{after_header}
-use Rattle.droid_fixity_lists.specs.Profiles.{Draft, after, digest_of_header, item_of, items_from, profile_of, repeats, taken, with_header, with_item, with_row}
+use Rattle.droid_fixity_lists.specs.Profiles.{Draft, Rows, after, digest_of_header, entry_of, items_from, judged, no_rows, profile_of, repeats, taken, after_rows, with_entry, with_header, with_row}
 use Rattle.droid_fixity_lists.specs.declared.fault.ListFault.{ListFault}
+use Rattle.droid_fixity_lists.specs.declared.fault.RowFault.{RowFault}
+use Rattle.droid_fixity_lists.specs.declared.row.Entry.{Entry}
 use Rattle.droid_fixity_lists.proofs.Reading.{Left, more_by, none_by}
 
 -- a draft after some rows
-abbrev pub draft_with : HashKind → ℕ → List Item → Option (List (List ℕ)) → Draft
-draft_with digest n items last = record { digest = Some digest; records = n; items = items; last = last }
+abbrev pub draft_with : HashKind → ℕ → Rows → Option (List (List ℕ)) → Draft
+draft_with digest n rows last = record { digest = Some digest; records = n; rows = rows; last = last }
 
--- the rows so far come to these items
-abbrev pub Comes : HashKind → List ℕ → List ℕ → List Item → Option (List (List ℕ)) → Type 0
-Comes digest text rest items last = (records : List (List (List ℕ))) → AreRecords default_config st.StartRecord text records
-    → (n : ℕ) × Left st.StartRecord rest (draft_with digest n items last) (items_from (after_header digest) records)
+-- n records, the header among them, come to these rows
+abbrev pub Comes : HashKind → List ℕ → List ℕ → ℕ → Rows → Option (List (List ℕ)) → Type 0
+Comes digest text rest n rows last = (records : List (List (List ℕ))) → AreRecords default_config st.StartRecord text records
+    → Left st.StartRecord rest (draft_with digest n rows last) (items_from (after_header digest) records)
 
-pub comes_first : (digest : HashKind) (text : List ℕ) → Comes digest text text [] None
-comes_first digest text = λ records are. (1, (records, are, refl))
+pub comes_first : (digest : HashKind) (text : List ℕ) → Comes digest text text 1 no_rows None
+comes_first digest text = λ records are. (records, are, refl)
 
-row_left : (digest : HashKind) (n : ℕ) (items : List Item) (last : Option (List (List ℕ))) (fields : List (List ℕ)) (item : Item) (text rest : List ℕ) (whole : Result (List Item) ListFault)
-    → next_record default_config st.StartRecord [] [] text ≡ Some (fields, st.StartRecord, rest) → item_of digest fields ≡ Some item
-    → Left st.StartRecord text (draft_with digest n items last) whole
-    → Left st.StartRecord rest (draft_with digest (n + 1) (with_item items item (repeats last fields)) (Some fields)) whole
-row_left digest n items last fields item text rest whole next is left =
-    let more = more_by default_config st.StartRecord text left.0 (fields, st.StartRecord, rest) next left.1 in
-    let draft = draft_with digest n items last in
-    let here : taken draft fields ≡ Ok (draft_with digest (n + 1) (with_item items item (repeats last fields)) (Some fields)) =
-    ap (with_row draft fields) is in (
+-- a row that is read leaves the rows with one more
+row_taken : (draft : Draft) (fields : List (List ℕ)) (entry : Entry) (rows : Rows) (read : Result Entry RowFault) → read ≡ Ok entry
+    → with_entry (draft.records + 1) draft.rows entry (repeats draft.last fields) ≡ Ok rows
+    → with_row draft fields read ≡ Ok (record { digest = draft.digest; records = draft.records + 1; rows = rows; last = Some fields })
+row_taken draft fields entry rows read is more = ap (with_row draft fields) is ∙ ap (after_rows draft fields) more
+
+pub comes_more : (digest : HashKind) (whole text rest : List ℕ) (n : ℕ) (rows : Rows) (last : Option (List (List ℕ))) (fields : List (List ℕ)) (entry : Entry) (next : Rows)
+    → next_record default_config st.StartRecord [] [] text ≡ Some (fields, st.StartRecord, rest) → entry_of digest fields ≡ Ok entry
+    → with_entry (n + 1) rows entry (repeats last fields) ≡ Ok next
+    → Comes digest whole text n rows last → Comes digest whole rest (n + 1) next (Some fields)
+comes_more digest whole text rest n rows last fields entry next read is with comes = λ records are.
+    let left = comes records are in
+    let more = more_by default_config st.StartRecord text left.0 (fields, st.StartRecord, rest) read left.1 in
+    let draft = draft_with digest n rows last in
+    let here : taken draft fields ≡ Ok (draft_with digest (n + 1) next (Some fields)) = row_taken draft fields entry next (entry_of digest fields) is with in (
       more.0,
       more.2,
       left.2 ∙ (ap (items_from draft) more.1 ∙ ap (λ (r : Result Draft ListFault). after r (λ one. items_from one more.0)) here),
     )
 
-pub comes_more : (digest : HashKind) (whole text rest : List ℕ) (items : List Item) (last : Option (List (List ℕ))) (fields : List (List ℕ)) (item : Item)
-    → next_record default_config st.StartRecord [] [] text ≡ Some (fields, st.StartRecord, rest) → item_of digest fields ≡ Some item
-    → Comes digest whole text items last → Comes digest whole rest (with_item items item (repeats last fields)) (Some fields)
-comes_more digest whole text rest items last fields item next is comes = λ records are.
-    let so_far = comes records are in
-    (so_far.0 + 1, row_left digest so_far.0 items last fields item text rest (items_from (after_header digest) records) next is so_far.1)
-
-pub comes_to : (digest : HashKind) (text : List ℕ) (items : List Item) (last : Option (List (List ℕ))) (records : List (List (List ℕ)))
-    → Comes digest text [] items last → AreRecords default_config st.StartRecord text records → items_from (after_header digest) records ≡ Ok items
+pub comes_to : (digest : HashKind) (text : List ℕ) (n : ℕ) (rows : Rows) (last : Option (List (List ℕ))) (items : List Item) (records : List (List (List ℕ)))
+    → judged n rows ≡ Ok items → Comes digest text [] n rows last → AreRecords default_config st.StartRecord text records → items_from (after_header digest) records ≡ Ok items
 unfolding next_record
-comes_to digest text items last records comes are =
-    let left = (comes records are).1 in
-    left.2 ∙ ap (items_from (draft_with digest (comes records are).0 items last)) (none_by default_config st.StartRecord [] left.0 refl left.1)
+comes_to digest text n rows last items records is comes are =
+    let left = comes records are in
+    left.2 ∙ (ap (items_from (draft_with digest n rows last)) (none_by default_config st.StartRecord [] left.0 refl left.1) ∙ is)
 
 pub nothing_in : (text : List ℕ) → length text ≡ 0 → text ≡ []
 nothing_in [] none = refl

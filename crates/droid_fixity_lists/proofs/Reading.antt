@@ -85,7 +85,7 @@ left_fault a b y fields n draft fault whole step left =
     left.2 ∙ (ap (items_from draft) more.1 ∙ ap (λ (r : Result Draft ListFault). after r (λ one. items_from one more.0)) here)
 
 pub left_end : (a b : Reader (Bor (List ℕ))) (y : List ℕ) (fields : List (List ℕ)) (draft : Draft) (whole : Result (List Item) ListFault)
-    → a.config ≡ default_config → source_of rest_of a ≡ Some y → ReadRecord rest_of a b false fields → Left a.state y draft whole → whole ≡ finished draft.digest draft.items
+    → a.config ≡ default_config → source_of rest_of a ≡ Some y → ReadRecord rest_of a b false fields → Left a.state y draft whole → whole ≡ finished draft.digest draft.records draft.rows
 left_end a b y fields draft whole config source reads left =
     let none = none_by default_config a.state y left.0 (rows-end rest_of a b fields default_config y config source reads) left.1 in
     left.2 ∙ ap (items_from draft) none

@@ -1,10 +1,10 @@
 -- Rows whose fields all stand between double quotes and have none in them, as in most rows that this program writes
 -- (docs/CSV.md).
-use Rattle.std.specs.Prelude.{◌≡◌, ℕ, ◌==◌, Bool, true, not, List, [], ◌∷◌, ◌++◌, map, Some, None}
+use Rattle.std.specs.Prelude.{◌≡◌, ℕ, ◌==◌, Bool, true, not, List, ◌∷◌, ◌++◌, map, Some, None}
 use Rattle.std.specs.Borrow.{Bor}
 use Rattle.std.specs.List.{list_all}
 use Rattle.droid_frame.specs.types.hash_kind.HashKind.{HashKind}
-use Rattle.droid_fixity_lists.specs.Profiles.{Draft}
+use Rattle.droid_fixity_lists.specs.Profiles.{Draft, no_rows}
 
 -- a double quote
 abbrev pub is_quote : ℕ → Bool
@@ -24,4 +24,4 @@ fields_in fields = map (λ field. field.now) fields
 
 -- what was read when only the header was
 abbrev pub after_header : HashKind → Draft
-after_header digest = record { digest = Some digest; records = 1; items = []; last = None }
+after_header digest = record { digest = Some digest; records = 1; rows = no_rows; last = None }

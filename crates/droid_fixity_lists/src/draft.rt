@@ -1,17 +1,18 @@
 //! A list that is being read.
 
-ghost use Rattle.std.specs.Prelude.{◌≡◌, OnOk, Some};
+ghost use Rattle.std.specs.Prelude.{◌≡◌, Some};
 ghost use Rattle.std.specs.Option.{option_copied, option_map};
 ghost use Rattle.csv.specs.Records.{fields_of};
 ghost use Rattle.droid_fixity_lists.specs.Profiles as profiles;
 
-use crate::fault::ListFault;
+use crate::fault::{ListFault, fault_at};
 use crate::header::digest_of_header;
-use crate::row::{Row, item_of};
+use crate::row::{Row, entry_of};
+use crate::rows::Rows;
 use csv::ByteRecord;
 use droid_fixity::Item;
 use droid_frame::HashKind;
-use std::alloc::{AllocError, Global};
+use std::alloc::Global;
 use std::mem;
 
 /// What was read so far.
@@ -19,7 +20,7 @@ use std::mem;
 pub(crate) struct Draft {
     digest: Option<HashKind>,
     records: u64,
-    items: Vec<Item>,
+    rows: Rows,
     last: Option<ByteRecord>,
 }
 
@@ -34,7 +35,7 @@ impl Draft {
         Draft {
             digest: None,
             records: 0,
-            items: Vec::new(alloc),
+            rows: Rows::new(alloc),
             last: None,
         }
     }
@@ -56,7 +57,7 @@ impl Draft {
             Some(digest) => {
                 self.digest = Some(digest);
                 self.records = 1;
-                self.items = Vec::new(alloc);
+                self.rows = Rows::new(alloc);
                 self.last = None;
                 Ok(())
             }
@@ -70,31 +71,36 @@ impl Draft {
         digest: HashKind,
         row: &mut ByteRecord,
     ) -> Result<(), ListFault>
-        ensures { Leaves result (draft_of self.new) (profiles.with_row (draft_of self.old) (fields_of row.old) (profiles.item_of digest (fields_of row.old))) }
+        ensures { Leaves result (draft_of self.new) (profiles.with_row (draft_of self.old) (fields_of row.old) (profiles.entry_of digest (fields_of row.old))) }
     {
         // No memory holds that many records.
         let Some(record) = self.records.checked_add(1) else {
             return Err(ListFault::Memory);
         };
-        match item_of(alloc, digest, row)? {
-            Some(item) => {
+        match entry_of(alloc, digest, row)? {
+            Ok(entry) => {
                 let repeated = repeats(self.last.as_ref(), row);
-                note_item(&mut self.items, item, repeated)?;
+                self.rows.take(record, entry, repeated)?;
                 self.records = record;
                 keep_last(alloc, &mut self.last, row);
                 Ok(())
             }
-            None => Err(ListFault::Record { record }),
+            Err(fault) => Err(fault_at(record, fault)),
         }
     }
 
     /// Returns the items.
-    pub(crate) fn finish(self) -> Result<Vec<Item>, ListFault>
-        ensures { Gives result (finished (draft_of self).digest (draft_of self).items) }
+    pub(crate) fn finish(self, alloc: Global) -> Result<Vec<Item>, ListFault>
+        ensures { Gives result (finished (draft_of self).digest (draft_of self).records (draft_of self).rows) }
     {
-        let Draft { digest, items, .. } = self;
+        let Draft {
+            digest,
+            records,
+            rows,
+            ..
+        } = self;
         match digest {
-            Some(_) => Ok(items),
+            Some(_) => rows.judge(alloc, records),
             None => Err(ListFault::Header),
         }
     }
@@ -108,17 +114,6 @@ fn keep_last(alloc: Global, last: &mut Option<ByteRecord>, row: &mut ByteRecord)
         Some(last) => mem::swap(last, row),
         None => *last = Some(mem::replace(row, ByteRecord::new(alloc))),
     }
-}
-
-/// Adds an item, unless its row repeats the row before it.
-pub(crate) fn note_item(items: &mut Vec<Item>, item: Item, repeated: bool) -> Result<(), AllocError>
-    ensures { OnOk result (items.new.items ≡ profiles.with_item items.old.items item repeated) }
-{
-    if repeated {
-        return Ok(());
-    }
-    items.push(item)?;
-    Ok(())
 }
 
 /// The columns that all rows of a file share: all but PUID, MIME_TYPE, FORMAT_NAME and FORMAT_VERSION, which come last.

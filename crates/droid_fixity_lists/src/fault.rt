@@ -1,11 +1,13 @@
 //! Why a list cannot be read.
 
 ghost use Rattle.std.specs.Prelude.{◌≡◌};
+ghost use Rattle.droid_fixity_lists.specs.Profiles.{fault_at};
 
+use crate::column::Column;
 use std::alloc::AllocError;
 use thiserror::Error;
 
-/// Why a list cannot be read.
+/// Why a list cannot be read. A record's number counts from 1, which the names of the columns have.
 #[derive(Clone, Copy, Debug, PartialEq, Eq, Error)]
 pub enum ListFault {
     /// Out of memory.
@@ -14,11 +16,27 @@ pub enum ListFault {
     /// The list does not begin with the names of a profile's columns.
     #[error("the first record is not that of a profile")]
     Header,
-    /// A record is malformed.
-    #[error("record {record} is malformed")]
-    Record {
-        /// Its number. The record with the names of the columns has number 1.
+    /// A record has more fields, or fewer, than a profile has columns.
+    #[error("record {record} does not have 18 fields")]
+    Fields {
+        /// Its number.
         record: u64,
+    },
+    /// A field is malformed, or its row contradicts itself.
+    #[error("record {record}: {} is wrong", .column.name())]
+    Column {
+        /// The number of the first such record.
+        record: u64,
+        /// The first such column.
+        column: Column,
+    },
+    /// A record contradicts another one.
+    #[error("record {record}: {} contradicts another record", .column.name())]
+    Contradiction {
+        /// The number of the first record that contradicts one before it.
+        record: u64,
+        /// The column.
+        column: Column,
     },
 }
 
@@ -29,5 +47,27 @@ impl From<AllocError> for ListFault {
 
     fn from(_error: AllocError) -> ListFault {
         ListFault::Memory
+    }
+}
+
+/// What is wrong with a row.
+#[derive(Clone, Copy)]
+pub(crate) enum RowFault {
+    /// It does not have 18 fields.
+    Fields,
+    /// A field is malformed, or contradicts another field.
+    Column(Column),
+}
+
+/// Returns the fault of a list whose record of this number has such a row.
+pub(crate) fn fault_at(number: u64, fault: RowFault) -> ListFault
+    ensures { result ≡ fault_at number fault }
+{
+    match fault {
+        RowFault::Fields => ListFault::Fields { record: number },
+        RowFault::Column(column) => ListFault::Column {
+            record: number,
+            column,
+        },
     }
 }

@@ -1,22 +1,78 @@
 //! The fields of a row.
 
-ghost use Rattle.std.specs.Prelude.{◌≡◌, ◌==◌, IsAscii, IsTrue, Ok, length};
+ghost use Rattle.std.specs.Prelude.{◌≡◌, ◌∷◌, IsTrue, Ok, Some, bytes_eq, length};
 ghost use Rattle.hex.specs.Hex.{decode_sized};
 ghost use Rattle.std.specs.Char.{is_ascii_digit};
 ghost use Rattle.std.specs.List.{list_all};
+ghost use Rattle.std.specs.Option.{option_map};
 ghost use Rattle.droid_fixity_lists.specs.Fields as fields;
 
+use crate::column::Column;
+use crate::moment::is_moment;
+use droid_fixity::is_file_path;
 use droid_frame::{HashKind, HashValue, NodeKind};
 use hex::FromHex;
 
-/// Returns whether a field is a path: it begins with `/`.
-pub(crate) fn is_path(text: &[u8]) -> bool
-    ensures { result ≡ fields.is_path text.now }
+/// Reads an ID: a number from 1 to 2^32 - 1.
+pub(crate) fn id_of(text: &[u8]) -> Option<u32>
+    ensures { result ≡ fields.id_of text.now }
 {
-    match text.first() {
-        Some(first) => *first == b'/',
+    match number_of(text) {
+        Some(number) => id_by(number),
+        None => None,
+    }
+}
+
+fn id_by(number: u64) -> Option<u32>
+    ensures { result ≡ fields.id_by (Some number) }
+{
+    if 0 < number && number < 4_294_967_296 {
+        Some(number as u32)
+    } else {
+        None
+    }
+}
+
+/// Reads the ID of the folder above. Nothing stands for 0, the top.
+pub(crate) fn parent_of(text: &[u8]) -> Option<u32>
+    ensures { result ≡ fields.parent_of text.now }
+{
+    if text.is_empty() {
+        return Some(0);
+    }
+    id_of(text)
+}
+
+/// Reads the path of a folder or file.
+pub(crate) fn path_of(text: &[u8]) -> Option<&[u8]>
+    ensures { option_map (λ path. path.now) result ≡ fields.path_of text.now }
+{
+    if is_file_path(text) { Some(text) } else { None }
+}
+
+/// Returns the path above, if a path ends in `/` and this name.
+pub(crate) fn above_of<'a>(path: &'a [u8], name: &[u8]) -> Option<&'a [u8]>
+    ensures { option_map (λ above. above.now) result ≡ fields.above_of path.now name.now }
+{
+    let (above, last) = path.split_at(path.len().saturating_sub(name.len() + 1));
+    let ends = has_no_slash(name) && is_last(last, name);
+    if ends { Some(above) } else { None }
+}
+
+/// Returns whether a text is `/` and this name.
+fn is_last(text: &[u8], name: &[u8]) -> bool
+    ensures { result ≡ bytes_eq text.now (47 ∷ name.now) }
+{
+    match text.split_first() {
+        Some((first, rest)) => *first == b'/' && rest == name,
         None => false,
     }
+}
+
+fn has_no_slash(name: &[u8]) -> bool
+    ensures { result ≡ fields.has_no_slash name.now }
+{
+    name.iter().all(|byte| *byte != b'/')
 }
 
 /// Reads the kind of an item: `File` or `Folder`.
@@ -48,7 +104,7 @@ pub(crate) fn length_of(kind: NodeKind, text: &[u8]) -> Option<Option<u64>>
 }
 
 /// Reads a number in decimal digits.
-fn number_of(text: &[u8]) -> Option<u64>
+pub fn number_of(text: &[u8]) -> Option<u64>
     ensures { result ≡ fields.number_of text.now }
 {
     if !are_digits(text) {
@@ -66,7 +122,7 @@ fn are_digits(text: &[u8]) -> bool
     text.iter().all(|c| c.is_ascii_digit())
 }
 
-/// Reads a moment: 19 bytes, or nothing.
+/// Reads a moment, or nothing.
 pub(crate) fn moment_of(text: &[u8]) -> Option<Option<[u8; 19]>>
     ensures { result ≡ fields.moment_of text.now }
 {
@@ -74,8 +130,38 @@ pub(crate) fn moment_of(text: &[u8]) -> Option<Option<[u8; 19]>>
         return Some(None);
     }
     match <[u8; 19]>::try_from(text) {
-        Ok(moment) => Some(Some(moment)),
+        Ok(moment) => {
+            if is_moment(&moment) {
+                Some(Some(moment))
+            } else {
+                None
+            }
+        }
         Err(_) => None,
+    }
+}
+
+/// Reads how many rows an item has: for a file one for each format, or one; nothing stands for the one of a folder.
+pub(crate) fn rows_of(kind: NodeKind, text: &[u8]) -> Option<u64>
+    ensures { result ≡ fields.rows_of kind text.now }
+{
+    match kind {
+        NodeKind::File => match number_of(text) {
+            Some(count) => Some(count.max(1)),
+            None => None,
+        },
+        NodeKind::Folder => { if text.is_empty() { Some(1) } else { None } }
+    }
+}
+
+/// Returns the column of a kind of hash.
+pub(crate) fn hash_column(digest: HashKind) -> Column
+    ensures { result ≡ fields.hash_column digest }
+{
+    match digest {
+        HashKind::Nothing => Column::Hash,
+        HashKind::Md5 => Column::Md5Hash,
+        HashKind::Sha256 => Column::Sha256Hash,
     }
 }
 

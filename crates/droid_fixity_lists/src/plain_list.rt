@@ -1,15 +1,17 @@
 //! Lists whose rows are all plain.
 
-ghost use Rattle.std.specs.Prelude.{◌≡◌, ℕ, List, [], Some, Ok, IfOk, IfSome};
+ghost use Rattle.std.specs.Prelude.{◌≡◌, ℕ, List, None, Ok, IfOk, IfSome};
 ghost use Rattle.csv.specs.Reading.{AreRecords, default_config, strip_bom};
 ghost use Rattle.csv.specs.declared.parser.State.TheVariants as st;
 ghost use Rattle.droid_fixity_lists.specs.PlainRows.{after_header};
 ghost use Rattle.droid_fixity_lists.specs.Profiles.{items_from, profile_of};
 
-use crate::draft::{note_item, repeats};
+use crate::draft::repeats;
+use crate::fault::ListFault;
 use crate::header::digest_of_header;
 use crate::plain_row::PlainRow;
-use crate::row::item_of;
+use crate::row::entry_of;
+use crate::rows::Rows;
 use droid_fixity::Item;
 use droid_frame::HashKind;
 use std::alloc::{AllocError, Global};
@@ -39,20 +41,40 @@ fn items_of_rows(
 ) -> Result<Option<Vec<Item>>, AllocError>
     ensures { IfOk result (λ found. IfSome found (λ items. (records : List (List (List ℕ))) → AreRecords default_config st.StartRecord text.now records → items_from (after_header digest) records ≡ Ok items.items)) }
 {
-    let mut items = Vec::new(alloc);
+    let mut rows = Rows::new(alloc);
+    let mut records: u64 = 1;
     let mut last = None;
     let mut rest = text;
     while !rest.is_empty() {
         let Some((row, behind)) = PlainRow::first(rest) else {
             return Ok(None);
         };
-        let Some(item) = item_of(alloc, digest, &row)? else {
+        let Some(record) = records.checked_add(1) else {
+            return Ok(None);
+        };
+        let Ok(entry) = entry_of(alloc, digest, &row)? else {
             return Ok(None);
         };
         let repeated = repeats(last.as_ref(), &row);
-        note_item(&mut items, item, repeated)?;
+        if let Err(fault) = rows.take(record, entry, repeated) {
+            return none_unless_memory(fault);
+        }
+        records = record;
         last = Some(row);
         rest = behind;
     }
-    Ok(Some(items))
+    match rows.judge(alloc, records) {
+        Ok(items) => Ok(Some(items)),
+        Err(fault) => none_unless_memory(fault),
+    }
+}
+
+/// Returns no items, since `csv` then reads the list again and names the fault, unless memory ran out.
+fn none_unless_memory(fault: ListFault) -> Result<Option<Vec<Item>>, AllocError>
+    ensures { IfOk result (λ found. found ≡ None) }
+{
+    match fault {
+        ListFault::Memory => Err(AllocError),
+        _ => Ok(None),
+    }
 }

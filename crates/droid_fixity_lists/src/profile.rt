@@ -16,8 +16,10 @@ use std::alloc::Global;
 
 /// Reads the CSV of a profile or of an export, with any of the three hash columns. docs/CSV.md describes it.
 ///
-/// A row whose columns are the same as those of the row before it, but for the last four, the format's, adds no item. An
-/// error names the first malformed record. A field of a hash may be empty. A list whose fields all stand between double
+/// A row whose columns are the same as those of the row before it, but for the last four, the format's, adds no item: a file
+/// has as many rows, one behind the other, as FORMAT_COUNT says, or one. An error names the first malformed record and its
+/// first wrong column. If all are well-formed, it names the first record that contradicts one before it: no two items have one
+/// ID, and no folder has two numbers. A field of a hash may be empty. A list whose fields all stand between double
 /// quotes and have none in them takes the least time.
 pub fn read_profile(alloc: Global, text: &[u8]) -> Result<Vec<Item>, ListFault>
     // The result is that of the records that `csv` reads, unless memory runs out.
@@ -36,7 +38,7 @@ pub fn read_profile(alloc: Global, text: &[u8]) -> Result<Vec<Item>, ListFault>
     for _ in 0..u64::MAX {
         match reader.read_byte_record(&mut row) {
             Err(error) => return Err(csv_fault(error)),
-            Ok(false) => return draft.finish(),
+            Ok(false) => return draft.finish(alloc),
             Ok(true) => {
                 if let Err(fault) = draft.take(alloc, &mut row) {
                     return Err(fault);

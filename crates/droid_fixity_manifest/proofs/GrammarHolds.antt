@@ -1,16 +1,18 @@
 -- A line that is read is in the grammar.
 use Rattle.std.proofs.Common.{◌≡◌, ◌∙◌, ℕ, ◌==◌, ◌&&◌, ◌||◌, Bool, true, false, not, cond, List, [], ◌∷◌, ◌++◌, length, take, drop, Option, Some, None, unwrap_or, codes, inl, inr, ◌⊎◌, refl, sym, ap, subst}
 use Rattle.std.specs.List.{list_all, position}
+use Rattle.std.specs.Option.{option_or}
 use Rattle.std.specs.Str.{bytes_eq}
 use Rattle.std.proofs.lemmas.Bool.{and_from, and_parts, eqb-true, or_cases}
 use Rattle.std.proofs.lemmas.List.{take-append-drop}
 use Rattle.std.proofs.lemmas.Slice.Eq.{bytes_eq-Decides}
 use Rattle.droid_frame.specs.types.hash_value.HashValue.{HashValue}
 use Rattle.droid_frame.specs.types.hash_value.HashValue.TheVariants as values
+use Rattle.droid_fixity.specs.Paths.{is_plain}
 use Rattle.droid_fixity_manifest.specs.Digests.{hash_of}
-use Rattle.droid_fixity_manifest.specs.Grammar.{AreGaps, IsBagLine, IsEscapedLine, IsLine, IsMark, IsPlainLine, MayStand, NamesFile}
-use Rattle.droid_fixity_manifest.specs.Lines.{bag_entry, behind_gaps, behind_mark, checksum_entry, cut, cut_at_gap, entry_of, escapes_of, file_item, is_blank, is_gap, is_no_gap, meaning, meaning_by_bytes, meaning_by_entry, meaning_by_text, without_backslash, without_star}
-use Rattle.droid_fixity_manifest.specs.Paths.{behind, below, is_plain, or_all, without_dot}
+use Rattle.droid_fixity_manifest.specs.Grammar.{AreGaps, IsBagLine, IsEscapedLine, IsEscapedTagLine, IsLine, IsMark, IsPlainLine, IsTagLine, MayStand, NamesFile}
+use Rattle.droid_fixity_manifest.specs.Lines.{bag_entry, behind_gaps, behind_mark, checksum_entry, cut, cut_at_gap, entry_of, escapes_of, file_item, is_blank, is_gap, is_no_gap, meaning, meaning_by_bytes, meaning_by_entry, meaning_by_text, plain_entry, tag_entry, without_backslash, without_star}
+use Rattle.droid_fixity_manifest.specs.Paths.{behind, below, or_all, without_dot}
 use Rattle.droid_fixity_manifest.specs.Spellings.{◌>>=◌, decoded, spelled, unescaped}
 use Rattle.droid_fixity_manifest.specs.declared.form.Escapes.{Escapes}
 use Rattle.droid_fixity_manifest.specs.declared.form.Escapes.TheVariants as escapes
@@ -20,6 +22,7 @@ use Rattle.droid_fixity_manifest.specs.declared.line_content.Meaning.{Meaning}
 use Rattle.droid_fixity_manifest.specs.declared.line_content.Meaning.TheVariants as meanings
 use Rattle.droid_fixity_manifest.proofs.Cuts.{IsCut, cut_parts, none_pass}
 use Rattle.droid_fixity_manifest.proofs.GrammarRead.{bag_entry_is, bag_parts_by}
+use Rattle.droid_fixity_manifest.proofs.TagLines.{HasEntry, HasTag, behind_is, has_entry}
 use Rattle.droid_fixity_manifest.proofs.Tests.{false_true}
 use Rattle.droid_fixity_manifest.proofs.WrittenLines.{entry_is, parts_by}
 
@@ -117,15 +120,6 @@ dot_by false text is = ([], (inr refl, refl))
 
 has_dot : (text : List ℕ) → HasDot text
 has_dot text = dot_by (bytes_eq (take 2 text) (codes "./")) text refl
-
-behind_by : (test : Bool) (front text rest : List ℕ) → bytes_eq (take (length front) text) front ≡ test → cond test (Some (drop (length front) text)) None ≡ Some rest → text ≡ front ++ rest
-behind_by true front text rest is some =
-    let same : drop (length front) text ≡ rest = ap (λ (o : Option (List ℕ)). unwrap_or o []) some in
-    front_is front text is ∙ ap (λ (r : List ℕ). front ++ r) same
-behind_by false front text rest is some = absurd cc
-
-behind_is : (front text rest : List ℕ) → behind front text ≡ Some rest → text ≡ front ++ rest
-behind_is front text rest is = behind_by (bytes_eq (take (length front) text) front) front text rest refl is
 
 -- ---- the parts of a line of `md5sum`
 
@@ -235,24 +229,77 @@ escaped_by line text rest name hash parts inside spells =
       spells = spells;
     }
 
-line_by_backslash : (test : Bool) (b : ℕ) (line text rest name : List ℕ) (hash : HashValue) (how : Escapes) → (b == 92) ≡ test
+plain_by_backslash : (test : Bool) (b : ℕ) (line text rest name : List ℕ) (hash : HashValue) (how : Escapes) → (b == 92) ≡ test
     → parts_by (cond test escapes.Backslash escapes.Nothing) (cut_at_gap (cond test line (b ∷ line))) ≡ Some (hash, how, text) → below Checksums text ≡ Some rest → spelled how rest ≡ Some name
     → IsPlainLine (b ∷ line) hash name ⊎ IsEscapedLine (b ∷ line) hash name
-line_by_backslash true b line text rest name hash how is entry inside spells =
+plain_by_backslash true b line text rest name hash how is entry inside spells =
     let all = has_parts line text hash escapes.Backslash how entry in
     let escaped = escaped_by line text rest name hash all.parts inside (ap (λ (h : Escapes). spelled h rest) all.same ∙ spells) in
     inr (subst (λ (k : ℕ). IsEscapedLine (k ∷ line) hash name) (sym (eqb-true b 92 is)) escaped)
-line_by_backslash false b line text rest name hash how is entry inside spells =
+plain_by_backslash false b line text rest name hash how is entry inside spells =
     let all = has_parts (b ∷ line) text hash escapes.Nothing how entry in
     inl (checksum_by (b ∷ line) text rest name hash all.parts inside (ap (λ (h : Escapes). spelled h rest) all.same ∙ spells))
 
-checksum_line : (line text rest name : List ℕ) (hash : HashValue) (how : Escapes) → checksum_entry line ≡ Some (hash, how, text) → below Checksums text ≡ Some rest → spelled how rest ≡ Some name
+plain_line : (line text rest name : List ℕ) (hash : HashValue) (how : Escapes) → plain_entry line ≡ Some (hash, how, text) → below Checksums text ≡ Some rest → spelled how rest ≡ Some name
     → IsPlainLine line hash name ⊎ IsEscapedLine line hash name
-checksum_line [] text rest name hash how entry inside spells =
+plain_line [] text rest name hash how entry inside spells =
     let all = has_parts [] text hash escapes.Nothing how (sym (entry_is []) ∙ entry) in
     inl (checksum_by [] text rest name hash all.parts inside (ap (λ (h : Escapes). spelled h rest) all.same ∙ spells))
-checksum_line (b ∷ line) text rest name hash how entry inside spells =
-    line_by_backslash (b == 92) b line text rest name hash how refl (sym (entry_is (b ∷ line)) ∙ entry) inside spells
+plain_line (b ∷ line) text rest name hash how entry inside spells =
+    plain_by_backslash (b == 92) b line text rest name hash how refl (sym (entry_is (b ∷ line)) ∙ entry) inside spells
+
+-- the same of the lines of `--tag`
+tag_by : (line text rest name : List ℕ) (hash : HashValue) → HasTag line hash text → below Checksums text ≡ Some rest → spelled escapes.Nothing rest ≡ Some name → IsTagLine line hash name
+tag_by line text rest name hash parts inside spells =
+    let dot = has_dot text in
+    let named : without_dot text ≡ name = ap (λ (o : Option (List ℕ)). unwrap_or o []) inside ∙ ap (λ (o : Option (List ℕ)). unwrap_or o []) spells in
+    record {
+      tag = parts.tag;
+      digits = parts.digits;
+      dot = dot.0;
+      whole = parts.whole ∙ ap (λ (t : List ℕ). parts.tag ++ (t ++ (codes ") = " ++ parts.digits))) (dot.1.1 ∙ ap (λ (t : List ℕ). dot.0 ++ t) named);
+      tagged = parts.is;
+      dotted = dot.1.0;
+    }
+
+escaped_tag_by : (line text rest name : List ℕ) (hash : HashValue) → HasTag line hash text → below Checksums text ≡ Some rest → spelled escapes.Backslash rest ≡ Some name
+    → IsEscapedTagLine (92 ∷ line) hash name
+escaped_tag_by line text rest name hash parts inside spells =
+    let dot = has_dot text in
+    let same : without_dot text ≡ rest = ap (λ (o : Option (List ℕ)). unwrap_or o []) inside in
+    record {
+      tag = parts.tag;
+      digits = parts.digits;
+      dot = dot.0;
+      text = rest;
+      whole = ap (λ (l : List ℕ). 92 ∷ l) (parts.whole ∙ ap (λ (t : List ℕ). parts.tag ++ (t ++ (codes ") = " ++ parts.digits))) (dot.1.1 ∙ ap (λ (t : List ℕ). dot.0 ++ t) same));
+      tagged = parts.is;
+      dotted = dot.1.0;
+      spells = spells;
+    }
+
+tag_by_backslash : (test : Bool) (b : ℕ) (line text rest name : List ℕ) (hash : HashValue) (how : Escapes) → (b == 92) ≡ test
+    → HasTag (cond test line (b ∷ line)) hash text → cond test escapes.Backslash escapes.Nothing ≡ how → below Checksums text ≡ Some rest → spelled how rest ≡ Some name
+    → IsTagLine (b ∷ line) hash name ⊎ IsEscapedTagLine (b ∷ line) hash name
+tag_by_backslash true b line text rest name hash how is parts same inside spells =
+    let escaped = escaped_tag_by line text rest name hash parts inside (ap (λ (h : Escapes). spelled h rest) same ∙ spells) in
+    inr (subst (λ (k : ℕ). IsEscapedTagLine (k ∷ line) hash name) (sym (eqb-true b 92 is)) escaped)
+tag_by_backslash false b line text rest name hash how is parts same inside spells =
+    inl (tag_by (b ∷ line) text rest name hash parts inside (ap (λ (h : Escapes). spelled h rest) same ∙ spells))
+
+tag_line : (line text rest name : List ℕ) (hash : HashValue) (how : Escapes) → HasEntry line hash text how → below Checksums text ≡ Some rest → spelled how rest ≡ Some name
+    → IsTagLine line hash name ⊎ IsEscapedTagLine line hash name
+tag_line [] text rest name hash how has inside spells = inl (tag_by [] text rest name hash has.parts inside (ap (λ (h : Escapes). spelled h rest) has.same ∙ spells))
+tag_line (b ∷ line) text rest name hash how has inside spells = tag_by_backslash (b == 92) b line text rest name hash how refl has.parts has.same inside spells
+
+line_by_entry : (line text rest name : List ℕ) (hash : HashValue) (how : Escapes) (plain : Option (HashValue × Escapes × List ℕ)) → plain_entry line ≡ plain
+    → option_or plain (tag_entry line) ≡ Some (hash, how, text) → below Checksums text ≡ Some rest → spelled how rest ≡ Some name → IsLine Checksums line hash name
+line_by_entry line text rest name hash how (Some parts) plain entry inside spells = inl (plain_line line text rest name hash how (plain ∙ entry) inside spells)
+line_by_entry line text rest name hash how None plain entry inside spells = inr (tag_line line text rest name hash how (has_entry line text hash how entry) inside spells)
+
+checksum_line : (line text rest name : List ℕ) (hash : HashValue) (how : Escapes) → checksum_entry line ≡ Some (hash, how, text) → below Checksums text ≡ Some rest → spelled how rest ≡ Some name
+    → IsLine Checksums line hash name
+checksum_line line text rest name hash how entry inside spells = line_by_entry line text rest name hash how (plain_entry line) refl entry inside spells
 
 -- ---- the parts of a line of a bag
 

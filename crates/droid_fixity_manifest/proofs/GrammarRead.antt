@@ -8,10 +8,11 @@ use Rattle.hex.specs.Hex.{decode_sized, is_hex_digit}
 use Rattle.hex.specs.declared.FromHexError.{FromHexError}
 use Rattle.hex.proofs.HexLemmas.{IsOk-decode_sized}
 use Rattle.droid_frame.specs.types.hash_value.HashValue.{HashValue}
+use Rattle.droid_fixity.specs.Paths.{is_plain}
 use Rattle.droid_fixity_manifest.specs.Digests.{hash_of, md5_by, md5_of, sha256_by, sha256_of}
-use Rattle.droid_fixity_manifest.specs.Grammar.{AreGaps, IsBagLine, IsEscapedLine, IsLine, IsPlainLine, MayStand, NamesFile}
+use Rattle.droid_fixity_manifest.specs.Grammar.{AreGaps, IsBagLine, IsEscapedLine, IsEscapedTagLine, IsLine, IsPlainLine, IsTagLine, MayStand, NamesFile}
 use Rattle.droid_fixity_manifest.specs.Lines.{bag_entry, behind_gaps, cut, cut_at_gap, entry_of, file_item, is_blank, is_gap, is_no_gap, meaning, meaning_by_bytes, meaning_by_entry, meaning_by_text, without_star}
-use Rattle.droid_fixity_manifest.specs.Paths.{below, is_plain, without_dot}
+use Rattle.droid_fixity_manifest.specs.Paths.{below, without_dot}
 use Rattle.droid_fixity_manifest.specs.Spellings.{◌>>=◌, decoded, onto, unescaped, unescaped_from}
 use Rattle.droid_fixity_manifest.specs.declared.form.Escapes.{Escapes}
 use Rattle.droid_fixity_manifest.specs.declared.form.Escapes.TheVariants as escapes
@@ -19,19 +20,13 @@ use Rattle.droid_fixity_manifest.specs.declared.form.ManifestForm.{ManifestForm}
 use Rattle.droid_fixity_manifest.specs.declared.form.ManifestForm.TheVariants.{Bag, Checksums}
 use Rattle.droid_fixity_manifest.specs.declared.line_content.Meaning.TheVariants as meanings
 use Rattle.droid_fixity_manifest.proofs.Cuts.{cut_found, none_pass}
+use Rattle.droid_fixity_manifest.proofs.Digits.{md5_ok, sha256_ok}
 use Rattle.droid_fixity_manifest.proofs.EscapedPaths.{alone, dot_is_no_name, is_dotless, plain_dotless}
+use Rattle.droid_fixity_manifest.proofs.TagLines.{escaped_tag_says, tag_says}
 use Rattle.droid_fixity_manifest.proofs.Tests.{false_true}
 use Rattle.droid_fixity_manifest.proofs.WrittenLines.{AreDigits, begins_plain, escaped_says, no_dot, no_gaps, plain_bytes, plain_says}
 
 -- ---- what stands for a hash is digits
-
-md5_ok : (hash : HashValue) (r : Result (List ℕ) FromHexError) → md5_by r ≡ Some hash → IsOk r
-md5_ok hash (Ok digest) is = refl
-md5_ok hash (Err fault) is = absurd cc
-
-sha256_ok : (hash : HashValue) (r : Result (List ℕ) FromHexError) → sha256_by r ≡ Some hash → IsOk r
-sha256_ok hash (Ok digest) is = refl
-sha256_ok hash (Err fault) is = absurd cc
 
 digits_by : (short long : Bool) (digits : List ℕ) (hash : HashValue) → cond short (md5_of digits) (cond long (sha256_of digits) None) ≡ Some hash → list_all is_hex_digit digits ≡ true
 digits_by true long digits hash is = list_all-from_AllPass is_hex_digit digits (((IsOk-decode_sized digits 16).0 (md5_ok hash (decode_sized digits 16) is)).1)
@@ -80,6 +75,24 @@ escaped_named line name hash is plain =
       | inr none ↦ rw none (no_dot is.text (spelled_dotless is.text name is.spells plain))
     ] in
     ap (meaning Checksums) is.whole ∙ escaped_says is.digits (is.dot ++ is.text) name is.mark hash are is.marked (ap unescaped dotted ∙ is.spells) plain
+
+-- ---- lines of `md5sum --tag`
+
+tag_named : (line name : List ℕ) (hash : HashValue) → IsTagLine line hash name → is_plain name ≡ true → meaning Checksums line ≡ meanings.File (file_item hash (47 ∷ name))
+tag_named line name hash is plain =
+    let dotted : without_dot (is.dot ++ name) ≡ name = elim is.dotted [
+      | inl dot ↦ rw dot refl
+      | inr none ↦ rw none (no_dot name (plain_dotless name plain))
+    ] in
+    ap (meaning Checksums) is.whole ∙ tag_says is.tag is.digits (is.dot ++ name) name hash is.tagged dotted plain
+
+escaped_tag_named : (line name : List ℕ) (hash : HashValue) → IsEscapedTagLine line hash name → is_plain name ≡ true → meaning Checksums line ≡ meanings.File (file_item hash (47 ∷ name))
+escaped_tag_named line name hash is plain =
+    let dotted : without_dot (is.dot ++ is.text) ≡ is.text = elim is.dotted [
+      | inl dot ↦ rw dot refl
+      | inr none ↦ rw none (no_dot is.text (spelled_dotless is.text name is.spells plain))
+    ] in
+    ap (meaning Checksums) is.whole ∙ escaped_tag_says is.tag is.digits (is.dot ++ is.text) name hash is.tagged (ap unescaped dotted ∙ is.spells) plain
 
 -- ---- lines of a bag
 
@@ -139,8 +152,14 @@ bag_named line name hash is plain =
 by_form : (form : ManifestForm) (line name : List ℕ) (hash : HashValue) → IsLine form line hash name → is_plain name ≡ true → meaning form line ≡ meanings.File (file_item hash (47 ∷ name))
 by_form Checksums line name hash is plain =
     elim is [
-      | inl one ↦ plain_named line name hash one plain
-      | inr other ↦ escaped_named line name hash other plain
+      | inl untagged ↦ elim untagged [
+        | inl one ↦ plain_named line name hash one plain
+        | inr other ↦ escaped_named line name hash other plain
+      ]
+      | inr tagged ↦ elim tagged [
+        | inl one ↦ tag_named line name hash one plain
+        | inr other ↦ escaped_tag_named line name hash other plain
+      ]
     ]
 by_form Bag line name hash is plain = bag_named line name hash is plain
 

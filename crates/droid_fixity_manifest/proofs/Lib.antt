@@ -1,6 +1,7 @@
 mod ClearBytes
 mod Cuts
 mod Decoding
+mod Digits
 mod EscapedPaths
 mod Fronts
 mod GrammarHolds
@@ -9,6 +10,8 @@ mod OneKind
 mod Meanings
 mod ReadBack
 mod Reading
+mod TagLines
 mod Tests
 mod Unescaping
+mod Unpairing
 mod WrittenLines

@@ -1,13 +1,14 @@
 -- The digests of a list are of one kind.
 use Rattle.std.proofs.Common.{◌≡◌, ◌∙◌, ℕ, ◌+◌, ◌==◌, Bool, true, false, cond, List, [], ◌∷◌, ◌++◌, Result, Ok, Err, refl, sym, ap, subst}
 use Rattle.std.specs.Prelude.{IsTrue}
-use Rattle.std.specs.List.{AllByRecursion, slice_split}
+use Rattle.std.specs.List.{AllByRecursion}
 use Rattle.std.specs.Result.{result_unwrap_or}
 use Rattle.std.proofs.lemmas.Bool.{eq-eqb}
 use Rattle.droid_frame.specs.Hashes.{hash_kind_number, hash_value_kind}
 use Rattle.droid_fixity.specs.declared.item.Item.{Item}
 use Rattle.droid_fixity_manifest.specs.Lines.{meaning, without_return}
-use Rattle.droid_fixity_manifest.specs.Lists.{HaveOneKind, after, is_alike, items_from, items_of, same_kind, taken}
+use Rattle.droid_fixity_manifest.specs.Lists.{HaveOneKind, after, is_alike, items_from, items_of, same_kind, some_items, taken}
+use Rattle.droid_fixity_manifest.specs.Texts.{lines_in}
 use Rattle.droid_fixity_manifest.specs.declared.form.ManifestForm.{ManifestForm}
 use Rattle.droid_fixity_manifest.specs.declared.list_fault.ManifestFault.{ManifestFault}
 use Rattle.droid_fixity_manifest.specs.declared.list_fault.ManifestFault.TheVariants as faults
@@ -45,5 +46,10 @@ kind_from form number items (line ∷ lines) all each is =
     let step = onward (taken number items what) (λ more. items_from form (number + 1) more lines) all is in
     kind_from form (number + 1) step.0 lines all (kept number items step.0 what each step.1.0) step.1.1
 
+some_is : (found : Result (List Item) ManifestFault) (items : List Item) → some_items found ≡ Ok items → found ≡ Ok items
+some_is (Ok []) items is = absurd cc
+some_is (Ok (first ∷ rest)) items is = is
+some_is (Err fault) items is = absurd cc
+
 pub one_kind : (form : ManifestForm) (text : List ℕ) (items : List Item) → items_of form text ≡ Ok items → HaveOneKind items
-one_kind form text items is = kind_from form 1 [] (slice_split (λ b. b == 10) text) items tt is
+one_kind form text items is = kind_from form 1 [] (lines_in form text) items tt (some_is (items_from form 1 [] (lines_in form text)) items is)

@@ -1,6 +1,7 @@
 -- What a line says that was written.
 use Rattle.std.proofs.Common.{◌≡◌, ◌∙◌, ◌<◌, ℕ, ◌+◌, ◌*◌, ◌==◌, ◌&&◌, ◌||◌, Bool, true, false, not, List, [], ◌∷◌, ◌++◌, length, take, drop, Option, Some, None, codes, if◌then◌else◌, inl, inr, refl, sym, ap, arith, append_assoc}
 use Rattle.std.specs.List.{list_all, list_any}
+use Rattle.std.specs.Option.{option_or}
 use Rattle.std.specs.Str.{bytes_eq}
 use Rattle.std.proofs.lemmas.Bool.{and_from, and_parts, eqb-true, not-true, or_from}
 use Rattle.std.proofs.lemmas.List.Sums.{list_all-from_AllPass}
@@ -9,10 +10,11 @@ use Rattle.hex.proofs.HexLemmas.{decode_of-encode_lower, decode_of-ok, decode_si
 use Rattle.droid_frame.specs.Fields.{IsBytes}
 use Rattle.droid_frame.specs.types.hash_value.HashValue.{HashValue}
 use Rattle.droid_frame.specs.types.hash_value.HashValue.TheVariants as values
+use Rattle.droid_fixity.specs.Paths.{is_plain}
 use Rattle.droid_fixity_manifest.specs.Digests.{hash_of, md5_by, md5_of, sha256_by, sha256_of}
 use Rattle.droid_fixity_manifest.specs.Grammar.{IsMark}
-use Rattle.droid_fixity_manifest.specs.Lines.{behind_mark, checksum_entry, cut_at_gap, escapes_of, file_item, is_blank, is_gap, meaning, meaning_by_bytes, meaning_by_entry, entry_of, without_backslash}
-use Rattle.droid_fixity_manifest.specs.Paths.{is_plain, without_dot}
+use Rattle.droid_fixity_manifest.specs.Lines.{behind_mark, checksum_entry, cut_at_gap, escapes_of, file_item, is_blank, is_gap, meaning, meaning_by_bytes, meaning_by_entry, entry_of, plain_entry, tag_entry, without_backslash}
+use Rattle.droid_fixity_manifest.specs.Paths.{without_dot}
 use Rattle.droid_fixity_manifest.specs.Spellings.{◌>>=◌, escaped, is_escaped, spelled, unescaped}
 use Rattle.droid_fixity_manifest.specs.Writing.{line_by, shown}
 use Rattle.droid_fixity_manifest.specs.declared.form.Escapes.{Escapes}
@@ -79,8 +81,8 @@ digits_cut digits rest all = cut_found is_gap digits rest 32 (no_gaps digits all
 abbrev pub parts_by : Escapes → Option (List ℕ × List ℕ) → Option (HashValue × Escapes × List ℕ)
 parts_by how parts = parts >>= λ two. hash_of two.0 >>= λ hash. behind_mark two.1 >>= λ text. Some (hash, how, text)
 
-pub entry_is : (line : List ℕ) → checksum_entry line ≡ parts_by (escapes_of line) (cut_at_gap (without_backslash line))
-unfolding checksum_entry
+pub entry_is : (line : List ℕ) → plain_entry line ≡ parts_by (escapes_of line) (cut_at_gap (without_backslash line))
+unfolding plain_entry
 entry_is line = refl
 
 marked : (mark : ℕ) (text : List ℕ) → IsMark mark → behind_mark (32 ∷ mark ∷ text) ≡ Some text
@@ -97,11 +99,17 @@ parts_are digits text mark hash how are is =
     ∙ (ap (λ (found : Option HashValue). found >>= λ value. behind_mark (32 ∷ mark ∷ text) >>= λ rest. Some (value, how, rest)) are.reads
     ∙ ap (λ (found : Option (List ℕ)). found >>= λ rest. Some (hash, how, rest)) (marked mark text is))
 
--- a line of digits begins or_from as a comment nor with a backslash
+-- whether a line does not begin as a byte order mark does
+abbrev pub is_unmarked : List ℕ → Bool
+is_unmarked [] = true
+is_unmarked (b ∷ line) = not (b == 239)
+
+-- a line of digits begins neither as a comment nor with a backslash, nor with a mark
 pub record BeginsPlain (line : List ℕ) : Type 0 where
   pub blank : is_blank line ≡ false
   pub how : escapes_of line ≡ escapes.Nothing
   pub whole : without_backslash line ≡ line
+  pub unmarked : is_unmarked line ≡ true
 
 no_hash : (hash : HashValue) → hash_of [] ≡ Some hash → ⊥
 no_hash hash h = absurd cc
@@ -115,17 +123,24 @@ begins_plain (b ∷ digits) text hash are =
       blank = other_sign is_hex_digit b 35 both.0 refl;
       how = rw backslash refl;
       whole = rw backslash refl;
+      unmarked = ap not (other_sign is_hex_digit b 239 both.0 refl);
     }
 
-plain_entry : (digits text : List ℕ) (mark : ℕ) (hash : HashValue) → AreDigits digits hash → IsMark mark → checksum_entry (digits ++ 32 ∷ mark ∷ text) ≡ Some (hash, escapes.Nothing, text)
-plain_entry digits text mark hash are is =
+-- a line that is no line of `--tag`
+by_plain : (line : List ℕ) (entry : HashValue × Escapes × List ℕ) → plain_entry line ≡ Some entry → checksum_entry line ≡ Some entry
+by_plain line entry is = ap (λ (o : Option (HashValue × Escapes × List ℕ)). option_or o (tag_entry line)) is
+
+read_plain : (digits text : List ℕ) (mark : ℕ) (hash : HashValue) → AreDigits digits hash → IsMark mark → checksum_entry (digits ++ 32 ∷ mark ∷ text) ≡ Some (hash, escapes.Nothing, text)
+read_plain digits text mark hash are is =
     let line = digits ++ 32 ∷ mark ∷ text in
     let begins = begins_plain digits (32 ∷ mark ∷ text) hash are in
-    entry_is line ∙ (ap (λ (how : Escapes). parts_by how (cut_at_gap (without_backslash line))) begins.how
-    ∙ (ap (λ (rest : List ℕ). parts_by escapes.Nothing (cut_at_gap rest)) begins.whole ∙ parts_are digits text mark hash escapes.Nothing are is))
+    by_plain line (hash, escapes.Nothing, text)
+    (entry_is line ∙ (ap (λ (how : Escapes). parts_by how (cut_at_gap (without_backslash line))) begins.how
+    ∙ (ap (λ (rest : List ℕ). parts_by escapes.Nothing (cut_at_gap rest)) begins.whole ∙ parts_are digits text mark hash escapes.Nothing are is)))
 
-escaped_entry : (digits text : List ℕ) (mark : ℕ) (hash : HashValue) → AreDigits digits hash → IsMark mark → checksum_entry (92 ∷ (digits ++ 32 ∷ mark ∷ text)) ≡ Some (hash, escapes.Backslash, text)
-escaped_entry digits text mark hash are is = entry_is (92 ∷ (digits ++ 32 ∷ mark ∷ text)) ∙ parts_are digits text mark hash escapes.Backslash are is
+read_escaped : (digits text : List ℕ) (mark : ℕ) (hash : HashValue) → AreDigits digits hash → IsMark mark → checksum_entry (92 ∷ (digits ++ 32 ∷ mark ∷ text)) ≡ Some (hash, escapes.Backslash, text)
+read_escaped digits text mark hash are is =
+    by_plain (92 ∷ (digits ++ 32 ∷ mark ∷ text)) (hash, escapes.Backslash, text) (entry_is (92 ∷ (digits ++ 32 ∷ mark ∷ text)) ∙ parts_are digits text mark hash escapes.Backslash are is)
 
 -- ---- what the line says
 
@@ -135,7 +150,7 @@ blank_no line h = rw h refl
 pub plain_bytes : (hash : HashValue) (path : List ℕ) → is_plain path ≡ true → meaning_by_bytes hash (Some path) ≡ meanings.File (file_item hash (47 ∷ path))
 plain_bytes hash path plain = rw plain refl
 
-entry_says : (line text path : List ℕ) (hash : HashValue) (how : Escapes) → is_blank line ≡ false → checksum_entry line ≡ Some (hash, how, text)
+pub entry_says : (line text path : List ℕ) (hash : HashValue) (how : Escapes) → is_blank line ≡ false → checksum_entry line ≡ Some (hash, how, text)
     → spelled how (without_dot text) ≡ Some path → is_plain path ≡ true → meaning Checksums line ≡ meanings.File (file_item hash (47 ∷ path))
 entry_says line text path hash how blank entry spells plain =
     blank_no line blank ∙ (ap (meaning_by_entry Checksums) entry ∙ (ap (meaning_by_bytes hash) spells ∙ plain_bytes hash path plain))
@@ -146,12 +161,12 @@ no_dot text h = rw (not-true (bytes_eq (take 2 text) (codes "./")) h) refl
 pub plain_says : (digits text name : List ℕ) (mark : ℕ) (hash : HashValue) → AreDigits digits hash → IsMark mark → without_dot text ≡ name → is_plain name ≡ true
     → meaning Checksums (digits ++ 32 ∷ mark ∷ text) ≡ meanings.File (file_item hash (47 ∷ name))
 plain_says digits text name mark hash are is below plain =
-    entry_says (digits ++ 32 ∷ mark ∷ text) text name hash escapes.Nothing (begins_plain digits (32 ∷ mark ∷ text) hash are).blank (plain_entry digits text mark hash are is) (ap Some below) plain
+    entry_says (digits ++ 32 ∷ mark ∷ text) text name hash escapes.Nothing (begins_plain digits (32 ∷ mark ∷ text) hash are).blank (read_plain digits text mark hash are is) (ap Some below) plain
 
 pub escaped_says : (digits text name : List ℕ) (mark : ℕ) (hash : HashValue) → AreDigits digits hash → IsMark mark → unescaped (without_dot text) ≡ Some name → is_plain name ≡ true
     → meaning Checksums (92 ∷ (digits ++ 32 ∷ mark ∷ text)) ≡ meanings.File (file_item hash (47 ∷ name))
 escaped_says digits text name mark hash are is spells plain =
-    entry_says (92 ∷ (digits ++ 32 ∷ mark ∷ text)) text name hash escapes.Backslash refl (escaped_entry digits text mark hash are is) spells plain
+    entry_says (92 ∷ (digits ++ 32 ∷ mark ∷ text)) text name hash escapes.Backslash refl (read_escaped digits text mark hash are is) spells plain
 
 -- ---- the line that is written
 
@@ -160,6 +175,7 @@ pub record IsBody (line body : List ℕ) (hash : HashValue) (path : List ℕ) : 
   pub ends : line ≡ body ++ 10 ∷ []
   pub clear : list_all is_clear body ≡ true
   pub says : meaning Checksums body ≡ meanings.File (file_item hash (47 ∷ path))
+  pub unmarked : is_unmarked body ≡ true
 
 plain_body_clear : (digits path : List ℕ) (hash : HashValue) → AreDigits digits hash → list_all is_clear path ≡ true → list_all is_clear (digits ++ 32 ∷ 32 ∷ path) ≡ true
 plain_body_clear digits path hash are clear = all_append is_clear digits (32 ∷ 32 ∷ path) (digits_clear digits are.each) clear
@@ -172,6 +188,7 @@ body_by true digits path hash is are plain = (
     ends = ap (λ (rest : List ℕ). 92 ∷ rest) (sym (append_assoc digits (32 ∷ 32 ∷ escaped path) (10 ∷ [])));
     clear = plain_body_clear digits (escaped path) hash are (escaped_clear path);
     says = escaped_says digits (escaped path) path 32 hash are (inl refl) (ap unescaped (no_dot (escaped path) (escaped_dotless path (plain_dotless path plain))) ∙ unescaped_escaped path) plain;
+    unmarked = refl;
   },
 )
 body_by false digits path hash is are plain = (
@@ -180,6 +197,7 @@ body_by false digits path hash is are plain = (
     ends = sym (append_assoc digits (32 ∷ 32 ∷ path) (10 ∷ []));
     clear = plain_body_clear digits path hash are (plain_clear path is);
     says = plain_says digits path path 32 hash are (inl refl) (no_dot path (plain_dotless path plain)) plain;
+    unmarked = (begins_plain digits (32 ∷ 32 ∷ path) hash are).unmarked;
   },
 )
 
@@ -196,6 +214,7 @@ shown_by true digits path hash is are plain = (
     ends = sym (append_assoc digits (32 ∷ 32 ∷ codes "./-") (10 ∷ []));
     clear = plain_body_clear digits (codes "./-") hash are refl;
     says = plain_says digits (codes "./-") path 32 hash are (inl refl) (sym (dash_is path is)) plain;
+    unmarked = (begins_plain digits (32 ∷ 32 ∷ codes "./-") hash are).unmarked;
   },
 )
 shown_by false digits path hash is are plain = body_by (list_any is_escaped path) digits path hash refl are plain

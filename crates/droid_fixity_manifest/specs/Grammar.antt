@@ -2,9 +2,9 @@
 use Rattle.std.specs.Prelude.{◌≡◌, ℕ, List, [], ◌∷◌, ◌++◌, Option, Some, codes, IsTrue, ◌⊎◌}
 use Rattle.std.specs.List.{list_all}
 use Rattle.droid_frame.specs.types.hash_value.HashValue.{HashValue}
-use Rattle.droid_fixity_manifest.specs.Digests.{hash_of}
+use Rattle.droid_fixity.specs.Paths.{is_plain}
+use Rattle.droid_fixity_manifest.specs.Digests.{hash_of, md5_of, sha256_of}
 use Rattle.droid_fixity_manifest.specs.Lines.{is_gap}
-use Rattle.droid_fixity_manifest.specs.Paths.{is_plain}
 use Rattle.droid_fixity_manifest.specs.Spellings.{decoded, unescaped}
 use Rattle.droid_fixity_manifest.specs.declared.form.ManifestForm.{ManifestForm}
 use Rattle.droid_fixity_manifest.specs.declared.form.ManifestForm.TheVariants.{Checksums, Bag}
@@ -47,6 +47,30 @@ pub record IsEscapedLine (line : List ℕ) (hash : HashValue) (name : List ℕ) 
   pub dotted : MayStand (codes "./") dot
   pub spells : unescaped text ≡ Some name
 
+-- what stands before the path in a line of `--tag`, by the digits
+abbrev pub IsTag : List ℕ → List ℕ → HashValue → Type 0
+IsTag tag digits hash = ((tag ≡ codes "MD5 (") × (md5_of digits ≡ Some hash)) ⊎ ((tag ≡ codes "SHA256 (") × (sha256_of digits ≡ Some hash))
+
+-- a line of `md5sum --tag`
+pub record IsTagLine (line : List ℕ) (hash : HashValue) (name : List ℕ) : Type 0 where
+  pub tag : List ℕ
+  pub digits : List ℕ
+  pub dot : List ℕ
+  pub whole : line ≡ tag ++ ((dot ++ name) ++ (codes ") = " ++ digits))
+  pub tagged : IsTag tag digits hash
+  pub dotted : MayStand (codes "./") dot
+
+-- the same with a backslash in front and an escaped path
+pub record IsEscapedTagLine (line : List ℕ) (hash : HashValue) (name : List ℕ) : Type 0 where
+  pub tag : List ℕ
+  pub digits : List ℕ
+  pub dot : List ℕ
+  pub text : List ℕ
+  pub whole : line ≡ 92 ∷ (tag ++ ((dot ++ text) ++ (codes ") = " ++ digits)))
+  pub tagged : IsTag tag digits hash
+  pub dotted : MayStand (codes "./") dot
+  pub spells : unescaped text ≡ Some name
+
 -- a line of a bag's manifest: digits, spaces and tabs, and a path below `data`, perhaps behind `*` and `./`
 pub record IsBagLine (line : List ℕ) (hash : HashValue) (name : List ℕ) : Type 0 where
   pub digits : List ℕ
@@ -62,7 +86,7 @@ pub record IsBagLine (line : List ℕ) (hash : HashValue) (name : List ℕ) : Ty
   pub spells : decoded text ≡ name
 
 abbrev pub IsLine : ManifestForm → List ℕ → HashValue → List ℕ → Type 0
-IsLine Checksums line hash name = IsPlainLine line hash name ⊎ IsEscapedLine line hash name
+IsLine Checksums line hash name = (IsPlainLine line hash name ⊎ IsEscapedLine line hash name) ⊎ (IsTagLine line hash name ⊎ IsEscapedTagLine line hash name)
 IsLine Bag line hash name = IsBagLine line hash name
 
 -- This line gives this hash to the file with this path.

@@ -1,6 +1,7 @@
 pub mod Digests
 pub mod Spellings
 pub mod Paths
+pub mod Texts
 pub mod Lines
 pub mod Grammar
 pub mod Lists

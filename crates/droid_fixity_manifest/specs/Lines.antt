@@ -1,11 +1,14 @@
 -- What a line of a list of checksums says.
-use Rattle.std.specs.Prelude.{ℕ, ◌==◌, Bool, true, false, not, ◌&&◌, ◌||◌, List, [], ◌∷◌, take, drop, length, slice_index, Option, Some, None, ◌-◌, if◌then◌else◌}
+use Rattle.std.specs.Prelude.{ℕ, ◌==◌, Bool, true, false, not, ◌&&◌, ◌||◌, List, [], ◌∷◌, take, drop, length, slice_index, Option, Some, None, ◌-◌, codes, nat_le, if◌then◌else◌}
 use Rattle.std.specs.List.{position}
+use Rattle.std.specs.Option.{option_map, option_or}
+use Rattle.std.specs.Str.{bytes_eq}
 use Rattle.droid_frame.specs.types.hash_value.HashValue.{HashValue}
 use Rattle.droid_frame.specs.types.node_kind.NodeKind.TheVariants.{File}
+use Rattle.droid_fixity.specs.Paths.{is_file_path}
 use Rattle.droid_fixity.specs.declared.item.Item.{Item}
-use Rattle.droid_fixity_manifest.specs.Digests.{hash_of}
-use Rattle.droid_fixity_manifest.specs.Paths.{below, is_file_path}
+use Rattle.droid_fixity_manifest.specs.Digests.{hash_of, md5_of, sha256_of}
+use Rattle.droid_fixity_manifest.specs.Paths.{behind, below}
 use Rattle.droid_fixity_manifest.specs.Spellings.{◌>>=◌, spelled}
 use Rattle.droid_fixity_manifest.specs.declared.form.Escapes.{Escapes}
 use Rattle.droid_fixity_manifest.specs.declared.form.Escapes.TheVariants as escapes
@@ -58,12 +61,51 @@ behind_gaps text = cut text (position is_no_gap text) >>= λ parts. Some (withou
 -- ---- lines that name a file
 
 -- the hash, how the path is spelled, and the spelling
-unfoldable pub checksum_entry : List ℕ → Option (HashValue × Escapes × List ℕ)
-checksum_entry line = do
+unfoldable pub plain_entry : List ℕ → Option (HashValue × Escapes × List ℕ)
+plain_entry line = do
   parts ← cut_at_gap (without_backslash line)
   hash ← hash_of parts.0
   text ← behind_mark parts.1
   Some (hash, escapes_of line, text)
+
+-- ---- lines of `md5sum --tag` and `sha256sum --tag`: a name, the path between parentheses, ` = ` and the digits
+
+-- a text in two before its last n bytes, if it has so many
+abbrev pub cut_last : ℕ → List ℕ → Option (List ℕ × List ℕ)
+cut_last n text = if nat_le n (length text) then Some (take (length text - n) text, drop (length text - n) text) else None
+
+-- what stands before a text, if that stands at the end
+abbrev pub front_if : List ℕ → List ℕ × List ℕ → Option (List ℕ)
+front_if end parts = if bytes_eq parts.1 end then Some parts.0 else None
+
+abbrev pub before : List ℕ → List ℕ → Option (List ℕ)
+before end text = cut_last (length end) text >>= front_if end
+
+-- behind the name: the hash, and the path as it is spelled; the digits are so many that they need no mark before them
+unfoldable pub tagged : ℕ → (List ℕ → Option HashValue) → List ℕ → Option (HashValue × List ℕ)
+tagged digits hash_in text = do
+  parts ← cut_last digits text
+  path ← before (codes ") = ") parts.0
+  hash ← hash_in parts.1
+  Some (hash, path)
+
+unfoldable pub md5_tag : List ℕ → Option (HashValue × List ℕ)
+md5_tag line = behind (codes "MD5 (") line >>= tagged 32 md5_of
+
+unfoldable pub sha256_tag : List ℕ → Option (HashValue × List ℕ)
+sha256_tag line = behind (codes "SHA256 (") line >>= tagged 64 sha256_of
+
+abbrev pub tag_parts : List ℕ → Option (HashValue × List ℕ)
+tag_parts line = option_or (md5_tag line) (sha256_tag line)
+
+abbrev pub tag_entry : List ℕ → Option (HashValue × Escapes × List ℕ)
+tag_entry line = option_map (λ parts. (parts.0, escapes_of line, parts.1)) (tag_parts (without_backslash line))
+
+-- ---- a line of either kind
+
+-- the hash, how the path is spelled, and the spelling; no digits begin like a name of `--tag`
+abbrev pub checksum_entry : List ℕ → Option (HashValue × Escapes × List ℕ)
+checksum_entry line = option_or (plain_entry line) (tag_entry line)
 
 unfoldable pub bag_entry : List ℕ → Option (HashValue × Escapes × List ℕ)
 bag_entry line = do

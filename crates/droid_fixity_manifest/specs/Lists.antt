@@ -1,6 +1,6 @@
 -- What a list of checksums says.
 use Rattle.std.specs.Prelude.{◌≡◌, ◌≢◌, ℕ, ◌+◌, ◌==◌, Bool, true, List, [], ◌∷◌, ◌++◌, Vec, Result, Ok, Err, IsTrue, if◌then◌else◌}
-use Rattle.std.specs.List.{AllByRecursion, slice_split}
+use Rattle.std.specs.List.{AllByRecursion}
 use Rattle.std.specs.declared.alloc.Global.{Global}
 use Rattle.droid_frame.specs.Hashes.{hash_kind_number, hash_value_kind}
 use Rattle.droid_frame.specs.types.hash_kind.HashKind.{HashKind}
@@ -8,6 +8,7 @@ use Rattle.droid_frame.specs.types.hash_kind.HashKind.TheVariants as kinds
 use Rattle.droid_frame.specs.types.hash_value.HashValue.{HashValue}
 use Rattle.droid_fixity.specs.declared.item.Item.{Item}
 use Rattle.droid_fixity_manifest.specs.Lines.{meaning, without_return}
+use Rattle.droid_fixity_manifest.specs.Texts.{lines_in}
 use Rattle.droid_fixity_manifest.specs.declared.form.ManifestForm.{ManifestForm}
 use Rattle.droid_fixity_manifest.specs.declared.list_fault.ManifestFault.{ManifestFault}
 use Rattle.droid_fixity_manifest.specs.declared.list_fault.ManifestFault.TheVariants as faults
@@ -47,9 +48,15 @@ abbrev pub items_from : ManifestForm → ℕ → List Item → List (List ℕ) �
 items_from form number items [] = Ok items
 items_from form number items (line ∷ lines) = after (taken number items (meaning form (without_return line))) (λ more. items_from form (number + 1) more lines)
 
--- the items of a text, or the first fault; the lines are what stands between line feeds
+-- a list names a file
+abbrev pub some_items : Result (List Item) ManifestFault → Result (List Item) ManifestFault
+some_items (Ok []) = Err faults.Empty
+some_items (Ok (item ∷ items)) = Ok (item ∷ items)
+some_items (Err fault) = Err fault
+
+-- the items of a text, or the first fault
 abbrev pub items_of : ManifestForm → List ℕ → Result (List Item) ManifestFault
-items_of form text = items_from form 1 [] (slice_split (λ b. b == 10) text)
+items_of form text = some_items (items_from form 1 [] (lines_in form text))
 
 -- a call gave what was expected, unless memory ran out
 abbrev pub Gives : Result (Vec Item Global) ManifestFault → Result (List Item) ManifestFault → Type 0

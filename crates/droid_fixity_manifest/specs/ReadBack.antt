@@ -4,10 +4,10 @@ use Rattle.std.specs.List.{AllByRecursion, flat_map}
 use Rattle.droid_frame.specs.Fields.{IsBytes}
 use Rattle.droid_frame.specs.types.hash_value.HashValue.{HashValue}
 use Rattle.droid_frame.specs.types.hash_value.HashValue.TheVariants.{Nothing, Md5, Sha256}
+use Rattle.droid_fixity.specs.Paths.{is_file_path}
 use Rattle.droid_fixity.specs.declared.item.Item.{Item}
 use Rattle.droid_fixity_manifest.specs.Lines.{file_item}
 use Rattle.droid_fixity_manifest.specs.Lists.{HaveOneKind}
-use Rattle.droid_fixity_manifest.specs.Paths.{is_file_path}
 use Rattle.droid_fixity_manifest.specs.Writing.{line}
 
 -- an MD5 or a SHA-256

@@ -19,7 +19,7 @@ pub(crate) fn hash_of(digits: &[u8]) -> Option<HashValue>
     None
 }
 
-fn md5_of(digits: &[u8]) -> Option<HashValue>
+pub(crate) fn md5_of(digits: &[u8]) -> Option<HashValue>
     ensures { result ≡ digests.md5_of digits.now }
 {
     match <[u8; 16] as FromHex>::from_hex(digits) {
@@ -28,7 +28,7 @@ fn md5_of(digits: &[u8]) -> Option<HashValue>
     }
 }
 
-fn sha256_of(digits: &[u8]) -> Option<HashValue>
+pub(crate) fn sha256_of(digits: &[u8]) -> Option<HashValue>
     ensures { result ≡ digests.sha256_of digits.now }
 {
     match <[u8; 32] as FromHex>::from_hex(digits) {

@@ -5,8 +5,9 @@ ghost use Rattle.std.specs.List.{position};
 ghost use Rattle.std.specs.Option.{option_map};
 ghost use Rattle.droid_fixity_manifest.specs.Lines as lines;
 
-use crate::digest::hash_of;
+use crate::digest::{hash_of, md5_of, sha256_of};
 use crate::form::{Escapes, ManifestForm};
+use crate::path::behind;
 use droid_frame::HashValue;
 
 /// Splits a line into the hash, how the path is spelled, and the spelling.
@@ -19,14 +20,84 @@ pub(crate) fn entry_of(form: ManifestForm, line: &[u8]) -> Option<(HashValue, Es
     }
 }
 
-#[tactic(auto, unfolding(crate::specs::Lines::checksum_entry))]
+/// Splits a line of `md5sum`, also one of `md5sum --tag`.
 fn checksum_entry(line: &[u8]) -> Option<(HashValue, Escapes, &[u8])>
     ensures { option_map (λ entry. (entry.0, entry.1, entry.2.now)) result ≡ lines.checksum_entry line.now }
+{
+    match plain_entry(line) {
+        Some(entry) => Some(entry),
+        None => tag_entry(line),
+    }
+}
+
+#[tactic(auto, unfolding(crate::specs::Lines::plain_entry))]
+fn plain_entry(line: &[u8]) -> Option<(HashValue, Escapes, &[u8])>
+    ensures { option_map (λ entry. (entry.0, entry.1, entry.2.now)) result ≡ lines.plain_entry line.now }
 {
     let (digits, rest) = cut_at_gap(without_backslash(line))?;
     let hash = hash_of(digits)?;
     let text = behind_mark(rest)?;
     Some((hash, escapes_of(line), text))
+}
+
+fn tag_entry(line: &[u8]) -> Option<(HashValue, Escapes, &[u8])>
+    ensures { option_map (λ entry. (entry.0, entry.1, entry.2.now)) result ≡ lines.tag_entry line.now }
+{
+    let (hash, text) = tag_parts(without_backslash(line))?;
+    Some((hash, escapes_of(line), text))
+}
+
+/// Splits a line of `md5sum --tag` or `sha256sum --tag` into the hash and the spelling of the path.
+fn tag_parts(line: &[u8]) -> Option<(HashValue, &[u8])>
+    ensures { option_map (λ parts. (parts.0, parts.1.now)) result ≡ lines.tag_parts line.now }
+{
+    match md5_tag(line) {
+        Some(parts) => Some(parts),
+        None => sha256_tag(line),
+    }
+}
+
+#[tactic(auto, unfolding(crate::specs::Lines::md5_tag, crate::specs::Lines::tagged))]
+fn md5_tag(line: &[u8]) -> Option<(HashValue, &[u8])>
+    ensures { option_map (λ parts. (parts.0, parts.1.now)) result ≡ lines.md5_tag line.now }
+{
+    let text = behind(b"MD5 (".as_slice(), line)?;
+    let (front, digits) = cut_last(32, text)?;
+    let path = before(b") = ".as_slice(), front)?;
+    let hash = md5_of(digits)?;
+    Some((hash, path))
+}
+
+#[tactic(auto, unfolding(crate::specs::Lines::sha256_tag, crate::specs::Lines::tagged))]
+fn sha256_tag(line: &[u8]) -> Option<(HashValue, &[u8])>
+    ensures { option_map (λ parts. (parts.0, parts.1.now)) result ≡ lines.sha256_tag line.now }
+{
+    let text = behind(b"SHA256 (".as_slice(), line)?;
+    let (front, digits) = cut_last(64, text)?;
+    let path = before(b") = ".as_slice(), front)?;
+    let hash = sha256_of(digits)?;
+    Some((hash, path))
+}
+
+/// Splits a text before its last bytes, if it has so many.
+fn cut_last(count: usize, text: &[u8]) -> Option<(&[u8], &[u8])>
+    ensures { option_map (λ parts. (parts.0.now, parts.1.now)) result ≡ lines.cut_last count text.now }
+{
+    if count <= text.len() {
+        Some(text.split_at(text.len() - count))
+    } else {
+        None
+    }
+}
+
+/// Returns what stands before a text, if that stands at the end.
+fn before<'a>(end: &[u8], text: &'a [u8]) -> Option<&'a [u8]>
+    ensures { option_map (λ front. front.now) result ≡ lines.before end.now text.now }
+{
+    match cut_last(end.len(), text) {
+        Some((front, last)) => { if last == end { Some(front) } else { None } }
+        None => None,
+    }
 }
 
 #[tactic(auto, unfolding(crate::specs::Lines::bag_entry))]

@@ -11,9 +11,11 @@ mod list_fault;
 mod manifest_law;
 mod path;
 mod path_text;
+mod text;
 
 pub use checksum_line::add_line;
 pub use form::ManifestForm;
 pub use list::read_manifest;
 pub use list_fault::ManifestFault;
 pub use manifest_law::{lines_are_read_back, lines_of_the_grammar_name_files, lists_have_one_kind};
+pub use text::without_mark;

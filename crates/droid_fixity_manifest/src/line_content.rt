@@ -6,9 +6,9 @@ ghost use Rattle.droid_fixity_manifest.specs.Spellings.{spelled};
 
 use crate::entry::entry_of;
 use crate::form::{Escapes, ManifestForm};
-use crate::path::{below, is_file_path};
+use crate::path::below;
 use crate::path_text::add_spelled;
-use droid_fixity::Item;
+use droid_fixity::{Item, is_file_path};
 use droid_frame::{Blob, HashValue, NodeKind};
 use std::alloc::{AllocError, Global};
 

@@ -1,13 +1,16 @@
 //! Lists of checksums.
 
-ghost use Rattle.std.specs.Prelude.{◌≡◌, ◌++◌, ◌∷◌, [], OnOk};
+ghost use Rattle.std.specs.Prelude.{◌≡◌, ◌++◌, ◌∷◌, [], Ok, OnOk};
+ghost use Rattle.std.specs.List.{slice_split};
 ghost use Rattle.droid_fixity_manifest.specs.Lines as lines;
 ghost use Rattle.droid_fixity_manifest.specs.Lists.{Gives, items_of};
 ghost use Rattle.droid_fixity_manifest.specs.Lists as lists;
+ghost use Rattle.droid_fixity_manifest.specs.Texts as texts;
 
 use crate::form::ManifestForm;
 use crate::line_content::{Meaning, meaning_of};
 use crate::list_fault::ManifestFault;
+use crate::text::{ends_line, has_returns, unpaired, without_mark};
 use droid_fixity::Item;
 use droid_frame::HashValue;
 use std::alloc::{AllocError, Global};
@@ -15,7 +18,7 @@ use std::alloc::{AllocError, Global};
 /// Reads a list of checksums. Each line that names a file gives an item with its path and its hash.
 ///
 /// Paths begin with `/`, as those of a profile do; those of a bag's manifest are paths below the folder `data`. A path may
-/// stand twice. An error names the first line at fault. README.md says which lines are accepted.
+/// stand twice. An error names the first line at fault, or says that the list names no file. README.md says which lines are accepted.
 pub fn read_manifest(
     alloc: Global,
     form: ManifestForm,
@@ -23,9 +26,44 @@ pub fn read_manifest(
 ) -> Result<Vec<Item>, ManifestFault>
     ensures { Gives result (items_of form text.now) }
 {
+    match items_by(alloc, form, without_mark(text)) {
+        Ok(items) => if_some(items),
+        Err(fault) => Err(fault),
+    }
+}
+
+/// Returns the items, if there is one.
+fn if_some(items: Vec<Item>) -> Result<Vec<Item>, ManifestFault>
+    ensures { Gives result (lists.some_items (Ok items.items)) }
+{
+    if items.is_empty() {
+        return Err(ManifestFault::Empty);
+    }
+    Ok(items)
+}
+
+/// Reads a text without a byte order mark. Only a bag's text with carriage returns is copied.
+fn items_by(alloc: Global, form: ManifestForm, text: &[u8]) -> Result<Vec<Item>, ManifestFault>
+    ensures { Gives result (lists.items_from form 1 [] (slice_split (texts.ends_line form) (texts.unpaired form text.now))) }
+{
+    if has_returns(form, text) {
+        let single = unpaired(alloc, text)?;
+        let items = items_in(alloc, form, single.as_slice())?;
+        return Ok(items);
+    }
+    match items_in(alloc, form, text) {
+        Ok(items) => Ok(items),
+        Err(fault) => Err(fault),
+    }
+}
+
+/// Reads a text in which one byte ends each line.
+fn items_in(alloc: Global, form: ManifestForm, text: &[u8]) -> Result<Vec<Item>, ManifestFault>
+    ensures { Gives result (lists.items_from form 1 [] (slice_split (texts.ends_line form) text.now)) }
+{
     let mut items = Vec::new(alloc);
     let mut number = 1;
-    for line in text.split(|byte| *byte == b'\n') {
+    for line in text.split(|byte| ends_line(form, *byte)) {
         let meaning = meaning_of(alloc, form, without_return(line))?;
         if let Err(fault) = take(&mut items, number, meaning) {
             return Err(fault);

@@ -11,6 +11,9 @@ pub enum ManifestFault {
     /// Out of memory.
     #[error("out of memory")]
     Memory,
+    /// It names no file.
+    #[error("it names no file")]
+    Empty,
     /// A line is neither empty, nor a comment, nor a digest and a path.
     #[error("line {line} is malformed")]
     Line {

@@ -1,6 +1,6 @@
 //! Laws of lists of checksums. Each is the contract of a function that does nothing.
 
-ghost use Rattle.std.specs.Prelude.{◌≡◌, ◌↔◌, ℕ, List, Ok};
+ghost use Rattle.std.specs.Prelude.{◌≡◌, ◌≢◌, ◌↔◌, ℕ, List, [], Ok};
 ghost use Rattle.droid_frame.specs.types.hash_value.HashValue.{HashValue};
 ghost use Rattle.droid_fixity.specs.declared.item.Item.{Item};
 ghost use Rattle.droid_fixity_manifest.specs.Grammar.{NamesFile};
@@ -11,9 +11,9 @@ ghost use Rattle.droid_fixity_manifest.specs.declared.form.ManifestForm.{Manifes
 ghost use Rattle.droid_fixity_manifest.specs.declared.form.ManifestForm.TheVariants.{Checksums};
 ghost use Rattle.droid_fixity_manifest.specs.declared.line_content.Meaning.TheVariants.{File};
 
-/// States that the lines of files are read as exactly these files, in the same order.
+/// States that the lines of files are read as exactly these files, in the same order. A list of no file is a fault.
 pub fn lines_are_read_back()
-    ensures { (items : List Item) → AreListed items → items_of Checksums (lines_of items) ≡ Ok items }
+    ensures { (items : List Item) → AreListed items → items ≢ [] → items_of Checksums (lines_of items) ≡ Ok items }
 {}
 
 /// States which lines name a file: those of the grammar, and no others.

@@ -1,4 +1,7 @@
+mod ConsistentRecords
 mod EmptyReports
 mod ExportedItems
+mod MomentTexts
 mod PassedFaults
+mod RowTypes
 mod SameInventories

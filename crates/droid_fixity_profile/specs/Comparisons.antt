@@ -13,7 +13,9 @@ use Rattle.droid_fixity_profile.specs.declared.profile_check.Seen.{Seen}
 abbrev pub fault_of : ListFault → SeeFault
 fault_of list.Memory = faults.Memory
 fault_of list.Header = faults.List list.Header
-fault_of (list.Record number) = faults.List (list.Record number)
+fault_of (list.Fields number) = faults.List (list.Fields number)
+fault_of (list.Column number column) = faults.List (list.Column number column)
+fault_of (list.Contradiction number column) = faults.List (list.Contradiction number column)
 
 -- these items, no path twice, in the order of their paths
 pub record IsInventory (items inventory : List Item) : Type 0 where

@@ -42,6 +42,8 @@ pub(crate) fn fault_of(fault: ListFault) -> SeeFault
     match fault {
         ListFault::Memory => SeeFault::Memory,
         ListFault::Header => SeeFault::List(fault),
-        ListFault::Record { .. } => SeeFault::List(fault),
+        ListFault::Fields { .. } => SeeFault::List(fault),
+        ListFault::Column { .. } => SeeFault::List(fault),
+        ListFault::Contradiction { .. } => SeeFault::List(fault),
     }
 }

@@ -36,6 +36,7 @@ link_kept kinds.Folder is = absurd is
 link_kept kinds.File is = absurd is
 link_kept kinds.Link is = refl
 link_kept kinds.Other is = refl
+link_kept kinds.TooLong is = refl
 
 kid_kept : (registry : Contents) (options : Options) (path : List ℕ) (kid : Kid) → MayCome path kid → is_done kid ≡ true → list_all is_kept (heard_of_kid registry options path kid) ≡ is_taken kid
 kid_kept registry options path (Subfolder entry number) may done = refl

@@ -68,7 +68,7 @@ module _ {T W : Type 0} (observes : T → Observation → T → Type 0) (hears :
     }
   ]
 
-  -- none could be read, or another file was at the path
+  -- none could be read, or it was not as its folder lists it
   pub stops_unread : (fault : TreeFault) (why : Skipped) (wanted : ℕ) (tree tree_after : T) (watcher : W) → IsReason fault why → new.ends.limit ≡ old.ends.limit
       → (fault ≡ faults.Unreadable → observes tree (Unread path entry old.from wanted) tree_after) → (fault ≡ faults.Changed → observes tree (Exchanged path entry old.from wanted) tree_after)
       → StopsReading observes hears path entry why old new tree tree_after watcher watcher

@@ -21,6 +21,7 @@ pub(crate) fn skip_reason(path: &str, name: &str, entry: &FolderEntry) -> Option
     match entry.kind {
         EntryKind::Link => Some(Skipped::Link),
         EntryKind::Other => Some(Skipped::Kind),
+        EntryKind::TooLong => Some(Skipped::Refused(Refusal::PathTooLong)),
         EntryKind::Folder | EntryKind::File => as_skipped(entry_refusal(path, name, entry)),
     }
 }

@@ -5,8 +5,8 @@ use Rattle.droid_tree.specs.Observation.{Observation, Read, Unread, Exchanged}
 use Rattle.droid_tree.specs.declared.folder_entry.FolderEntry.{FolderEntry}
 
 -- The outcome of the last read. It returned fewer bytes than were asked for, so the file has ended: at the length that
--- its folder lists, or before. Or it returned bytes behind that length. Or the file could not be read, or another file
--- was at its path. Or the last read is still to come.
+-- its folder lists, or before. Or it returned bytes behind that length. Or the file could not be read, or was not as its
+-- folder lists it. Or the last read is still to come.
 pub data Ending : Type 0 where
   AtEnd : (wanted : ℕ) (bytes : List ℕ) → Ending
   TooShort : (wanted : ℕ) (bytes : List ℕ) → Ending

@@ -11,11 +11,13 @@ pub data Observation : Type 0 where
   Opened : (path : List ℕ) → Observation
   -- the folder could not be opened for listing
   Unopened : (path : List ℕ) → Observation
-  -- `wanted` bytes of the file were asked for from offset `from`, and these came
+  -- `wanted` bytes of the file were asked for from offset `from`, and these came. Fewer came only where the file ends;
+  -- then it was looked at once more, and it was still as its folder lists it.
   Read : (path : List ℕ) (entry : FolderEntry) (from wanted : ℕ) (bytes : List ℕ) → Observation
   -- `wanted` bytes of the file were asked for from offset `from`, and could not be read
   Unread : (path : List ℕ) (entry : FolderEntry) (from wanted : ℕ) → Observation
-  -- `wanted` bytes of the file were asked for from offset `from`, and another file was at its path
+  -- `wanted` bytes of the file were asked for from offset `from`, and it was not as its folder lists it: another file was
+  -- at its path, or it was changed since
   Exchanged : (path : List ℕ) (entry : FolderEntry) (from wanted : ℕ) → Observation
 
 -- the tree returned bytes of a file, and they were appended to the buffer

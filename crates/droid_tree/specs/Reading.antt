@@ -8,7 +8,7 @@ use Rattle.droid_tree.specs.declared.skip_reason.Skipped.{Skipped}
 use Rattle.droid_tree.specs.declared.skip_reason.Skipped.TheVariants as reasons
 
 -- why the reading of a file ended early: `wanted` bytes could not be read, or fewer came, or the file has more bytes
--- than its folder lists, or another file was at its path when `wanted` bytes were asked for
+-- than its folder lists, or it was not as its folder lists it when `wanted` bytes were asked for
 pub data Stop : Type 0 where
   NoneCame : (wanted : ℕ) → Stop
   FewerCame : (wanted : ℕ) (bytes : List ℕ) → Stop
@@ -22,7 +22,7 @@ reason_of (FewerCame wanted bytes) = reasons.Changed
 reason_of (MoreCame bytes) = reasons.Changed
 reason_of (OtherFile wanted) = reasons.Changed
 
--- the next read fails, or returns too few bytes, or returns bytes behind the file's end, or finds another file
+-- the next read fails, or returns too few bytes, or returns bytes behind the file's end, or finds it not as its folder lists it
 abbrev pub observed_of_stop : List ℕ → FolderEntry → ℕ → Stop → Observation
 observed_of_stop path entry from (NoneCame wanted) = Unread path entry from wanted
 observed_of_stop path entry from (FewerCame wanted bytes) = Read path entry from wanted bytes
@@ -44,14 +44,14 @@ IsStop piece_size size from (FewerCame wanted bytes) = (from < size) × (wanted 
 IsStop piece_size size from (MoreCame bytes) = (from ≡ size) × (0 < length bytes)
 IsStop piece_size size from (OtherFile wanted) = IsRequested piece_size size from wanted
 
--- of the bytes of a piece none could be read, or too few came, or another file was at the path
+-- of the bytes of a piece none could be read, or too few came, or the file was not as its folder lists it
 abbrev pub IsShort : ℕ → Stop → Type 0
 IsShort wanted (NoneCame n) = n ≡ wanted
 IsShort wanted (FewerCame n bytes) = (n ≡ wanted) × (length bytes < wanted)
 IsShort wanted (MoreCame bytes) = ⊥
 IsShort wanted (OtherFile n) = n ≡ wanted
 
--- the byte behind the file's end could not be read, or came, or another file was at the path
+-- the byte behind the file's end could not be read, or came, or the file was not as its folder lists it
 abbrev pub IsPastEnd : Stop → Type 0
 IsPastEnd (NoneCame n) = n ≡ 1
 IsPastEnd (FewerCame n bytes) = ⊥

@@ -14,8 +14,8 @@ pub enum TreeFault {
     /// The folder or file could not be opened or read.
     #[error("it could not be read")]
     Unreadable,
-    /// Another file is at the path than the one that the folder listed.
-    #[error("it is not the file that was listed")]
+    /// It is not the file that the folder listed, or it was changed since.
+    #[error("it is not the file that was listed, or it was changed since")]
     Changed,
 }
 

@@ -32,7 +32,7 @@ pub fn next_len(size: u64, from: u64, piece_size: u32) -> u32
 }
 
 /// Appends `wanted` bytes of a file, starting at offset `from`. `entry` is the file as its folder listed it. The inner
-/// error says that the file is unreadable, that it ends before, or that another file is at the path.
+/// error says that the file is unreadable, that it ends before, or that it is not as it was listed.
 pub fn read_piece<T: Tree>(
     tree: &mut T,
     path: &str,
@@ -69,7 +69,7 @@ fn all_came(count: usize, wanted: usize) -> Result<(), Skipped>
 
 /// Checks that a file of this size has no bytes after its last piece, which ends at offset `from`. Fails with `Reply`
 /// if not all pieces were read: that happens when the service accepts a piece size of 0. The inner error says that the
-/// file is unreadable, that it is longer, or that another file is at the path.
+/// file is unreadable, that it is longer, or that it is not as it was listed.
 pub fn see_end<T: Tree>(
     alloc: Global,
     tree: &mut T,

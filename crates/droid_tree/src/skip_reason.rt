@@ -24,7 +24,7 @@ pub enum Skipped {
     Refused(Refusal),
     /// It could not be opened or read. An unreadable folder is in the profile, but empty.
     Unreadable,
-    /// Its length changed while it was read, or another file was put in its place.
+    /// It was changed after its folder was listed, or another file was put in its place.
     Changed,
     /// It is in the profile, with another hash than its bytes have.
     OtherHash,

@@ -24,8 +24,9 @@ pub trait Tree {
         ensures opened { OnOk result (observes self.old (Opened path.now) self.new) }
         ensures unopened { IfErr result (λ fault. fault ≢ faults.Memory → observes self.old (Unopened path.now) self.new) };
 
-    /// Appends up to `wanted` bytes of a file, starting at offset `from`. Appends fewer only if the file ends before.
-    /// `entry` is the file as its folder listed it. Fails with `Changed` if another file is at the path.
+    /// Appends up to `wanted` bytes of a file, starting at offset `from`. A read at offset 0 opens the file, and later
+    /// ones go on in it. Appends fewer only if the file ends before; then it was looked at once more. `entry` is the
+    /// file as its folder listed it. Fails with `Changed` if another file is at the path, or if it was changed since.
     fn read(
         &mut self,
         path: &str,

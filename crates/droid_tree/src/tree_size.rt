@@ -130,6 +130,10 @@ fn count_entry(
             let after = some_skipped(before, 1)?;
             Ok(after)
         }
+        EntryKind::TooLong => {
+            let after = some_skipped(before, 1)?;
+            Ok(after)
+        }
     }
 }
 

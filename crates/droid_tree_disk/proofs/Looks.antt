@@ -1,5 +1,5 @@
 -- Entries whose metadata are read one after the other.
-use Rattle.std.proofs.Common.{◌≡◌, ◌∙◌, ◌⊎◌, inl, inr, ℕ, List, [], ◌∷◌, ◌++◌, Option, Result, Ok, Err, IfOk, ap, ap₂, refl, subst, map}
+use Rattle.std.proofs.Common.{◌≡◌, ◌∙◌, inl, inr, ℕ, List, [], ◌∷◌, ◌++◌, Option, Result, Ok, Err, IfOk, ap, ap₂, refl, subst, map}
 use Rattle.std.proofs.lemmas.List.{map-append}
 use Rattle.droid_tree.specs.Observation.{GoesOver}
 use Rattle.droid_tree.specs.Paths.{below}
@@ -7,6 +7,7 @@ use Rattle.droid_tree.specs.declared.folder_entry.FolderEntry.{FolderEntry}
 use Rattle.droid_tree.proofs.Runs.{over_more, over_one}
 use Rattle.droid_tree_disk.specs.Said.{Said, Names, Looked}
 use Rattle.droid_tree_disk.specs.FolderObservation.{ListsAll, LooksAt, SaysOfText, Shows}
+use Rattle.droid_tree_disk.specs.OpenFiles.{Unseen}
 use Rattle.droid_tree_disk.specs.declared.disk.FileMetadata.{FileMetadata}
 
 -- as many names as entries, each the name of its entry
@@ -27,10 +28,6 @@ one_more says folder names name entries entries_after entry disk disk_now disk_a
 
 -- ---- going back after the last look
 
--- what was said before the first state is said before the second one too
-abbrev pub Unseen : {D : Type 0} → (D → Said → D → Type 0) → D → D → Type 0
-Unseen {D} says disk disk_after = (before : D) (said : Said) → says before said disk → says before said disk_after
-
 -- the looks end in this state, if they begin in another one that is unseen
 record Left {D : Type 0} (says : D → Said → D → Type 0) (folder : List ℕ) (first : D) (entries : List FolderEntry) (disk_after : D) : Type 0 where
   pub begin : D
@@ -38,11 +35,11 @@ record Left {D : Type 0} (says : D → Said → D → Type 0) (folder : List ℕ
   pub looks : GoesOver (LooksAt says folder) begin entries disk_after
 
 looked_left : {D : Type 0} (says : D → Said → D → Type 0) (folder : List ℕ) (first : D) (entry : FolderEntry) (entries : List FolderEntry) (middle disk_after : D) (found : Option FileMetadata)
-    → SaysOfText says folder entry.name found first middle → Shows found entry → Left says folder middle entries disk_after → Left says folder first (entry ∷ entries) disk_after
+    → SaysOfText says folder entry.name found first middle → Shows folder found entry → Left says folder middle entries disk_after → Left says folder first (entry ∷ entries) disk_after
 looked_left says folder first entry entries middle disk_after found (inl said) shows later = record {
   begin = first;
   unseen = λ before said its. its;
-  looks = (later.begin, (found, inl (later.unseen first (Looked (below folder entry.name) found) said), shows), later.looks);
+  looks = (later.begin, (found, inl (said.0, later.unseen first (Looked (below folder entry.name) found) said.1), shows), later.looks);
 }
 looked_left says folder first entry entries middle disk_after found (inr nothing) shows later = record {
   begin = later.begin;

@@ -3,7 +3,7 @@ use Rattle.std.specs.Prelude.{◌≡◌, ℕ, ◌≤◌, List, ◌++◌, length,
 use Rattle.std.specs.Fs.{IsDir, IsFile, IsSymlink, file_type, metadata_len}
 use Rattle.std.specs.declared.fs.attrs.FileType.{FileType}
 use Rattle.std.specs.declared.fs.attrs.Metadata.{Metadata}
-use Rattle.droid_tree_disk.specs.Said.{Said, Names, NoNames, FolderOpened, FolderNotOpened, Looked, Opened, NotOpened, Gave, GaveNone}
+use Rattle.droid_tree_disk.specs.Said.{Said, Names, NoNames, FolderOpened, FolderNotOpened, Looked, Opened, NotOpened, Gave, GaveNone, Seen}
 use Rattle.droid_tree_disk.specs.declared.disk.FileMetadata.{FileMetadata}
 use Rattle.droid_tree.specs.declared.folder_entry.EntryKind.{EntryKind}
 use Rattle.droid_tree.specs.declared.folder_entry.EntryKind.TheVariants as kinds
@@ -14,6 +14,7 @@ IsKindOf type kinds.Folder = IsDir type
 IsKindOf type kinds.File = IsFile type
 IsKindOf type kinds.Link = IsSymlink type
 IsKindOf type kinds.Other = (IsDir type → ⊥) × (IsFile type → ⊥) × (IsSymlink type → ⊥)
+IsKindOf type kinds.TooLong = ⊥
 
 -- it has the type and the length of these metadata
 abbrev pub IsMetadataOf : Metadata → FileMetadata → Type 0
@@ -36,6 +37,8 @@ MaySay (Opened path found) = IsOfSome found
 MaySay (NotOpened path) = Unit {0}
 MaySay (Gave path found from wanted bytes) = length bytes ≤ wanted
 MaySay (GaveNone path found from wanted) = Unit {0}
+MaySay (Seen path found None) = Unit {0}
+MaySay (Seen path found (Some now)) = IsOfSome now
 
 -- at most `wanted` bytes were appended
 pub record AddsBytes (wanted : ℕ) (before after : List ℕ) : Type 0 where

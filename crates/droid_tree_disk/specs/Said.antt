@@ -23,3 +23,5 @@ pub data Said : Type 0 where
   -- `wanted` bytes of the file that was opened by this path, and had these metadata then, were asked for from offset
   -- `from`, and could not be read
   GaveNone : (path : List ℕ) (found : FileMetadata) (from wanted : ℕ) → Said
+  -- the file that was opened by this path, and had these metadata then, has these now, or none could be read
+  Seen : (path : List ℕ) (found : FileMetadata) (now : Option FileMetadata) → Said

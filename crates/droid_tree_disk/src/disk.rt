@@ -1,6 +1,7 @@
 //! The file system calls that reading a tree needs.
 
-ghost use Rattle.std.specs.Prelude.{◌≡◌, ◌≢◌, ◌++◌, ℕ, List, IfErr, IfOk, IsTrue, OnOk};
+ghost use Rattle.std.specs.Prelude.{◌≡◌, ◌≢◌, ◌++◌, ℕ, List, IfErr, IfOk, OnOk};
+ghost use Rattle.std.specs.Str.{bytes_eq};
 
 use droid_frame::{Blob, Text};
 use droid_tree::{EntryKind, TreeFault};
@@ -11,8 +12,14 @@ use std::alloc::{AllocError, Global};
 pub struct FileMetadata {
     /// The type of the entry.
     pub kind: EntryKind,
-    /// When it was last changed, in seconds since 1970-01-01T00:00:00 UTC. Negative for earlier times.
+    /// When its bytes were last changed, in seconds since 1970-01-01T00:00:00 UTC. Negative for earlier times.
     pub modified: i64,
+    /// The nanoseconds of the second in `modified`.
+    pub modified_nanos: u32,
+    /// When its bytes, its name or its rights were last changed (ctime), in seconds since 1970-01-01T00:00:00 UTC.
+    pub changed: i64,
+    /// The nanoseconds of the second in `changed`.
+    pub changed_nanos: u32,
     /// The length in bytes.
     pub len: u64,
     /// The device.
@@ -23,8 +30,9 @@ pub struct FileMetadata {
 
 /// A file system.
 pub trait Disk {
-    ghost use Rattle.droid_tree_disk.specs.Said.{Said, Names, NoNames, FolderOpened, FolderNotOpened, Looked, Opened, NotOpened, GaveNone};
+    ghost use Rattle.droid_tree_disk.specs.Said.{Said, Names, NoNames, FolderOpened, FolderNotOpened, Looked, Opened, NotOpened, GaveNone, Seen};
     ghost use Rattle.droid_tree_disk.specs.Given.{Gives};
+    ghost use Rattle.droid_tree_disk.specs.OpenFiles.{Unseen};
     ghost use Rattle.droid_tree_disk.specs.declared.disk.FileMetadata.{FileMetadata};
     ghost use Rattle.droid_tree.specs.Paths.{below};
     ghost use Rattle.droid_tree.specs.declared.fault.TreeFault.TheVariants.{Memory, Unreadable, Changed};
@@ -63,7 +71,7 @@ pub trait Disk {
     /// Makes the folder in which the process was started its working folder again.
     fn leave(&mut self)
         ensures left { is_inside self.new → ⊥ }
-        ensures unseen { (before : Self) (said : Said) → says before said self.old → says before said self.new };
+        ensures unseen { Unseen says self.old self.new };
 
     /// Opens a folder for listing, and closes it again. Fails for a link to a folder, unless the path ends in `/`.
     fn see_folder(&mut self, path: &str) -> Result<(), TreeFault>
@@ -90,7 +98,7 @@ pub trait Disk {
 
     /// Returns whether the file was opened by the path that these two make.
     fn is_at(file: &Self::File, top: &str, path: &str) -> bool
-        ensures { IsTrue result → path_of file.now ≡ top.now ++ path.now };
+        ensures { result ≡ bytes_eq (path_of file.now) (top.now ++ path.now) };
 
     /// Appends up to `wanted` bytes of an open file, starting at offset `from`. Appends fewer only if the file ends
     /// before.
@@ -104,5 +112,10 @@ pub trait Disk {
         ensures gave { OnOk result (Gives says self.old (path_of file.now) (metadata_of file.now) from wanted bytes.old.items bytes.new.items self.new) }
         ensures failed { IfErr result (λ fault. fault ≡ Unreadable → says self.old (GaveNone (path_of file.now) (metadata_of file.now) from wanted) self.new) }
         ensures known { IfErr result (λ fault. fault ≢ Changed) }
+        ensures left { is_inside self.new → ⊥ };
+
+    /// Returns the metadata that an open file has now, or `None` if they can't be read.
+    fn look_again(&mut self, file: &Self::File) -> Option<FileMetadata>
+        ensures says { says self.old (Seen (path_of file.now) (metadata_of file.now) result) self.new }
         ensures left { is_inside self.new → ⊥ };
 }

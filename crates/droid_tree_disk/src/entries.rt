@@ -4,7 +4,7 @@ ghost use Rattle.std.specs.Prelude.{◌≡◌, ◌≢◌, ◌++◌, ◌∷◌, [
 ghost use Rattle.droid_tree.specs.Paths.{below};
 ghost use Rattle.droid_tree.specs.declared.fault.TreeFault.TheVariants.{Memory};
 ghost use Rattle.droid_tree_disk.specs.Said.{NoNames};
-ghost use Rattle.droid_tree_disk.specs.FolderObservation.{ListsAll, LooksAt, SaysOfText, Shows};
+ghost use Rattle.droid_tree_disk.specs.FolderObservation.{ListsAll, LooksAt, SaysOfText, Shows, is_too_long, kind_unseen};
 
 use crate::disk::{Disk, FileMetadata};
 use droid_frame::Blob;
@@ -71,37 +71,69 @@ fn entry_of<D: Disk>(
     ensures memory { IfErr result (λ fault. fault ≡ Memory) }
 {
     match look_below(disk, folder, &name, place) {
-        Ok(found) => Ok(entry_with(name, found)),
+        Ok(found) => Ok(entry_with(folder, name, found)),
         Err(_) => Err(TreeFault::Memory),
     }
 }
 
-/// Returns an entry with this metadata. Without metadata its type is [`EntryKind::Other`].
-fn entry_with(name: Blob, found: Option<FileMetadata>) -> FolderEntry
+/// Returns an entry of this folder with this metadata.
+fn entry_with(folder: &str, name: Blob, found: Option<FileMetadata>) -> FolderEntry
     ensures name { result.name ≡ name }
-    ensures shown { Shows found result }
+    ensures shown { Shows folder.now found result }
 {
     match found {
         Some(found) => FolderEntry {
             name,
             kind: found.kind,
             modified: found.modified,
+            modified_nanos: found.modified_nanos,
+            changed: found.changed,
+            changed_nanos: found.changed_nanos,
             len: found.len,
             device: found.device,
             inode: found.inode,
         },
-        None => FolderEntry {
-            name,
-            kind: EntryKind::Other,
-            modified: 0,
-            len: 0,
-            device: 0,
-            inode: 0,
-        },
+        None => {
+            let kind = kind_unseen(folder, &name);
+            FolderEntry {
+                name,
+                kind,
+                modified: 0,
+                modified_nanos: 0,
+                changed: 0,
+                changed_nanos: 0,
+                len: 0,
+                device: 0,
+                inode: 0,
+            }
+        }
     }
 }
 
-/// Returns the metadata of a name in a folder, or `None`. Does not ask for names that are not valid UTF-8.
+/// Returns the type of an entry of which no metadata were found.
+#[tactic(auto, using(crate::proofs::UnseenKinds::is_text, crate::proofs::UnseenKinds::is_no_text))]
+fn kind_unseen(folder: &str, name: &Blob) -> EntryKind
+    ensures { result ≡ kind_unseen folder.now name.now }
+{
+    let Ok(name) = std::str::from_utf8(name.as_slice()) else {
+        return EntryKind::Other;
+    };
+    if is_too_long(folder, name) {
+        EntryKind::TooLong
+    } else {
+        EntryKind::Other
+    }
+}
+
+/// Returns whether the path of this name in the folder is longer than the system takes: 4,096 bytes with the zero byte.
+fn is_too_long(folder: &str, name: &str) -> bool
+    ensures { result ≡ is_too_long folder.now name.now }
+{
+    name.len() > 4_094_usize.saturating_sub(folder.len()) || folder.len() > 4_094
+}
+
+/// Returns the metadata of a name in a folder, or `None`. Does not ask for names that are not valid UTF-8, or whose paths
+/// are longer than the system takes.
 fn look_below<D: Disk>(
     disk: &mut D,
     folder: &str,
@@ -113,7 +145,11 @@ fn look_below<D: Disk>(
     let Ok(name) = std::str::from_utf8(name.as_slice()) else {
         return Ok(None);
     };
-    disk.look_in(folder, name, place)
+    if is_too_long(folder, name) {
+        return Ok(None);
+    }
+    let found = disk.look_in(folder, name, place)?;
+    Ok(found)
 }
 
 /// Puts the path of a name in a folder in the place of what stood in `place`.

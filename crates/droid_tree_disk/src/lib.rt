@@ -7,8 +7,9 @@
 mod disk;
 mod entries;
 mod file_bytes;
+mod file_mark;
+mod file_reads;
 mod folder;
-mod folder_check;
 mod names;
 mod open_files;
 mod open_folder;
@@ -19,7 +20,6 @@ mod unfinished_file;
 
 pub use disk::{Disk, FileMetadata};
 pub use folder::Folder;
-pub use folder_check::is_folder;
 pub use output::{Output, OutputFault};
 pub use system::System;
 pub use unfinished_file::FileId;

@@ -209,6 +209,7 @@ impl<R: Files<File = File> + Env> Disk for System<'_, R> {
         file.metadata
     }
 
+    #[tactic(auto, using(crate::proofs::Paths::strips_decides, crate::proofs::Paths::begins_with_none))]
     fn is_at(file: &Opened, top: &str, path: &str) -> bool {
         match file.path.as_str().strip_prefix(top) {
             Some(rest) => rest == path,
@@ -227,6 +228,13 @@ impl<R: Files<File = File> + Env> Disk for System<'_, R> {
             return Err(TreeFault::Unreadable);
         }
         add_bytes(&file.file, file.metadata.len, from, wanted, bytes)
+    }
+
+    fn look_again(&mut self, file: &Opened) -> Option<FileMetadata> {
+        if !self.go_back() {
+            return None;
+        }
+        metadata_now(&file.file)
     }
 }
 
@@ -301,19 +309,29 @@ fn file_by<R: Files<File = File>>(rt: &R, place: &str) -> Result<File, TreeFault
     }
 }
 
+/// Returns the metadata of an open file, or `None` if they can't be read.
+fn metadata_now(file: &File) -> Option<FileMetadata>
+    ensures { IfSome result IsOfSome }
+{
+    match file.metadata() {
+        Ok(metadata) => Some(metadata_from(&metadata)),
+        Err(_) => None,
+    }
+}
+
 /// Returns the open file with its metadata.
 fn with_metadata(file: File, path: Text) -> Result<Opened, TreeFault>
     ensures path { IfOk result (λ opened. opened.path ≡ path) }
     ensures found { IfOk result (λ opened. IsOfSome opened.metadata) }
     ensures known { IfErr result (λ fault. fault ≢ Changed) }
 {
-    match file.metadata() {
-        Ok(metadata) => Ok(Opened {
+    match metadata_now(&file) {
+        Some(metadata) => Ok(Opened {
             file,
             path,
-            metadata: metadata_from(&metadata),
+            metadata,
         }),
-        Err(_) => Err(TreeFault::Unreadable),
+        None => Err(TreeFault::Unreadable),
     }
 }
 
@@ -324,9 +342,20 @@ fn metadata_from(metadata: &Metadata) -> FileMetadata
     FileMetadata {
         kind: kind_by(metadata),
         modified: metadata.mtime(),
+        modified_nanos: nanos_from(metadata.mtime_nsec()),
+        changed: metadata.ctime(),
+        changed_nanos: nanos_from(metadata.ctime_nsec()),
         len: metadata.len(),
         device: metadata.dev(),
         inode: metadata.ino(),
+    }
+}
+
+/// Returns the nanoseconds of a second, which are below 1,000,000,000.
+fn nanos_from(nanos: i64) -> u32 {
+    match u32::try_from(nanos) {
+        Ok(nanos) => nanos,
+        Err(_) => u32::MAX,
     }
 }
 

@@ -1,5 +1,6 @@
 //! A file beside the path of an output file, created when that is asked for or the first bytes are written to it.
 
+use crate::file_mark::{create_marked, remove_left};
 use crate::output::OutputFault;
 use droid_frame::Text;
 use std::alloc::{AllocError, Global};
@@ -9,6 +10,9 @@ use std::os::unix::fs::MetadataExt;
 
 /// How many file names are tried.
 const NAMES: u32 = 1_000;
+
+/// What earlier runs left is looked for until this many file names in a row are free.
+const FREE: u32 = 16;
 
 /// Which file it is: its device, and its number on that device.
 #[derive(Clone, Copy, PartialEq, Eq)]
@@ -21,9 +25,9 @@ pub struct FileId {
 
 /// The file and its path.
 #[derive(Drop)]
-pub(crate) struct Made<F> {
-    /// The file, open for writing.
-    pub file: F,
+pub(crate) struct Made {
+    /// The file, open for writing, locked and marked.
+    pub file: File,
     /// The path of the file.
     pub path: Text,
 }
@@ -35,7 +39,7 @@ pub(crate) struct UnfinishedFile<'a, R: Files> {
     alloc: Global,
     place: Text,
     free: Option<Text>,
-    made: Option<Made<R::File>>,
+    made: Option<Made>,
 }
 
 impl<'a, R: Files> UnfinishedFile<'a, R> {
@@ -50,10 +54,45 @@ impl<'a, R: Files> UnfinishedFile<'a, R> {
         }
     }
 
+    /// Returns the parts: the output file's path, and the unfinished file if it was created.
+    pub fn into_parts(self) -> (&'a R, Text, Option<Made>) {
+        let UnfinishedFile {
+            runtime,
+            alloc: _,
+            place,
+            free: _,
+            made,
+        } = self;
+        (runtime, place, made)
+    }
+}
+
+impl<R: Files<File = File>> UnfinishedFile<'_, R> {
+    /// Removes the unfinished files of earlier runs, unless a process writes them still.
+    pub fn clear(&self) -> Result<(), OutputFault> {
+        let mut free = 0_u32;
+        for number in 0..NAMES {
+            if free == FREE {
+                return Ok(());
+            }
+            let Ok(path) = unfinished_path(self.alloc, self.place.as_str(), number) else {
+                return Err(OutputFault::Memory);
+            };
+            if is_free(self.runtime, path.as_str()) {
+                free = free.saturating_add(1);
+            } else {
+                free = 0;
+                remove_left(self.runtime, path.as_str());
+            }
+        }
+        Ok(())
+    }
+
     /// Checks that a file can be created: creates one and removes it. Keeps its path, so that the first write needs no
     /// memory for one.
     pub fn see_room(&mut self) -> Result<(), OutputFault> {
-        let Made { file: _, path } = self.make()?;
+        // The file is open, and so locked, until it is removed: another run can't have put its own there.
+        let Made { file: _file, path } = self.make()?;
         let _ = fs::remove_file(self.runtime, path.as_str());
         self.free = Some(path);
         Ok(())
@@ -73,36 +112,25 @@ impl<'a, R: Files> UnfinishedFile<'a, R> {
         }
     }
 
-    /// Returns the parts: the output file's path, and the unfinished file if it was created.
-    pub fn into_parts(self) -> (&'a R, Text, Option<Made<R::File>>) {
-        let UnfinishedFile {
-            runtime,
-            alloc: _,
-            place,
-            free: _,
-            made,
-        } = self;
-        (runtime, place, made)
-    }
-
     /// Creates the file by the path that was kept, or by another one if something is there by now.
-    fn begin(&mut self) -> Result<Made<R::File>, OutputFault> {
+    fn begin(&mut self) -> Result<Made, OutputFault> {
         let Some(path) = self.free.take() else {
             return self.make();
         };
-        match File::create_new(self.runtime, path.as_str()) {
+        match create_marked(self.runtime, path.as_str()) {
             Ok(file) => Ok(Made { file, path }),
-            Err(_) => self.make(),
+            Err(error) if error.kind() == ErrorKind::AlreadyExists => self.make(),
+            Err(_) => Err(OutputFault::Refused),
         }
     }
 
     /// Creates a file under a name that is free.
-    fn make(&self) -> Result<Made<R::File>, OutputFault> {
+    fn make(&self) -> Result<Made, OutputFault> {
         for number in 0..NAMES {
             let Ok(path) = unfinished_path(self.alloc, self.place.as_str(), number) else {
                 return Err(OutputFault::Memory);
             };
-            match File::create_new(self.runtime, path.as_str()) {
+            match create_marked(self.runtime, path.as_str()) {
                 Ok(file) => return Ok(Made { file, path }),
                 Err(error) if error.kind() == ErrorKind::AlreadyExists => {}
                 Err(_) => return Err(OutputFault::Refused),
@@ -118,7 +146,15 @@ fn unfinished_path(alloc: Global, place: &str, number: u32) -> Result<Text, Allo
     Ok(Text::from(path))
 }
 
-impl<R: Files> Write for UnfinishedFile<'_, R> {
+/// Returns whether nothing is at this path.
+fn is_free<R: Files>(rt: &R, path: &str) -> bool {
+    match fs::symlink_metadata(rt, path) {
+        Ok(_) => false,
+        Err(error) => error.kind() == ErrorKind::NotFound,
+    }
+}
+
+impl<R: Files<File = File>> Write for UnfinishedFile<'_, R> {
     fn write(&mut self, buf: &[u8]) -> io::Result<usize> {
         if let Some(made) = &mut self.made {
             return made.file.write(buf);

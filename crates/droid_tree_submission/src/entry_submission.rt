@@ -10,7 +10,7 @@ ghost use Rattle.droid_tree_upload.specs.Fronts.{EndsEarly};
 
 use crate::findings::{Found, add_file_node, add_folder_node};
 use crate::watcher_reports::{report, report_below, report_folder};
-use droid_frame::Text;
+use droid_frame::{Refusal, Text};
 use droid_tree::{
     EntryKind, FolderEntry, PendingFolder, Skipped, Tree, Watcher, name_of, path_below,
 };
@@ -48,6 +48,11 @@ pub(crate) fn submit_entry<T: Tree, C: Client, W: Watcher>(
         }
         EntryKind::Other => {
             report(upload, path.as_str().as_bytes(), Skipped::Kind);
+            Ok(false)
+        }
+        EntryKind::TooLong => {
+            let why = Skipped::Refused(Refusal::PathTooLong);
+            report(upload, path.as_str().as_bytes(), why);
             Ok(false)
         }
     }

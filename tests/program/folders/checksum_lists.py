@@ -3,6 +3,7 @@
 import hashlib
 import os
 import re
+import subprocess
 import unittest
 
 from lib.trees import InFolder, profile
@@ -11,6 +12,11 @@ from verify_lists import InLists, rows_in, verify
 # the MD5 and the SHA-256 of `hello` and a line feed
 M = b"b1946ac92492d2347c6235b4d2611184"
 S = b"5891b5b522d5df086d0ff0b110fbd9d21bb4fc7163af34d08286a2e846f6be03"
+
+
+# a byte order mark
+MARK = b"\xef\xbb\xbf"
+NO_FILES = b"it names no file: name the CSV of a profile, or a list of checksums"
 
 
 def malformed(line):
@@ -27,10 +33,11 @@ def other_kind(line):
 
 # lists, and what is read: the path and the digest of each file, or why the list can't be read
 CHECKSUMS = [
-    # nothing, empty lines and comments
-    (b"", []),
-    (b"\n\r\n\r", []),
-    (b"# a comment\n#\n", []),
+    # no file is named: nothing, empty lines and comments
+    (b"", NO_FILES),
+    (b"\n\r\n\r", NO_FILES),
+    (b"# a comment\n#\n", NO_FILES),
+    (MARK, NO_FILES),
     # what `md5sum` writes
     (M + b"  a\n", [(b"/a", M)]),
     (S + b"  a\n", [(b"/a", S)]),
@@ -51,6 +58,38 @@ CHECKSUMS = [
     (M + b"   a \n", [(b"/ a ", M)]),
     (M + b"  a\r\r\n", [(b"/a\r", M)]),
     (M + b"  a\n" + M + b"  a\n", b"has a path twice: /a"),
+    # a byte order mark in front, and nowhere else
+    (MARK + M + b"  a\n", [(b"/a", M)]),
+    (MARK + b"\\" + M + b"  a\\\\b\r\n", [(b"/a\\b", M)]),
+    (MARK + b"# c\n" + M + b"  a\n", [(b"/a", M)]),
+    (MARK + MARK + M + b"  a\n", malformed(1)),
+    (M + b"  a\n" + MARK + M + b"  b\n", malformed(2)),
+    # what `md5sum --tag` and `sha256sum --tag` write, alone or beside other lines
+    (b"MD5 (a) = " + M + b"\n", [(b"/a", M)]),
+    (b"SHA256 (a) = " + S + b"\n", [(b"/a", S)]),
+    (MARK + b"MD5 (a) = " + M + b"\r\n", [(b"/a", M)]),
+    (b"MD5 (a) = " + M.upper(), [(b"/a", M)]),
+    (b"MD5 (./a/b c) = " + M + b"\nMD5 ( d ) = " + M + b"\n" + M + b"  e\n", [(b"/a/b c", M), (b"/ d ", M), (b"/e", M)]),
+    (b"MD5 (par) = x) = " + M + b"\n", [(b"/par) = x", M)]),
+    (b"MD5 (a) = " + M + b") = " + M + b"\n", [(b"/a) = " + M, M)]),
+    (b"\\MD5 (back\\\\slash) = " + M + b"\n", [(b"/back\\slash", M)]),
+    (b"\\SHA256 (new\\nline\\r) = " + S + b"\n", [(b"/new\nline\r", S)]),
+    (b"MD5 (a\\nb) = " + M + b"\n", [(b"/a\\nb", M)]),
+    (b"MD5 (a) = " + S + b"\n", malformed(1)),
+    (b"SHA256 (a) = " + M + b"\n", malformed(1)),
+    (b"MD5 (a)= " + M + b"\n", malformed(1)),
+    (b"MD5(a) = " + M + b"\n", malformed(1)),
+    (b"MD5 a = " + M + b"\n", malformed(1)),
+    (b"MD5 (a) = " + M[1:] + b"\n", malformed(1)),
+    (b"MD5 (a) = " + M + b" \n", malformed(1)),
+    (b" MD5 (a) = " + M + b"\n", malformed(1)),
+    (b"md5 (a) = " + M + b"\n", malformed(1)),
+    (b"SHA1 (a) = " + M + b"\n", malformed(1)),
+    (b"\\MD5 (a\\b) = " + M + b"\n", malformed(1)),
+    (b"MD5 () = " + M + b"\n", no_file(1)),
+    (b"MD5 (/a) = " + M + b"\n", no_file(1)),
+    (b"MD5 (a/../b) = " + M + b"\n", no_file(1)),
+    (b"MD5 (a) = " + M + b"\nSHA256 (b) = " + S + b"\n", other_kind(2)),
     (M + b"  ...\n", [(b"/...", M)]),
     (M + b"  a/.b/..c\n", [(b"/a/.b/..c", M)]),
     # a line that is malformed
@@ -64,11 +103,9 @@ CHECKSUMS = [
     (M + b"0  a\n", malformed(1)),
     (M[:-1] + b"g  a\n", malformed(1)),
     (M + b"00000000  a\n", malformed(1)),
-    (b"MD5 (a) = " + M + b"\n", malformed(1)),
     (b"\\" + M + b"  a\\b\n", malformed(1)),
     (b"\\" + M + b"  a\\\n", malformed(1)),
     (b"\\ " + M + b"  a\n", malformed(1)),
-    (b"\xef\xbb\xbf" + M + b"  a\n", malformed(1)),
     (b"  \n", malformed(1)),
     (b" # c\n", malformed(1)),
     (b"a,b\n", malformed(1)),
@@ -111,6 +148,18 @@ BAGS = [
     (M + b" *data/a\n", [(b"/a", M)]),
     (M + b"  ./data/a\n", [(b"/a", M)]),
     (M + b" *./data/a\n", [(b"/a", M)]),
+    # each of a line feed, a carriage return and both ends a line, and counts once
+    (M + b"  data/a\r" + M + b"  data/b\r", [(b"/a", M), (b"/b", M)]),
+    (M + b"  data/a\r" + M + b"  data/b", [(b"/a", M), (b"/b", M)]),
+    (M + b"  data/a\r\n" + M + b"  data/b\r" + M + b"  data/c\n", [(b"/a", M), (b"/b", M), (b"/c", M)]),
+    (M + b"  data/a\r\r\n\n\r" + M + b"  data/b\n", [(b"/a", M), (b"/b", M)]),
+    (MARK + M + b"  data/a\r" + M + b"  data/b\r", [(b"/a", M), (b"/b", M)]),
+    (M + b"  data/a\r# c\r" + M + b"  data/b%0D\r", [(b"/a", M), (b"/b\r", M)]),
+    # so a raw one in a path leaves two lines that are none
+    (M + b"  data/a\rb\n", malformed(2)),
+    (M + b"  data/a\n" + M + b"  data/b\rc\n", malformed(3)),
+    (M + b"  data/a\r\n" + M[1:] + b"  data/b\r\n", malformed(2)),
+    (M + b"  data/a\r" + M + b"  data/b\r" + M[1:] + b"  data/c\r", malformed(3)),
     # a line that is malformed
     (M + b"  data/a\n" + M[1:] + b"  data/b\n", malformed(2)),
     (M + b"  data/a\n\\" + M + b"  data/b\n", malformed(2)),
@@ -230,6 +279,20 @@ class Read(InLists):
         for lines in LINES.values():
             due = [(b"/" + path, DIGEST.search(line)[0]) for path, line in lines.items()]
             self.check(self.top, b"".join(lines.values()), due)
+
+    def test_tags_of_coreutils(self):
+        """What this machine's `md5sum --tag` and `sha256sum --tag` print of files with odd names."""
+        for path in MD5SUM:
+            self.folder(b"/in/" + os.path.dirname(path))
+            self.file(b"/in/" + path, path)
+        top = self.top + b"/in"
+        for hash in LINES:
+            command = f"find . -type f -exec {hash}sum --tag {{}} +"
+            text = subprocess.run(command, shell=True, cwd=top, capture_output=True, check=True).stdout
+            self.assertEqual(len(text.splitlines()), len(MD5SUM))
+            empty = self.work + b"/empty"
+            os.makedirs(empty, exist_ok=True)
+            self.check(empty, text, [(b"/" + path, hashlib.new(hash, path).hexdigest().encode()) for path in MD5SUM])
 
 
 class Written(InFolder):

@@ -8,7 +8,7 @@ import unittest
 from lib.rows import COLUMNS
 from lib.trees import ALL_SKIPPED, CHANGED, KIND, LINK, LINKS, NAME, SKIPPED, UNREAD, InFolder, lines, profile, read, read_skipped, status_of, walk
 
-REASON = re.compile(rb"(.*?): ((?:it |neither |its |same name: |the profile ).*)")
+REASON = re.compile(rb"(.*?): ((?:it |neither |its |same name: |the profile |with DIR, ).*)")
 
 
 class Skipped(InFolder):
@@ -129,7 +129,7 @@ class Skipped(InFolder):
         self.assertEqual(status, 5)
         self.assertTrue(14 <= len(read(out)) <= 16)
         [reason] = self.reported(err).values()
-        self.assertEqual(reason, b"its path is longer than 4,096 bytes")
+        self.assertEqual(reason, b"with DIR, its path has more than 4,095 bytes")
 
     def test_unreadable_for_all(self):
         # files that nobody may read

@@ -96,9 +96,10 @@ def bag(items, name):
 
 def expected(listed, found, name, with_sizes=True, unreadable=None, when=None):
     """The report by the definition: for each path of either side what differs; a missing file moved where it and a new file
-    are the only ones with their hash, and their sizes are not known to differ. An unreadable path (with its reason) is
-    reported as that, and nothing else is of it and of what lies below it. By `--quick` the moments of both sides
-    (`when`) are compared in the place of hashes, if there are sizes, and no file moves."""
+    are the only ones with their hash, and their sizes are not known to differ. A file of both sides that does not differ, and
+    has no hash, is unchecked. An unreadable path (with its reason) is reported as that, and nothing else is of it and of what
+    lies below it. By `--quick` the moments of both sides (`when`) are compared in the place of hashes, if there are sizes; no
+    file moves, and none is unchecked."""
     unreadable = unreadable or {}
     readable = lambda items: {p: items[p] for p in items if not any(p == u or p.startswith(u + b"/") for u in unreadable)}
     listed, found = readable(listed), readable(found)
@@ -130,6 +131,8 @@ def expected(listed, found, name, with_sizes=True, unreadable=None, when=None):
             a, b = listed[path], found[path]
             if differ(path, a, b):
                 rows.append((b"changed", path, *old(a), path, *new(b), b""))
+            elif a is not None and name == "none" and not when:
+                rows.append((b"unchecked", path, *old(a), path, *new(b), b"no hash to compare"))
         elif path in moves:
             rows.append((b"moved", path, *old(listed[path]), moves[path], *new(found[moves[path]]), b""))
         elif path in listed:
@@ -371,7 +374,8 @@ class Lists(InLists):
         ]
         status, out, said = verify(self.top, "--against", path, "--quick")
         self.assertEqual((rows_in(out), status), (rows, 5), said)
-        self.assertIn(b"files compared by size and modification time alone: 6\n", said)
+        # what is new or missing was compared with nothing
+        self.assertIn(b"files compared by size and modification time alone: 4\n", said)
 
     def test_quick_with_a_list_of_checksums_compares_names(self):
         self.file(b"/a", b"a")
@@ -380,6 +384,8 @@ class Lists(InLists):
         status, out, said = verify(self.top, "--against", listed, "--quick")
         self.assertEqual([row[:2] for row in rows_in(out)], [(b"new", b"/b"), (b"missing", b"/c")], said)
         self.assertEqual(status, 5)
+        # names alone: no size is known
+        self.assertIn(b"files compared by size and modification time alone: 0\n", said)
 
     def test_lists_that_are_none(self):
         self.tree()
@@ -414,7 +420,8 @@ class Lists(InLists):
             whole = bytes_of(self.listed_as(form, name)[1])
             kinds, enough = ({b"new"}, 3) if form == "csv" else ({b"new", b"moved"}, 1)
             for end in range(len(whole)):
-                status, out, said = verify(self.top, "--against", self.write(b"cut", whole[:end]), "--quiet")
+                words = ["--quiet"] + ["--sizes-only"] * (name == "none")
+                status, out, said = verify(self.top, "--against", self.write(b"cut", whole[:end]), *words)
                 self.assertIn(status, [3, 5] if end < len(whole) - enough else [0], (end, said))
                 if status == 5:
                     self.assertLessEqual({row[0] for row in rows_in(out)}, kinds, (end, out))
@@ -446,29 +453,6 @@ class Lists(InLists):
             self.assertEqual((out, said.startswith(b"fault: List\n")), (b"", True), (where, said))
         else:
             self.assertEqual(bool(rows_in(out)), status == 5, where)
-
-    def test_rows_twice(self):
-        """A row that repeats the one before it is that of another format. Elsewhere a path may be there once."""
-        self.file(b"/a", b"a")
-        self.file(b"/b", b"b")
-        path = self.work + b"/list.csv"
-        profile(self.top, "--output", path, "--quiet")
-        head, first, second = bytes_of(path).splitlines(True)
-        self.checked(self.top, self.write(b"again.csv", head + first + first + second), [])
-        status, out, said = verify(self.top, "--against", self.write(b"twice.csv", head + first + second + first))
-        self.assertEqual((status, out, said.startswith(b"fault: List\n")), (3, b"", True), said)
-
-    def test_hashes_that_are_missing(self):
-        """A row without a hash is compared by its size alone."""
-        self.file(b"/a", b"a")
-        self.file(b"/b", b"b")
-        path = self.listed_as("csv", "sha256")[1]
-        text = bytes_of(path).replace(hashlib.sha256(b"a").hexdigest().encode(), b"")
-        self.file(b"/a", b"A")
-        self.checked(self.top, self.write(b"other.csv", text), [])
-        self.file(b"/a", b"aa")
-        row = (b"changed", b"/a", b"1", b"", b"/a", b"2", hashlib.sha256(b"aa").hexdigest().encode(), b"")
-        self.checked(self.top, self.write(b"other.csv", text), [row])
 
     def test_exports_of_a_service(self):
         self.tree()
@@ -565,8 +549,10 @@ class Formats(InLists):
         rows = list(csv.reader(io.StringIO(self.text.decode(), newline="")))
         changed = rows[:1]
         for row in rows[1:]:
-            for puid in puids.get(row[3], [row[14]]):
-                changed.append(row[:14] + [puid] + row[15:])
+            found = puids.get(row[3], [row[14]])
+            count = row[13] and str(sum(puid != "" for puid in found))
+            for puid in found:
+                changed.append(row[:13] + [count, puid] + row[15:])
         text = io.StringIO()
         csv.writer(text, lineterminator="\n").writerows(changed)
         return text.getvalue().encode()

@@ -20,45 +20,49 @@ ROWS = [
     ("1,,u,/a,a,,Done,5,File,,2026-01-31T23:59:51,false,,2,fmt/1,,,\n1,,u,/a,a,,Done,5,File,,2026-01-31T23:59:51,false,,2,fmt/2,,,\n2,,u,/b,b,,Done,6,File,,2026-01-31T23:59:52,false,,0,,,,\n", "/a f 5 1 -;/b f 6 2 -;"),
     # three formats, of which all columns differ
     ("1,,u,/a,a,Signature,Done,5,File,,2026-01-31T23:59:51,false,,3,fmt/1,m/a,A,1\n1,,u,/a,a,Signature,Done,5,File,,2026-01-31T23:59:51,false,,3,fmt/2,m/b,B,2\n1,,u,/a,a,Signature,Done,5,File,,2026-01-31T23:59:51,false,,3,,,,\n", "/a f 5 1 -;"),
-    # a row that repeats a row, but not the row before it
-    ("1,,u,/a,a,,Done,5,File,,,false,,0,,,,\n2,,u,/b,b,,Done,5,File,,,false,,0,,,,\n1,,u,/a,a,,Done,5,File,,,false,,0,,,,\n", "/a f 5 - -;/b f 5 - -;/a f 5 - -;"),
+    # a row that repeats a row, but not the row before it; and one that repeats all but its number
+    ("1,,u,/a,a,,Done,5,File,,,false,,0,,,,\n2,,u,/b,b,,Done,5,File,,,false,,0,,,,\n1,,u,/a,a,,Done,5,File,,,false,,0,,,,\n", "record 4: ID contradicts another record"),
+    ("1,,u,/a,a,,Done,5,File,,,false,,0,,,,\n2,,u,/b,b,,Done,5,File,,,false,,0,,,,\n3,,u,/a,a,,Done,5,File,,,false,,0,,,,\n", "/a f 5 - -;/b f 5 - -;/a f 5 - -;"),
     # one path with two lengths: both are kept, and no inventory takes them
-    ("1,,u,/a,a,,Done,5,File,,2026-01-31T23:59:51,false,,0,,,,\n1,,u,/a,a,,Done,6,File,,2026-01-31T23:59:51,false,,0,,,,\n", "/a f 5 1 -;/a f 6 1 -;"),
+    ("1,,u,/a,a,,Done,5,File,,2026-01-31T23:59:51,false,,0,,,,\n2,,u,/a,a,,Done,6,File,,2026-01-31T23:59:51,false,,0,,,,\n", "/a f 5 1 -;/a f 6 1 -;"),
     # one path with a hash and without
-    ("1,,u,/a,a,,Done,5,File,,2026-01-31T23:59:51,false,000102030405060708090a0b0c0d0e0f,0,,,,\n1,,u,/a,a,,Done,5,File,,2026-01-31T23:59:51,false,,0,,,,\n", "/a f 5 1 15;/a f 5 1 -;"),
+    ("1,,u,/a,a,,Done,5,File,,2026-01-31T23:59:51,false,000102030405060708090a0b0c0d0e0f,0,,,,\n2,,u,/a,a,,Done,5,File,,2026-01-31T23:59:51,false,,0,,,,\n", "/a f 5 1 15;/a f 5 1 -;"),
     # one path with a moment and without
-    ("1,,u,/a,a,,Done,5,File,,,false,,0,,,,\n1,,u,/a,a,,Done,5,File,,2026-01-31T23:59:51,false,,0,,,,\n", "/a f 5 - -;/a f 5 1 -;"),
-    # one path with two IDs, and with two counts of formats
-    ("1,,u,/a,a,,Done,5,File,,,false,,0,,,,\n2,,u,/a,a,,Done,5,File,,,false,,0,,,,\n2,,u,/a,a,,Done,5,File,,,false,,1,,,,\n", "/a f 5 - -;/a f 5 - -;/a f 5 - -;"),
-    # the same hash with digits of another case
-    ("1,,u,/a,a,,Done,5,File,,,false,000102030405060708090a0b0c0d0e0f,0,,,,\n1,,u,/a,a,,Done,5,File,,,false,000102030405060708090A0B0C0D0E0F,0,,,,\n", "/a f 5 - 15;/a f 5 - 15;"),
+    ("1,,u,/a,a,,Done,5,File,,,false,,0,,,,\n2,,u,/a,a,,Done,5,File,,2026-01-31T23:59:51,false,,0,,,,\n", "/a f 5 - -;/a f 5 1 -;"),
+    # one path with three IDs, and with two counts of formats
+    ("1,,u,/a,a,,Done,5,File,,,false,,0,,,,\n2,,u,/a,a,,Done,5,File,,,false,,0,,,,\n3,,u,/a,a,,Done,5,File,,,false,,1,,,,\n", "/a f 5 - -;/a f 5 - -;/a f 5 - -;"),
+    # the same hash with digits of another case: the row is no further row of the file
+    ("1,,u,/a,a,,Done,5,File,,,false,000102030405060708090a0b0c0d0e0f,0,,,,\n1,,u,/a,a,,Done,5,File,,,false,000102030405060708090A0B0C0D0E0F,0,,,,\n", "record 3: ID contradicts another record"),
+    ("1,,u,/a,a,,Done,5,File,,,false,000102030405060708090a0b0c0d0e0f,0,,,,\n2,,u,/a,a,,Done,5,File,,,false,000102030405060708090A0B0C0D0E0F,0,,,,\n", "/a f 5 - 15;/a f 5 - 15;"),
+    # a row again
+    ("1,,u,/a,a,,Done,5,File,,,false,,0,,,,\n1,,u,/a,a,,Done,5,File,,,false,,0,,,,\n", "record 3: FORMAT_COUNT contradicts another record"),
     # a name with a line feed, a quote and a comma; line ends of two bytes
-    ('1,,u,"/a\n"",b",x,,Done,5,File,,2026-01-31T23:59:51,false,,0,,,,\r\n2,,u,/c,c,,Done,6,File,,2026-01-31T23:59:52,false,,0,,,,\r\n', '/a\n",b f 5 1 -;/c f 6 2 -;'),
+    ('1,,u,"/a\n"",b","a\n"",b",,Done,5,File,,2026-01-31T23:59:51,false,,0,,,,\r\n2,,u,/c,c,,Done,6,File,,2026-01-31T23:59:52,false,,0,,,,\r\n', '/a\n",b f 5 1 -;/c f 6 2 -;'),
     # no moment
     ("1,,u,/a,a,,Done,5,File,,,false,,0,,,,\n", "/a f 5 - -;"),
     # no line feed at the end
     ("1,,u,/a,a,,Done,18446744073709551615,File,,,false,,0,,,,", "/a f 18446744073709551615 - -;"),
     # malformed: the size
-    ("1,,u,/a,a,,Done,,File,,,false,,0,,,,\n", "record 2"),
-    ("1,,u,/a,a,,Done,+5,File,,,false,,0,,,,\n", "record 2"),
-    ("1,,u,/a,a,,Done,5 ,File,,,false,,0,,,,\n", "record 2"),
-    ("1,,u,/a,a,,Done,18446744073709551616,File,,,false,,0,,,,\n", "record 2"),
-    ("1,,u,/a,a,,Done,5,Folder,,,false,,,,,,\n", "record 2"),
+    ("1,,u,/a,a,,Done,,File,,,false,,0,,,,\n", "record 2: SIZE is wrong"),
+    ("1,,u,/a,a,,Done,+5,File,,,false,,0,,,,\n", "record 2: SIZE is wrong"),
+    ("1,,u,/a,a,,Done,5 ,File,,,false,,0,,,,\n", "record 2: SIZE is wrong"),
+    ("1,,u,/a,a,,Done,18446744073709551616,File,,,false,,0,,,,\n", "record 2: SIZE is wrong"),
+    ("1,,u,/a,a,,Done,5,Folder,,,false,,,,,,\n", "record 2: SIZE is wrong"),
     # the kind
-    ("1,,u,/a,a,,Done,5,file,,,false,,0,,,,\n", "record 2"),
-    ("1,,u,/a,a,,Done,5,,,,false,,0,,,,\n", "record 2"),
+    ("1,,u,/a,a,,Done,5,file,,,false,,0,,,,\n", "record 2: TYPE is wrong"),
+    ("1,,u,/a,a,,Done,5,,,,false,,0,,,,\n", "record 2: TYPE is wrong"),
     # the path
-    ("1,,u,a,a,,Done,5,File,,,false,,0,,,,\n", "record 2"),
-    ("1,,u,,a,,Done,5,File,,,false,,0,,,,\n", "record 2"),
+    ("1,,u,a,a,,Done,5,File,,,false,,0,,,,\n", "record 2: FILE_PATH is wrong"),
+    ("1,,u,,a,,Done,5,File,,,false,,0,,,,\n", "record 2: FILE_PATH is wrong"),
     # the moment
-    ("1,,u,/a,a,,Done,5,File,,2026-01-31,false,,0,,,,\n", "record 2"),
+    ("1,,u,/a,a,,Done,5,File,,2026-01-31,false,,0,,,,\n", "record 2: LAST_MODIFIED is wrong"),
     # the hash
-    ("1,,u,/a,a,,Done,5,File,,,false,00010203,0,,,,\n", "record 2"),
-    ("1,,u,/a,a,,Done,5,File,,,false,0001020304050607_8090a0b0c0d0e0f,0,,,,\n", "record 2"),
-    ("1,,u,/d,d,,Done,,Folder,,,false,000102030405060708090a0b0c0d0e0f,,,,,\n", "record 2"),
+    ("1,,u,/a,a,,Done,5,File,,,false,00010203,0,,,,\n", "record 2: MD5_HASH is wrong"),
+    ("1,,u,/a,a,,Done,5,File,,,false,0001020304050607_8090a0b0c0d0e0f,0,,,,\n", "record 2: MD5_HASH is wrong"),
+    ("1,,u,/d,d,,Done,,Folder,,,false,000102030405060708090a0b0c0d0e0f,,,,,\n", "record 2: MD5_HASH is wrong"),
     # the number of fields
-    ("1,,u,/a,a,,Done,5,File,,,false,,0,,,\n", "record 2"),
-    ("1,,u,/a,a,,Done,5,File,,,false,,0,,,,\n2,,u,/b,b,,Done,6,File,,,false,,0,,,,,\n", "record 3"),
+    ("1,,u,/a,a,,Done,5,File,,,false,,0,,,\n", "record 2 does not have 18 fields"),
+    ("1,,u,/a,a,,Done,5,File,,,false,,0,,,,\n2,,u,/b,b,,Done,6,File,,,false,,0,,,,,\n", "record 3 does not have 18 fields"),
 ]
 # the hash of the rows that have one, and a moment of 2026-01-31T23:59:50
 HASH, MOMENT = bytes(range(16)).hex().encode(), 1_769_903_990
@@ -71,27 +75,27 @@ HEADERS = [
 # rows, the moment of the file `/a` of the six bytes `first\n` after MOMENT, options, and what is reported
 COMPARED = [
     # another file at the path
-    ("1,,u,/a,x,,Done,7,File,,2026-01-31T23:59:59,false,59d0d19fc45ca69230d858f60a5557f8,0,,,,\n", 9, [], "changed /a length hash;"),
+    ("1,,u,/a,a,,Done,7,File,,2026-01-31T23:59:59,false,59d0d19fc45ca69230d858f60a5557f8,0,,,,\n", 9, [], "changed /a length hash;"),
     # removed since
     (
-        "1,,u,/a,x,,Done,6,File,,2026-01-31T23:59:59,false,eb260e9ae827821beceeed4104f0ad89,0,,,,\n"
-        "2,,u,/b,x,,Done,6,File,,2026-01-31T23:59:59,false,eb260e9ae827821beceeed4104f0ad89,0,,,,\n",
+        "1,,u,/a,a,,Done,6,File,,2026-01-31T23:59:59,false,eb260e9ae827821beceeed4104f0ad89,0,,,,\n"
+        "2,,u,/b,b,,Done,6,File,,2026-01-31T23:59:59,false,eb260e9ae827821beceeed4104f0ad89,0,,,,\n",
         9, [], "missing /b;",
     ),
     # not in the profile
     ("", 9, [], "new /a;"),
     # under another path
-    ("1,,u,/b,x,,Done,6,File,,2026-01-31T23:59:59,false,eb260e9ae827821beceeed4104f0ad89,0,,,,\n", 9, [], "moved /b /a;"),
+    ("1,,u,/b,b,,Done,6,File,,2026-01-31T23:59:59,false,eb260e9ae827821beceeed4104f0ad89,0,,,,\n", 9, [], "moved /b /a;"),
     # another moment
-    ("1,,u,/a,x,,Done,6,File,,2026-01-31T23:59:59,false,eb260e9ae827821beceeed4104f0ad89,0,,,,\n", 8, ["--quick"], "touched /a;"),
+    ("1,,u,/a,a,,Done,6,File,,2026-01-31T23:59:59,false,eb260e9ae827821beceeed4104f0ad89,0,,,,\n", 8, ["--quick"], "touched /a;"),
     # a hash that is not known
-    ("1,,u,/a,x,,Done,6,File,,2026-01-31T23:59:59,false,eb260e9ae827821beceeed4104f0ad89,0,,,,\n", 9, ["--quick"], ""),
+    ("1,,u,/a,a,,Done,6,File,,2026-01-31T23:59:59,false,eb260e9ae827821beceeed4104f0ad89,0,,,,\n", 9, ["--quick"], ""),
     # a folder in the place of a file
-    ("1,,u,/a,x,,Done,,Folder,,2026-01-31T23:59:59,false,,0,,,,\n", 9, [], "changed /a kind;"),
+    ("1,,u,/a,a,,Done,,Folder,,2026-01-31T23:59:59,false,,,,,,\n", 9, [], "changed /a kind;"),
     # a path twice in the CSV
     (
-        "1,,u,/a,x,,Done,6,File,,2026-01-31T23:59:59,false,eb260e9ae827821beceeed4104f0ad89,0,,,,\n"
-        "2,,u,/a,x,,Done,6,File,,2026-01-31T23:59:59,false,eb260e9ae827821beceeed4104f0ad89,0,,,,\n",
+        "1,,u,/a,a,,Done,6,File,,2026-01-31T23:59:59,false,eb260e9ae827821beceeed4104f0ad89,0,,,,\n"
+        "2,,u,/a,a,,Done,6,File,,2026-01-31T23:59:59,false,eb260e9ae827821beceeed4104f0ad89,0,,,,\n",
         9, [], "twice /a",
     ),
 ]
@@ -106,7 +110,7 @@ TWO_FORMATS = (
 def sentence(fault):
     """What is said of a list with this fault."""
     what, _, of = fault.partition(" ")
-    return {"header": "the first record is not that of a profile", "record": f"record {of} is malformed", "twice": f"has a path twice: {of}"}[what].encode()
+    return {"header": "the first record is not that of a profile", "twice": f"has a path twice: {of}"}.get(what, fault).encode()
 
 
 def items_of(text):

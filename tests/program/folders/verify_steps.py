@@ -77,10 +77,13 @@ def list_text(form, name, puid):
     column = {"none": "HASH", "md5": "MD5_HASH", "sha256": "SHA256_HASH"}[name]
     names = f"ID,PARENT_ID,URI,FILE_PATH,NAME,METHOD,STATUS,SIZE,TYPE,EXT,LAST_MODIFIED,EXTENSION_MISMATCH,{column},FORMAT_COUNT,PUID,MIME_TYPE,FORMAT_NAME,FORMAT_VERSION\n"
     rows = [names.encode()]
+    ids = {path: b"%d" % number for number, path in enumerate(entries([]), 1)} | {b"": b""}
     for path, what in entries([]).items():
-        size, kind, digest = (b"", b"Folder", b"") if what is FOLDER else (b"%d" % len(what), b"File", hash_of(what))
+        above, name_of_row = path.rsplit(b"/", 1)
+        size, kind, digest, count = (b"", b"Folder", b"", b"") if what is FOLDER else (b"%d" % len(what), b"File", hash_of(what), b"0")
         puid_of_row = (puid or "").encode() if path == b"/same" else b""
-        rows.append(b"1,,u,%b,x,,Done,%b,%b,,1970-01-01T00:00:00,false,%b,0,%b,,,\n" % (path, size, kind, digest, puid_of_row))
+        fields = (ids[path], ids[above], path, name_of_row, size, kind, digest, b"1" if puid_of_row else count, puid_of_row)
+        rows.append(b"%b,%b,u,%b,%b,,Done,%b,%b,,1970-01-01T00:00:00,false,%b,%b,%b,,,\n" % fields)
     return b"".join(rows)
 
 

@@ -116,11 +116,16 @@ class OfTheExport(Lies):
             (b'"513"', b'"514"', b"differs: /z.bin: the profile has another length"),
             (b'"2017-07-14T02:40:00"', b'"2017-07-14T02:40:01"', b"differs: /sub: the profile has another modification time"),
             (b'"2001-09-09T01:46:40"', b'"2001-09-09T01:46:39"', b"differs: /a.bin: the profile has another modification time"),
-            (b'"","Folder"', b'"0","File"', b"differs: /sub: the profile has another kind"),
-            (b'"/a.bin"', b'"/c.bin"', b"differs: /a.bin: the profile has it as /c.bin"),
+            (b'"/a.bin","a.bin"', b'"/c.bin","c.bin"', b"differs: /a.bin: the profile has it as /c.bin"),
         ):
             with self.subTest(line=line):
                 self.shows(lambda text, old=old, new=new: text.replace(old, new), line)
+
+    def test_contradictions(self):
+        """A folder that is a file has a file below it; a name is not the last part of its path."""
+        for old, new in ((b'"","Folder"', b'"0","File"'), (b'"/a.bin"', b'"/c.bin"')):
+            with self.subTest(new=new):
+                self.ends(exporting(lambda text, old=old, new=new: text.replace(old, new)), "Reply", NO_PROFILE)
 
     def test_other_hash(self):
         """Of a file that was read in this run."""

@@ -13,7 +13,7 @@ from lib.submissions import WithSmallTree, fault, submit
 SKIPS = {
     "NumberReused": b"changed since it was submitted",
     "BadName": b"its name is too long or can't be in a profile",
-    "PathTooLong": b"its path is longer than 4,096 bytes",
+    "PathTooLong": b"with DIR, its path has more than 4,095 bytes",
     "NameTaken": b"changed since it was submitted",
     "BadOption": b"its modification time is out of range",
     "TooLarge": b"it is too large",

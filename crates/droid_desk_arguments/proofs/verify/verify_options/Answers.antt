@@ -3,7 +3,7 @@ use Rattle.std.specs.Str.Parse.{ExplainsUnsignedError, HasUnsignedDigitsIfOk, Pa
 use Rattle.clap.specs.Words.{found_of, rows_of}
 use Rattle.clap.proofs.WalkLemmas.{first_value-rows}
 use Rattle.droid_desk_options.proofs.Options.{number_or}
-use Rattle.droid_desk_arguments.proofs.Refusals.{not_found, nothing_read, two_named}
+use Rattle.droid_desk_arguments.proofs.Refusals.{measured_twice, not_found, nothing_read, two_named}
 use Rattle.droid_desk_arguments.proofs.verify.verify_options.Goals as goal
 
 pub returns : goal.returns
@@ -13,12 +13,14 @@ returns c =
       folder = c.in_ok-folder.ensures ∙ first_value-rows found (codes "folder");
       against = c.in_ok-against.ensures ∙ first_value-rows found (codes "against");
       quick = c.flag_of-quick.ensures;
+      sizes_only = c.flag_of-sizes_only.ensures;
       identify = c.flag_of-identify.ensures;
       registry = c.get_str-registry.ensures ∙ first_value-rows found (codes "registry");
       everyday = c.flag_of-everyday.result;
       is_flag = c.flag_of-everyday.ensures;
       names_one = sym c.names_two.ensures ∙ c.if-names_two.false;
       reads_files = sym c.reads_nothing.ensures ∙ c.if-reads_nothing.false;
+      one_measure = sym c.measures_twice.ensures ∙ c.if-measures_twice.false;
       limit = number_or (λ bs r. ParsesUnsigned 32 10 bs r × ExplainsUnsignedError 10 bs r × HasUnsignedDigitsIfOk bs r) 32 (λ text r gives. gives.0) 65536
           found (codes "limit") c.get_one.result c.unwrap_or-limit.result c.get_one.ensures.none c.get_one.ensures.value c.unwrap_or-limit.ensures;
       match_all = c.flag_of-match_all.ensures;
@@ -34,6 +36,10 @@ returns-in_err-against c = rw c.from_residual-in_err-against.ensures (λ options
 pub returns-then-reads_nothing : goal.returns-then-reads_nothing
 returns-then-reads_nothing c =
     nothing_read (rows_of (found_of c.args.verify.now)) _ _ c.flag_of-quick.ensures c.flag_of-identify.ensures (sym c.if-reads_nothing.true ∙ c.reads_nothing.ensures)
+
+pub returns-then-measures_twice : goal.returns-then-measures_twice
+returns-then-measures_twice c =
+    measured_twice (rows_of (found_of c.args.verify.now)) _ _ c.flag_of-quick.ensures c.flag_of-sizes_only.ensures (sym c.if-measures_twice.true ∙ c.measures_twice.ensures)
 
 pub returns-then-names_two : goal.returns-then-names_two
 returns-then-names_two c =

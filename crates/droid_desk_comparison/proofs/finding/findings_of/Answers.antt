@@ -8,6 +8,6 @@ pub returns : goal.returns
 returns c =
     let sorted = c.sort_unstable_by.ensures.sorted (λ a b. is_before a.path b.path) (ranks_by nat_list_cmp_total (λ finding. finding.path)) (answers_always _ _ _ (λ f a r g h. search rules)) in
     record {
-      same = rw (c.as_slice-listed.ensures.value, c.as_slice-found.ensures.value, c.as_slice.ensures.value, c.new-findings.ensures.items) at (rw (c.in_ok-add_changes.ensures, c.in_ok-add_unreadable.ensures, c.in_ok-add_differences.ensures) at c.sort_unstable_by.ensures.permutation);
+      same = rw (c.as_slice-listed.ensures.value, c.as_slice-found.ensures.value, c.as_slice.ensures.value, c.as_slice-files.ensures.value, c.new-findings.ensures.items) at (rw (c.in_ok-add_changes.ensures, c.in_ok-add_unreadable.ensures, c.in_ok-add_unchecked.ensures, c.in_ok-add_differences.ensures) at c.sort_unstable_by.ensures.permutation);
       in_order = sorted;
     }

@@ -1,12 +1,13 @@
 use Rattle.std.proofs.Common.{length}
 use Rattle.std.specs.Option.{option_map}
+use Rattle.droid_fixity_lists.specs.Calls.{rows_of}
 use Rattle.droid_fixity_lists.specs.PlainRows.{fields_in}
 use Rattle.droid_fixity_lists.proofs.PlainLists.{Comes}
 use Rattle.droid_fixity_lists.proofs.plain_list.items_of_rows.Given as goal
 
--- the rows so far come to the items
+-- the rows so far come to these
 abbrev pub invariant-loop-last : goal.invariant-loop-last
-invariant-loop-last l = Comes l.fn.digest l.fn.text l.rest l.items.items (option_map (λ row. fields_in row.fields) l.last)
+invariant-loop-last l = Comes l.fn.digest l.fn.text l.rest l.records (rows_of l.rows) (option_map (λ row. fields_in row.fields) l.last)
 
 -- each row is a part of what is left
 abbrev pub decreases-loop-last : goal.decreases-loop-last

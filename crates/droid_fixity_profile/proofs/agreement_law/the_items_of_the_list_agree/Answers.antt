@@ -1,10 +1,9 @@
-use Rattle.std.proofs.Common.{◌≡◌, ◌∙◌, List, Result, Ok, sym, subst}
+use Rattle.std.proofs.Common.{◌≡◌, List, Result, Ok, subst}
 use Rattle.std.specs.Prelude.{IsPermutation}
 use Rattle.droid_fixity.specs.Reports.{IsReport}
 use Rattle.droid_fixity.specs.declared.item.Item.{Item}
 use Rattle.droid_fixity_lists.specs.declared.fault.ListFault.{ListFault}
 use Rattle.droid_fixity_profile.proofs.SameInventories.{same_inventory}
-use Rattle.droid_fixity_profile.specs.declared.profile_check.Seen.{Seen}
 use Rattle.droid_fixity_profile.proofs.agreement_law.the_items_of_the_list_agree.Goals as goal
 
 -- a list has one list of items

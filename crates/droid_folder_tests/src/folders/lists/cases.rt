@@ -210,10 +210,11 @@ fn hash_of(kind: u8, last: u8) -> HashValue {
 
 /// CSVs, each with its header or without, and their faults beside a tree that has `/a` twice. A CSV is judged first.
 #[rattlefmt::skip]
-const FAULTS: [(&str, &str, &str); 4] = [
-    (NAMES, "1,,u,/a,x,,Done,6,File,,2026-01-31T23:59:59,false,eb260e9ae827821beceeed4104f0ad89,0,,,,\n", "found /a"),
-    (NAMES, "1,,u,/b,x,,Done,6,File,,2026-01-31T23:59:59,false,eb260e9ae827821beceeed4104f0ad89,0,,,,\n1,,u,/b,x,,Done,6,File,,2026-01-31T23:59:59,false,,0,,,,\n", "listed /b"),
-    (NAMES, "1,,u,/b,x,,Done,6,File,,2026-01-31T23:59:59,false,eb260e9ae827821beceeed4104f0ad89,0,,,,\n1,,u,b,x,,Done,6,File,,2026-01-31T23:59:59,false,eb260e9ae827821beceeed4104f0ad89,0,,,,\n", "record 3 is malformed"),
+const FAULTS: [(&str, &str, &str); 5] = [
+    (NAMES, "1,,u,/a,a,,Done,6,File,,2026-01-31T23:59:59,false,eb260e9ae827821beceeed4104f0ad89,0,,,,\n", "found /a"),
+    (NAMES, "1,,u,/b,b,,Done,6,File,,2026-01-31T23:59:59,false,eb260e9ae827821beceeed4104f0ad89,0,,,,\n2,,u,/b,b,,Done,6,File,,2026-01-31T23:59:59,false,,0,,,,\n", "listed /b"),
+    (NAMES, "1,,u,/b,b,,Done,6,File,,2026-01-31T23:59:59,false,eb260e9ae827821beceeed4104f0ad89,0,,,,\n2,,u,b,b,,Done,6,File,,2026-01-31T23:59:59,false,eb260e9ae827821beceeed4104f0ad89,0,,,,\n", "record 3: FILE_PATH is wrong"),
+    (NAMES, "1,,u,/b,b,,Done,6,File,,2026-01-31T23:59:59,false,,0,,,,\n1,,u,/c,c,,Done,6,File,,2026-01-31T23:59:59,false,,0,,,,\n", "record 3: ID contradicts another record"),
     ("", "path,size\n/a,6\n", "the first record is not that of a profile"),
 ];
 

@@ -2,7 +2,7 @@
 //! Out of memory: a call that fails for it works when it is called again.
 
 use crate::folders::lists::cases::{is_reported, items};
-use droid_fixity::{Changes, Difference};
+use droid_fixity::{Changes, Difference, FilePair, Inventory, file_pairs};
 use droid_fixity_lists::{ListFault, read_profile};
 use droid_fixity_profile::{SeeFault, see_profile};
 use std::alloc::{AllocError, Global};
@@ -23,6 +23,42 @@ fn is_compared(alloc: Global) -> Result<bool, AllocError> {
 fn each_growth_of_a_report(rt: HostRuntime) -> Result<(), Fail> {
     let alloc = rt.alloc();
     assert!(rt; is_compared(alloc).or_else(|_| is_compared(alloc))?);
+    Ok(())
+}
+
+/// The files of both sides below: `/a`, `/b` and `/d`.
+const PAIRS: [FilePair; 3] = [
+    FilePair {
+        listed: 0,
+        found: 0,
+    },
+    FilePair {
+        listed: 1,
+        found: 1,
+    },
+    FilePair {
+        listed: 3,
+        found: 2,
+    },
+];
+
+/// Returns whether the files of both sides are paired right; the folder `/e` is no file.
+fn is_paired(alloc: Global) -> Result<bool, AllocError> {
+    let listed = items(alloc, "d0515/e f5111/a f5212/b f5313/c f5414/d")?;
+    let found = items(alloc, "f6111/a f5919/z f5712/b d0515/e f5414/d")?;
+    match (Inventory::of(listed), Inventory::of(found)) {
+        (Ok(listed), Ok(found)) => {
+            let expected: &[FilePair] = &PAIRS;
+            Ok(file_pairs(alloc, &listed, &found)?.as_slice() == expected)
+        }
+        _ => Ok(false),
+    }
+}
+
+#[test]
+fn each_growth_of_pairs(rt: HostRuntime) -> Result<(), Fail> {
+    let alloc = rt.alloc();
+    assert!(rt; is_paired(alloc).or_else(|_| is_paired(alloc))?);
     Ok(())
 }
 

@@ -9,7 +9,10 @@ use std::test::Fail;
 const TREE_FAULTS: [(TreeFault, &str); 3] = [
     (TreeFault::Memory, "out of memory"),
     (TreeFault::Unreadable, "it could not be read"),
-    (TreeFault::Changed, "it is not the file that was listed"),
+    (
+        TreeFault::Changed,
+        "it is not the file that was listed, or it was changed since",
+    ),
 ];
 
 const WALK_FAULTS: [(WalkFault, &str); 7] = [

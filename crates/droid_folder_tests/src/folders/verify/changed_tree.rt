@@ -20,15 +20,15 @@ pub(crate) const ROWS: [Row; 9] = [
 /// Its profile before, with a format that the registry doesn't have.
 pub(crate) const LIST: &str =
     "ID,PARENT_ID,URI,FILE_PATH,NAME,METHOD,STATUS,SIZE,TYPE,EXT,LAST_MODIFIED,EXTENSION_MISMATCH,MD5_HASH,FORMAT_COUNT,PUID,MIME_TYPE,FORMAT_NAME,FORMAT_VERSION\n\
-1,,u,/changed,x,,Done,3,File,,1970-01-01T00:00:00,false,f97c5d29941bfb1b2fdab0874906ab82,0,,,,\n\
-1,,u,/d,x,,Done,,Folder,,1970-01-01T00:00:00,false,,0,,,,\n\
-1,,u,/gone,x,,Done,4,File,,1970-01-01T00:00:00,false,50c1f58be7f5e47e0f53d64c094783c2,0,,,,\n\
-1,,u,/grown,x,,Done,5,File,,1970-01-01T00:00:00,false,e72c4c72f739d5fffa9b7b09b3cdfb61,0,,,,\n\
-1,,u,/moving,x,,Done,6,File,,1970-01-01T00:00:00,false,7b3ef1b118f53a58660b8530d1aa4683,0,,,,\n\
-1,,u,/pipe,x,,Done,4,File,,1970-01-01T00:00:00,false,20826a3cb51d6c7d9c219c7f4bf4e5c9,0,,,,\n\
-1,,u,/same,x,,Done,7,File,,1970-01-01T00:00:00,false,78e731027d8fd50ed642340b7c9a63b3,0,dev/9,,,\n\
-1,,u,/sealed,x,,Done,6,File,,1970-01-01T00:00:00,false,5ebe2294ecd0e0f08eab7690d2a6ee69,0,,,,\n\
-1,,u,/touched,x,,Done,6,File,,1970-01-01T00:01:00,false,673d4f049f0db3d188488f447477968a,0,,,,\n";
+1,,u,/changed,changed,,Done,3,File,,1970-01-01T00:00:00,false,f97c5d29941bfb1b2fdab0874906ab82,0,,,,\n\
+2,,u,/d,d,,Done,,Folder,,1970-01-01T00:00:00,false,,,,,,\n\
+3,,u,/gone,gone,,Done,4,File,,1970-01-01T00:00:00,false,50c1f58be7f5e47e0f53d64c094783c2,0,,,,\n\
+4,,u,/grown,grown,,Done,5,File,,1970-01-01T00:00:00,false,e72c4c72f739d5fffa9b7b09b3cdfb61,0,,,,\n\
+5,,u,/moving,moving,,Done,6,File,,1970-01-01T00:00:00,false,7b3ef1b118f53a58660b8530d1aa4683,0,,,,\n\
+6,,u,/pipe,pipe,,Done,4,File,,1970-01-01T00:00:00,false,20826a3cb51d6c7d9c219c7f4bf4e5c9,0,,,,\n\
+7,,u,/same,same,,Done,7,File,,1970-01-01T00:00:00,false,78e731027d8fd50ed642340b7c9a63b3,1,dev/9,,,\n\
+8,,u,/sealed,sealed,,Done,6,File,,1970-01-01T00:00:00,false,5ebe2294ecd0e0f08eab7690d2a6ee69,0,,,,\n\
+9,,u,/touched,touched,,Done,6,File,,1970-01-01T00:01:00,false,673d4f049f0db3d188488f447477968a,0,,,,\n";
 
 /// The report, formats included.
 pub(crate) const REPORT: &str =

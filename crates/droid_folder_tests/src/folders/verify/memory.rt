@@ -5,6 +5,7 @@ use crate::folders::memory_tree::MemoryTree;
 use crate::folders::noting_watcher::NotingWatcher;
 use crate::folders::verify::changed_tree::{LIST, QUICK_REPORT, REPORT, ROWS};
 use droid_desk_arguments::VerifyOptions;
+use droid_desk_comparison::Measure;
 use droid_desk_verify::{VerifyEnding, read_lists, verify_as};
 use droid_frame::Noted;
 use droid_pronom::Registry;
@@ -33,7 +34,12 @@ fn compared(alloc: Global, quick: bool) -> Option<bool> {
 
 /// Returns whether the report is right, or `None` if memory ran out, and the report is a front of the right one.
 fn compared_by(alloc: Global, registry: &Registry, quick: bool) -> Option<bool> {
-    let lists = match read_lists(alloc, false, !quick, LIST.as_bytes()) {
+    let how = if quick {
+        Measure::Moments
+    } else {
+        Measure::Hashes
+    };
+    let lists = match read_lists(alloc, false, how, !quick, LIST.as_bytes()) {
         Ok(lists) => lists,
         Err(VerifyEnding::NoMemory) => return None,
         Err(_) => return Some(false),
@@ -42,6 +48,7 @@ fn compared_by(alloc: Global, registry: &Registry, quick: bool) -> Option<bool> 
         folder: "",
         against: "",
         quick,
+        sizes_only: false,
         identify: !quick,
         registry: None,
         limit: 64,

@@ -3,7 +3,7 @@
 use crate::folders::memory_tree::MemoryTree;
 use crate::folders::noting_watcher::NotingWatcher;
 use crate::folders::verify::changed_tree::ROWS;
-use droid_desk_comparison::ItemKeeper;
+use droid_desk_comparison::{ItemKeeper, Measure};
 use droid_desk_outputs::Recorder;
 use droid_desk_report::{PageTexts, page_of_csv};
 use droid_desk_verify::{VerifyEnding, read_lists, verify_tree};
@@ -26,7 +26,7 @@ fn example_of_verify(rt: HostRuntime) -> Result<(), Fail> {
     let registry = Registry::parse(alloc, SAMPLE.as_bytes())?;
     // the tree and the watcher are a test's: any tree, and a watcher that prints nothing
     let list = b"f97c5d29941bfb1b2fdab0874906ab82  one.txt\n";
-    let Ok(lists) = read_lists(alloc, false, false, list) else {
+    let Ok(lists) = read_lists(alloc, false, Measure::Hashes, false, list) else {
         return Err(Fail::from("no list"));
     };
     let mut profiler = Profiler {

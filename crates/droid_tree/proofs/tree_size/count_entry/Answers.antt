@@ -24,3 +24,7 @@ returns-in_ok-after-in-Link-clause-counted c =
 pub returns-in_ok-after-in-Other-clause-counted : goal.returns-in_ok-after-in-Other-clause-counted
 returns-in_ok-after-in-Other-clause-counted c =
     counts_none c.args.folder.now.path c.args.entry.now c.args.before c.in_ok-after-in-Other.after c.args.pending.now.items (inr (subst IsNoNode (sym c.in-Other.is) tt)) c.in_ok-after-in-Other.ensures.counted
+
+pub returns-in_ok-after-in-TooLong-clause-counted : goal.returns-in_ok-after-in-TooLong-clause-counted
+returns-in_ok-after-in-TooLong-clause-counted c =
+    counts_none c.args.folder.now.path c.args.entry.now c.args.before c.in_ok-after-in-TooLong.after c.args.pending.now.items (inr (subst IsNoNode (sym c.in-TooLong.is) tt)) c.in_ok-after-in-TooLong.ensures.counted

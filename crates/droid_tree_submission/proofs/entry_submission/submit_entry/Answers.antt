@@ -35,3 +35,10 @@ returns-in-Other-clause-taken g c =
     (c.as_bytes-in-Other.ensures.value ∙ (c.as_str-in-Other.ensures.value ∙ (c.in_ok-path.ensures
     ∙ (ap (λ (l : List ℕ). l ++ 47 ∷ c.in-Some.name.now) c.as_str.ensures.value ∙ ap (λ (l : List ℕ). c.args.folder.now.path ++ 47 ∷ l) c.in-Some.ensures.0))))
     c.in-Some.ensures.1 kinds.Other c.in-Other.is tt c.report-in-Other.ensures
+
+pub returns-in-TooLong-clause-taken : goal.returns-in-TooLong-clause-taken
+returns-in-TooLong-clause-taken g c =
+    other_taken (Does g.T.Tree.observes g.C.Client.calls g.W.Watcher.hears) c.args.into c.args.folder.now c.args.entry.now c.args.upload.now c.report-in-TooLong.new.upload c.args.found.now c.as_bytes-in-TooLong.result.now
+    (c.as_bytes-in-TooLong.ensures.value ∙ (c.as_str-in-TooLong.ensures.value ∙ (c.in_ok-path.ensures
+    ∙ (ap (λ (l : List ℕ). l ++ 47 ∷ c.in-Some.name.now) c.as_str.ensures.value ∙ ap (λ (l : List ℕ). c.args.folder.now.path ++ 47 ∷ l) c.in-Some.ensures.0))))
+    c.in-Some.ensures.1 kinds.TooLong c.in-TooLong.is tt c.report-in-TooLong.ensures

@@ -1,0 +1,69 @@
+//! The mark of an unfinished file, by which a later run knows what an ended one left.
+
+use std::fs::{self, File, Files, Metadata, OpenFile, OpenOptions, Permissions};
+use std::io;
+use std::os::unix::fs::{MetadataExt, PermissionsExt};
+
+/// Marks an unfinished file: the sticky bit, which means nothing for a file, and which no other file has.
+const MARK: u32 = 0o1000;
+
+/// The bits of a mode that can be set.
+const MODES: u32 = 0o7777;
+
+/// Creates a file, locks it and marks it. Where the file system has no locks or no such mark, no later run removes the
+/// file.
+pub(crate) fn create_marked<R: Files<File = File>>(rt: &R, path: &str) -> io::Result<File> {
+    let file = File::create_new(rt, path)?;
+    if file.try_lock().is_ok() {
+        let _ = mark(&file);
+    }
+    Ok(file)
+}
+
+/// Marks a file.
+pub(crate) fn mark(file: &File) -> io::Result<()> {
+    let mode = file.metadata()?.mode() & MODES;
+    file.set_permissions(Permissions::from_mode(mode | MARK))
+}
+
+/// Takes the mark away.
+pub(crate) fn unmark(file: &File) -> io::Result<()> {
+    let mode = file.metadata()?.mode() & MODES;
+    if mode & MARK == 0 {
+        return Ok(());
+    }
+    file.set_permissions(Permissions::from_mode(mode & !MARK))
+}
+
+/// Removes the file at this path if an earlier run left it: if it is marked, and no process has its lock.
+pub(crate) fn remove_left<R: Files<File = File>>(rt: &R, path: &str) {
+    if !is_marked(rt, path) {
+        return;
+    }
+    let Ok(file) = OpenOptions::new().write(true).open(rt, path) else {
+        return;
+    };
+    if file.try_lock().is_ok() && is_at(rt, path, &file) {
+        let _ = fs::remove_file(rt, path);
+    }
+}
+
+/// Returns whether a regular file is at this path that has the mark.
+fn is_marked<R: Files>(rt: &R, path: &str) -> bool {
+    match fs::symlink_metadata(rt, path) {
+        Ok(metadata) => metadata.is_file() && metadata.mode() & MARK != 0,
+        Err(_) => false,
+    }
+}
+
+/// Returns whether the path still leads to an open file, which still has the mark.
+fn is_at<R: Files>(rt: &R, path: &str, file: &File) -> bool {
+    let (Ok(there), Ok(found)) = (fs::symlink_metadata(rt, path), file.metadata()) else {
+        return false;
+    };
+    is_same_file(&there, &found) && found.mode() & MARK != 0
+}
+
+fn is_same_file(first: &Metadata, second: &Metadata) -> bool {
+    first.dev() == second.dev() && first.ino() == second.ino()
+}
