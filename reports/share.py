@@ -1,0 +1,21 @@
+import os,time
+W={"/work/h/c_80":-5,"/work/h/c_journal":6,"/work/h/c_sub":6,"/work/h/c_tests":4,"/work/h/c_front":-7}
+try: exec(open("/work/h/share_w.py").read())
+except OSError: pass
+end=time.time()+10500
+seen={}
+while time.time()<end:
+    try: exec(open("/work/h/share_w.py").read())
+    except Exception: pass
+    for p in os.listdir("/proc"):
+        if not p.isdigit(): continue
+        try:
+            c=open(f"/proc/{p}/cmdline").read().split("\0")[0]
+            if not (c.endswith("rattle") or c.endswith("rattle-try") or c.endswith("clang")): continue
+            cwd=os.readlink(f"/proc/{p}/cwd")
+            for k,n in W.items():
+                if cwd.startswith(k+"/") or cwd==k:
+                    if seen.get(p)!=n:
+                        open(f"/proc/{p}/autogroup","w").write(str(n)); seen[p]=n
+        except OSError: pass
+    time.sleep(4)
