@@ -6,6 +6,7 @@ pub use Rattle.droid_core_spec.proofs as spec
 pub use Rattle.droid_core_requests.proofs as requests
 pub use Rattle.droid_core_requests.proofs.unfinished as unfinished
 pub use Rattle.droid_core_requests.proofs.state as state
+pub mod Added
 pub mod FollowedTexts
 pub mod Handling
 pub mod KeptReplies

@@ -1,6 +1,6 @@
 -- What is answered after the look-ups in the cache and in the store is answered: they leave the service standing for the
 -- same history.
-use Rattle.std.proofs.Common.{◌≡◌, ◌∙◌}
+use Rattle.std.proofs.Common.{◌≡◌, Bool, ◌∙◌}
 use Rattle.droid_frame.specs.types.reply.Reply.{Reply}
 use Rattle.droid_frame.specs.types.request.Request.{Request}
 use Rattle.droid_core_spec.specs.Histories.{History}
@@ -28,13 +28,14 @@ still before store recent same keeps setting history stands = record {
   last = stands.last;
 }
 
-pub after_look_ups : (stamp : Stamp) (request : Request) (before after : Service) (store : Rows) (recent : RecentReplies) (reply : Reply) → store ≡ before.holdings.store → recent.rows.cap ≡ before.recent.rows.cap
-    → Keeps before.recent recent → IsHandled stamp request (looked_up before store recent) after reply → IsHandled stamp request before after reply
-after_look_ups stamp request before after store recent reply same room keeps its = record {
+pub after_look_ups : (stamp : Stamp) (request : Request) (before after : Service) (store : Rows) (recent : RecentReplies) (reply : Reply) (is_new : Bool) → store ≡ before.holdings.store → recent.rows.cap ≡ before.recent.rows.cap
+    → Keeps before.recent recent → IsHandled stamp request (looked_up before store recent) after reply is_new → IsHandled stamp request before after reply is_new
+after_look_ups stamp request before after store recent reply is_new same room keeps its = record {
   handles = λ setting history frame is asks stands. its.handles setting history frame is asks (still before store recent same keeps setting history stands);
   spelled = its.spelled;
   limits = its.limits;
   registry = its.registry;
   cache = its.cache ∙ room;
   text = λ setting history profile from max filter stands is is_new followed. its.text setting history profile from max filter (still before store recent same keeps setting history stands) is is_new followed;
+  newness = λ setting history frame is asks stands. its.newness setting history frame is asks (still before store recent same keeps setting history stands);
 }

@@ -16,4 +16,4 @@ pub use droid_frame::{
 };
 pub use droid_pronom::Registry;
 pub use droid_store::{Entry, NodeState, Store, StoreFault};
-pub use service::Service;
+pub use service::{Outcome, Service};

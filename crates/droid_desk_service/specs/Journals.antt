@@ -1,5 +1,6 @@
 -- The journal of the program's service (this project's own).
-use Rattle.std.specs.Prelude.{◌≡◌, ◌⊎◌, ℕ, List, [], ◌∷◌, ◌++◌, Ok, codes, length}
+use Rattle.std.specs.Prelude.{◌≡◌, ◌⊎◌, ℕ, List, [], ◌∷◌, ◌++◌, Ok, codes, length, take, drop, replicate}
+use Rattle.std.specs.Int.{w32, to_be_bytes}
 use Rattle.md5.specs.Md5.{md5}
 use Rattle.droid_desk_service.specs.Endings.{IsProgramSetting}
 use Rattle.droid_pronom.specs.Registry.{Contents}
@@ -9,6 +10,7 @@ use Rattle.droid_wire.specs.with_journal.service.BareWorlds.{Bare}
 use Rattle.droid_wire.specs.with_journal.service.recovery.BareRecords.{LeadTo}
 use Rattle.droid_wire.specs.with_journal.service.recovery.Standing.{GivesReply as GivesRecord}
 use Rattle.droid_wire.specs.with_journal.service.Standing.{StandsForHistory}
+use Rattle.droid_wire.specs.with_journal.service.chain.Chains.{checked, first_line_before}
 use Rattle.droid_wire.specs.with_journal.service.chain.Records.{Record}
 use Rattle.droid_wire.specs.with_journal.service.declared.service_machine.ServiceMachine.{ServiceMachine}
 use Rattle.droid_wire.specs.with_journal.service.journal.Opening.{WasDamaged, WasFound, WasRefuted}
@@ -16,16 +18,29 @@ use Rattle.droid_wire.specs.with_journal.service.journal.declared.journal.Journa
 use Rattle.droid_wire.specs.Histories.{History}
 use Rattle.droid_wire.specs.Setting.{Setting}
 
--- what a journal begins with: a line that says what it is, a line with the limits of its service, and the MD5 (RFC 1321) of
--- the bytes of the registry
+-- What a journal begins with: a line that says what it is, the limits of its service (profiles, nodes of a profile,
+-- unfinished files), room for further limits, and the MD5 (RFC 1321) of the bytes of the registry. These are 80 bytes.
 abbrev pub header_text : List ℕ → List ℕ
-header_text registry = (codes "droid_desk journal 3" ++ 10 ∷ (codes "64 profiles, 100000 nodes, 64 unfinished files" ++ 10 ∷ [])) ++ md5 registry
+header_text registry =
+    (codes "droid_desk journal 4" ++ 10 ∷ (to_be_bytes w32 64 ++ (to_be_bytes w32 100000 ++ (to_be_bytes w32 64 ++ replicate 31 0)))) ++ md5 registry
 
--- a header is that, and 16 bytes more, which no client knows
-pub record IsHeaderOf (registry header : List ℕ) : Type 0 where
-  pub random : List ℕ
-  pub size : length random ≡ 16
-  pub parts : header ≡ header_text registry ++ random
+-- the same of version 3: its limits are a line of text
+abbrev pub header_text_before : List ℕ → List ℕ
+header_text_before registry = (first_line_before ++ (codes "64 profiles, 100000 nodes, 64 unfinished files" ++ 10 ∷ [])) ++ md5 registry
+
+-- A header of this registry: its text and 16 bytes more, which no client knows, and their check value; one of version 3 has
+-- no check value.
+pub data IsHeaderOf (registry header : List ℕ) : Type 0 where
+  Present : (random : List ℕ) (size : length random ≡ 16) (parts : header ≡ checked (header_text registry ++ random)) → IsHeaderOf registry header
+  Before : (random : List ℕ) (size : length random ≡ 16) (parts : header ≡ header_text_before registry ++ random) → IsHeaderOf registry header
+
+-- one of version 4
+abbrev pub IsNewHeaderOf : List ℕ → List ℕ → Type 0
+IsNewHeaderOf registry header = (random : List ℕ) × (length random ≡ 16) × (header ≡ checked (header_text registry ++ random))
+
+-- a fixed text and 16 bytes more: those that the file has behind the text, and of these ones the others
+abbrev pub completed : List ℕ → List ℕ → List ℕ → List ℕ
+completed text file random = text ++ (take 16 (drop (length text) file) ++ drop (length (take 16 (drop (length text) file))) random)
 
 -- a service of this setting identifies by the registry that has these bytes, and has the program's limits
 abbrev pub IsSettingFor : List ℕ → Setting → Type 0

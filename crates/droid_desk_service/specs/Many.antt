@@ -1,5 +1,5 @@
 -- How `serve` for many connections at once ends.
-use Rattle.std.specs.Prelude.{◌≡◌, ◌≢◌, ℕ, ◌*◌, [], Option, None, Some}
+use Rattle.std.specs.Prelude.{◌≡◌, ◌≢◌, ◌*◌, [], Option, None, Some}
 use Rattle.std.specs.declared.io.ErrorKind.{ErrorKind}
 use Rattle.droid_desk_arguments.specs.declared.connection_options.ManyOptions.{ManyOptions}
 use Rattle.droid_desk_service.specs.Endings.{IsProgramSetting, program_limits}

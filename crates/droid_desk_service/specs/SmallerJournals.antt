@@ -7,30 +7,35 @@ use Rattle.droid_wire.specs.with_journal.service.Histories.{Base, IsHistoryBehin
 use Rattle.droid_wire.specs.with_journal.service.rewriting.Shortening.{HasBehind, IsShortened, IsWhole}
 use Rattle.droid_wire.specs.with_journal.service.rewriting.Sizes.{AreMostlyEnded, AreSizes}
 use Rattle.droid_wire.specs.with_journal.service.rewriting.declared.size.Size.{Size}
-use Rattle.droid_desk_service.specs.Journals.{IsHeaderOf}
+use Rattle.droid_desk_service.specs.Journals.{IsHeaderOf, IsNewHeaderOf}
 use Rattle.droid_wire.specs.with_journal.service.chain.Records.{Record}
 use Rattle.droid_wire.specs.with_journal.service.journal.Opening.{WasFound}
 use Rattle.droid_wire.specs.with_journal.service.recovery.BareRecords.{LeadTo}
 
--- Opening finds records in the bytes that lead to the very history that a service stood for with the records of the file,
--- whatever it was made of.
-abbrev pub LeadsToTheSame : List ℕ → List ℕ → List ℕ → Type 0
-LeadsToTheSame header file bytes =
+-- Opening finds records in the bytes, under the new header, that lead to the very history that a service stood for with the
+-- records of the file, whatever it was made of.
+abbrev pub LeadsToTheSame : List ℕ → List ℕ → List ℕ → List ℕ → Type 0
+LeadsToTheSame header new file bytes =
     (setting : Setting) (base : Base setting) (its read : List Record) (history : History) → IsHistoryBehind setting base its history
-    → IsWhole header file its → WasFound header bytes read → (bare : Bare) × LeadTo setting bare read history
+    → IsWhole header file its → WasFound new bytes read → (bare : Bare) × LeadTo setting bare read history
 
--- the file is a journal of this registry, and the bytes are those of the smaller journal of its records, with their history
+-- the file is a journal of this registry, and the bytes are those of the smaller journal of its records, of version 4, with
+-- their history
 pub record IsSmallerOf (registry file bytes : List ℕ) : Type 0 where
   pub header : List ℕ
   pub is_of : IsHeaderOf registry header
-  pub shortened : IsShortened header file bytes
-  pub same : LeadsToTheSame header file bytes
+  pub new : List ℕ
+  pub new_is_of : IsNewHeaderOf registry new
+  pub shortened : IsShortened header new file bytes
+  pub same : LeadsToTheSame header new file bytes
 
 -- the one size is that of the journal in the file, and the other that of the smaller one
 pub record AreSizesOf (registry file : List ℕ) (before after : Size) : Type 0 where
   pub header : List ℕ
   pub is_of : IsHeaderOf registry header
-  pub sizes : AreSizes header file before after
+  pub new : List ℕ
+  pub new_is_of : IsNewHeaderOf registry new
+  pub sizes : AreSizes header new file before after
 
 -- there are bytes behind this many whole records of the journal in the file
 pub record HasBytesBehind (registry file : List ℕ) (count : ℕ) : Type 0 where

@@ -8,7 +8,8 @@ use crate::command_end::Ended;
 use crate::commands::note_sample;
 use crate::exit::Ending;
 use crate::journal_commands::{
-    MachineJournal, file_at, journal_for, journal_in, journal_over, registry_and_service,
+    MachineJournal, file_at, journal_for, journal_in, journal_over, random_bytes,
+    registry_and_service,
 };
 use crate::journal_fault::JournalFault;
 use crate::smaller_journal::{is_worth_it, make_smaller};
@@ -185,13 +186,17 @@ where
     let Ok(beside) = format!(in rt.alloc(); "{path}.new") else {
         return Err(JournalFault::Closed(Fault::Memory));
     };
+    let random = match random_bytes(rt) {
+        Ok(random) => random,
+        Err(kind) => return Err(JournalFault::Unopened(kind)),
+    };
     let drive = match open_beside(rt, beside.as_str(), path) {
         Ok(drive) => drive,
         Err(kind) => return Err(JournalFault::NotSmaller(Some(kind))),
     };
     let new = DiskLog { drive };
     let mut folder = Folder::new(rt, path, beside.as_str());
-    match make_smaller(rt.alloc(), file, registry, new, &mut folder) {
+    match make_smaller(rt.alloc(), file, registry, &random, new, &mut folder) {
         Ok(smaller) => Ok(Sizes {
             before: smaller.before,
             after: smaller.after,

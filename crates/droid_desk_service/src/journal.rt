@@ -1,8 +1,7 @@
 //! The journal of the program's service.
 
-ghost use Rattle.std.specs.Prelude.{◌≡◌, ◌⊎◌, ◌≤◌, ℕ, List, [], None, IfErr, IfOk, IsErrOf, length};
-ghost use Rattle.md5.specs.Md5.{md5};
-ghost use Rattle.droid_desk_service.specs.Journals.{IsDamaged, IsHeaderOf, IsOpened, IsRefuted, IsSettingFor, RefutesSmall, StandsForSmall, header_text};
+ghost use Rattle.std.specs.Prelude.{◌≡◌, ◌⊎◌, ◌≤◌, ℕ, List, [], None, IfOk, IsErrOf, length};
+ghost use Rattle.droid_desk_service.specs.Journals.{IsDamaged, IsHeaderOf, IsOpened, IsRefuted, IsSettingFor, RefutesSmall, StandsForSmall};
 ghost use Rattle.droid_wire.specs.with_journal.service.Histories.{HasBare, IsBetween};
 ghost use Rattle.droid_wire.specs.with_journal.service.Standing.{IsLeft, StandsForHistory};
 ghost use Rattle.droid_wire.specs.with_journal.service.chain.Records.{Record};
@@ -12,44 +11,18 @@ ghost use Rattle.droid_wire.specs.Setting.{Setting};
 ghost use Rattle.droid_wire.specs.Standing.{StandsFor};
 
 use crate::fresh::LIMITS;
+use crate::header::header_in;
 use droid_pronom::Registry;
-use droid_wire::{Fault, LogFile, Service, ServiceJournal, Unopened, header_for};
-use md5::{Digest, Md5};
-use std::alloc::{AllocError, Global};
+use droid_wire::{Fault, LogFile, Service, ServiceJournal, Unopened};
+use std::alloc::Global;
 use std::num::NonZeroUsize;
 
 /// How many replies a service caches, if it is made from a journal that was made small.
 const CACHED: usize = 256;
 
-/// The first lines of a journal: what it is, and the limits of the service that wrote it.
-const FIRST_LINES: &str = "\
-droid_desk journal 3
-64 profiles, 100000 nodes, 64 unfinished files
-";
-
-/// Spells the fixed part of a journal's header: its first lines, and the MD5 of the registry's bytes.
-pub(crate) fn header_text(alloc: Global, registry: &[u8]) -> Result<Vec<u8>, AllocError>
-    ensures text { IfOk result (λ text. text.items ≡ header_text registry.now) }
-    ensures size { IfOk result (λ text. length text.items ≤ 4080) }
-{
-    let digest = digest_of(registry);
-    let mut text = Vec::from_slice(alloc, FIRST_LINES.as_bytes())?;
-    text.extend_from_slice(&digest)?;
-    Ok(text)
-}
-
-/// Computes the MD5 (RFC 1321) of these bytes.
-fn digest_of(bytes: &[u8]) -> [u8; 16]
-    ensures { result ≡ md5 bytes.now }
-{
-    let mut hasher = Md5::new();
-    hasher.update(bytes);
-    hasher.finalize()
-}
-
 /// Makes a service from the records of a journal, whose header has the MD5 of these bytes of a registry. `service` has that
-/// registry, and has accepted nothing yet. An empty file gets a header, with the bytes of `random` at its end. Opens a journal
-/// that was made small, too.
+/// registry, and has accepted nothing yet. An empty file gets a header with the bytes of `random`. Opens a journal that was made
+/// small, and one of version 3, too.
 ///
 /// Nothing is written or cut off before the whole file was read and found right.
 pub fn open_journal<F: LogFile + Drop>(
@@ -73,14 +46,14 @@ pub fn open_journal<F: LogFile + Drop>(
     // A crash is reported neither as damage nor as another registry.
     ensures lawful { (n : ℕ) (setting : Setting) (s header : List ℕ) (synced all : History) → F.has file s → IsHeaderOf registry.now header → IsLeft setting header s synced all → IsErrOf result (Fault.Damage n) → ⊥ }
     ensures other_header { IsErrOf result Fault.Header → (s header : List ℕ) → F.has file s → IsHeaderOf registry.now header → HasHeader header s → ⊥ }
-    // Damage is reported only where a record stands behind it that was written when all before it was on the disk.
+    // Damage is reported only where the beginning of a later turn stands behind it, which was written when all before it was
+    // on the disk.
     ensures damage { (n : ℕ) → IsErrOf result (Fault.Damage n) → (s : List ℕ) → F.has file s → IsDamaged registry.now s n }
     // A record is reported only if no service of this registry and these limits accepts its request after those before it, and
     // answers it with this reply.
     ensures refuted { (n : ℕ) → IsErrOf result (Fault.Record n) → (setting : Setting) (s : List ℕ) → StandsFor setting service [] → IsSettingFor registry.now setting → F.has file s → IsRefuted setting registry.now s n }
 {
-    let text = header_text(alloc, registry)?;
-    let header = match header_for(alloc, &file, &text, random) {
+    let header = match header_in(alloc, &file, registry, random) {
         Ok(header) => header,
         Err(fault) => return Err(fault),
     };

@@ -56,6 +56,8 @@ where
     };
     let mut pipe = Pipe::new(Noted::new(rt.reader()), Noted::new(io::writer(rt)));
     let ending = answer_with_journal(rt.alloc(), &mut handler, &mut pipe);
+    // All that was answered is on the disk; this marks the end.
+    let _ = handler.journal.settle();
     Ended::at_with_journal(ending, 0, path)
 }
 
@@ -137,6 +139,8 @@ where
         fault: None,
     };
     let ending = serve_with_journal(rt.alloc(), &mut sockets, &mut handler, rules);
+    // All that was answered is on the disk; this marks the end.
+    let _ = handler.journal.settle();
     Ended::at_with_journal(ending, port, path)
 }
 
@@ -242,14 +246,19 @@ where
         Ok(random) => random,
         Err(kind) => return Err(JournalFault::Unopened(kind)),
     };
-    match open_journal(rt.alloc(), file, registry, &random, service) {
-        Ok(journal) => Ok(journal),
+    let mut journal = match open_journal(rt.alloc(), file, registry, &random, service) {
+        Ok(journal) => journal,
+        Err(fault) => return Err(JournalFault::Closed(fault)),
+    };
+    // Marks the end: from now on damage in the last turn shows.
+    match journal.settle() {
+        Ok(()) => Ok(journal),
         Err(fault) => Err(JournalFault::Closed(fault)),
     }
 }
 
 /// Reads 16 random bytes of the system.
-fn random_bytes<R: Files>(rt: &R) -> Result<[u8; 16], ErrorKind> {
+pub(crate) fn random_bytes<R: Files>(rt: &R) -> Result<[u8; 16], ErrorKind> {
     let mut bytes = [0u8; 16];
     let file = match fs::open(rt, RANDOM) {
         Ok(file) => file,

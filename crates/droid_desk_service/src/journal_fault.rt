@@ -103,7 +103,7 @@ impl JournalFault {
                 )
             }
             JournalFault::Closed(Fault::Damage(records)) => eprintln!(rt;
-                "{path}: damaged after record {records}, and whole records follow: restore a copy of the file"
+                "{path}: damaged after record {records}: restore a copy of the file"
             ),
             JournalFault::NotSmaller(Some(kind)) => {
                 eprintln!(rt; "{path}.new: {kind}: {path} is as it was")
@@ -124,7 +124,7 @@ fn advice_of(fault: &JournalFault) -> &'static str {
             "this is a folder, a link or a device: name a file, or a path where nothing is yet",
         JournalFault::Unopened(_) => "could not be opened",
         JournalFault::Closed(Fault::Header) => {
-            "not a journal of this registry and this version of droid_desk: name the registry of its first start, or a new file"
+            "not a journal of this registry and this version of droid_desk, or damaged at its beginning: name the registry of its first start, restore a copy, or name a new file"
         }
         JournalFault::Closed(Fault::Memory) => {
             "out of memory: close other programs, or allow this one more, and start again"

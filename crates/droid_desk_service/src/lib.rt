@@ -12,6 +12,7 @@ mod compaction;
 mod connections;
 mod exit;
 mod fresh;
+mod header;
 mod journal;
 mod journal_commands;
 mod journal_connections;

@@ -5,10 +5,9 @@ ghost use Rattle.droid_desk_service.specs.Journals.{IsHeaderOf};
 ghost use Rattle.droid_desk_service.specs.SmallerJournals.{AreSizesOf, HasBytesBehind, IsMostlyEndedIf, IsSmallerOf};
 ghost use Rattle.droid_wire.specs.with_journal.service.journal.Opening.{HasHeader};
 
-use crate::journal::header_text;
+use crate::header::{header_in, new_header};
 use droid_wire::{
-    Exchange, Fault, LogFile, RewriteFault, Smaller, compact, header_for, is_mostly_ended,
-    journal_laws,
+    Exchange, Fault, LogFile, RewriteFault, Smaller, compact, is_mostly_ended, journal_laws,
 };
 use std::alloc::Global;
 
@@ -22,8 +21,7 @@ fn header_of<F: LogFile>(alloc: Global, file: &F, registry: &[u8]) -> Result<Vec
     ensures same { (s header : List ℕ) → F.has file.now s → IsHeaderOf registry.now header → HasHeader header s → IfOk result (λ it. it.items ≡ header) }
     ensures fault { IfErr result (λ fault. (fault ≡ RewriteFault.Memory) ⊎ (fault ≡ RewriteFault.Read)) }
 {
-    let text = header_text(alloc, registry)?;
-    match header_for(alloc, file, &text, &NO_RANDOM) {
+    match header_in(alloc, file, registry, &NO_RANDOM) {
         Ok(header) => Ok(header),
         Err(Fault::Memory) => Err(RewriteFault::Memory),
         Err(_) => Err(RewriteFault::Read),
@@ -31,7 +29,8 @@ fn header_of<F: LogFile>(alloc: Global, file: &F, registry: &[u8]) -> Result<Vec
 }
 
 /// Writes the journal in a file into an empty file, without the bytes of the pieces of finished and abandoned files, and gives
-/// it the name of the old one. The journal's header has the MD5 of these bytes of a registry.
+/// it the name of the old one. The journal's header has the MD5 of these bytes of a registry. The smaller journal is of version
+/// 4, with the bytes of `random` in its header: blocks of the old file that come back after a crash count for nothing in it.
 ///
 /// A crash at any moment leaves the old journal under the name, or the smaller one with all its bytes; also where this fails.
 /// A service that is made from the smaller one has the same history as with the old one.
@@ -39,6 +38,7 @@ pub fn make_smaller<F: LogFile, N: LogFile + Drop, X: Exchange<N>>(
     alloc: Global,
     old: &F,
     registry: &[u8],
+    random: &[u8; 16],
     new: N,
     exchange: &mut X,
 ) -> Result<Smaller<N>, RewriteFault>
@@ -58,8 +58,9 @@ pub fn make_smaller<F: LogFile, N: LogFile + Drop, X: Exchange<N>>(
         Ok(header) => header,
         Err(fault) => return Err(fault),
     };
+    let fresh = new_header(alloc, registry, random)?;
     journal_laws::a_smaller_file_leads_to_the_same_history();
-    compact(alloc, old, &header, new, exchange)
+    compact(alloc, old, &header, &fresh, new, exchange)
 }
 
 /// Returns whether more than half of the bytes of a journal are of pieces of finished and abandoned files; its header has the

@@ -4,3 +4,4 @@ pub mod Going
 pub mod Openings
 pub mod Lawful
 pub mod Marks
+pub mod Rooms

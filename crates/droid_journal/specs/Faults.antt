@@ -12,9 +12,9 @@ IsOfReading faults.Header = ⊥
 IsOfReading (faults.Record number) = Unit {0}
 IsOfReading (faults.Damage records) = ⊥
 
--- out of memory, or the file could not be written
+-- the file could not be written: running out of memory is no fault of a journal that was opened
 abbrev pub IsOfWriting : Fault → Type 0
-IsOfWriting faults.Memory = Unit {0}
+IsOfWriting faults.Memory = ⊥
 IsOfWriting faults.Read = ⊥
 IsOfWriting faults.Write = Unit {0}
 IsOfWriting faults.Header = ⊥

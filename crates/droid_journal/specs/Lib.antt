@@ -3,5 +3,6 @@ pub mod Faults
 pub mod Machines
 pub mod Turns
 pub mod Standing
+pub mod Rooms
 pub mod Replaying
 pub mod Opening

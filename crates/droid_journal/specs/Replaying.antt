@@ -7,8 +7,10 @@ use Rattle.droid_frame.specs.types.frame.Frame.{Frame}
 use Rattle.droid_frame.specs.types.refusal.Refusal.TheVariants.{Memory}
 use Rattle.droid_frame.specs.types.reply.Reply.{Reply}
 use Rattle.droid_frame.specs.types.reply.Reply.TheVariants.{Refused}
-use Rattle.droid_journal_chain.specs.Chains.{BeginsNoRecord, chain_bytes, check_after}
+use Rattle.droid_journal_chain.specs.Chains.{BeginsNoRecord, chain_bytes, place_behind}
 use Rattle.droid_journal_chain.specs.Records.{AllFit, Fits, Record}
+use Rattle.droid_journal_chain.specs.declared.key.Key.{Key}
+use Rattle.droid_journal_chain.specs.declared.place.Place.{Place}
 use Rattle.droid_journal.specs.Machines.{record_of}
 
 -- the record has an accepted request and the reply that it got behind these records
@@ -41,28 +43,26 @@ IsNoFrame bytes = (frame : Frame) → IsReadable frame → bytes ≢ frame_bytes
 abbrev pub Refutes : (List Record → Frame → Reply → Bool → Type 0) → List Record → List ℕ → List ℕ → Type 0
 Refutes gives before request reply = IsNoFrame request ⊎ OtherAnswer gives before request reply
 
--- The bytes begin with records, and behind them none follows; a machine that stood for the records before them stands for
--- these too, and gave each its reply. They are counted on from a number.
-pub record Replays {S M : Type 0} (stands : S → M → List Record → Type 0) (gives : S → List Record → Frame → Reply → Bool → Type 0) (start check bytes : List ℕ) (from : ℕ) (old : M) (used : ℕ) (after : List ℕ) (to : ℕ) (new : M) : Type 0 where
+-- The bytes, which stand at a place, begin with records, and behind them none follows; a machine that stood for the records
+-- before them stands for these too, and gave each its reply.
+pub record Replays {S M : Type 0} (stands : S → M → List Record → Type 0) (gives : S → List Record → Frame → Reply → Bool → Type 0) (key : Key) (from : Place) (bytes : List ℕ) (old : M) (to : Place) (new : M) : Type 0 where
   pub its : List Record
   pub rest : List ℕ
   pub fit : AllFit its
-  pub joined : bytes ≡ chain_bytes start check its ++ rest
-  pub ends : BeginsNoRecord start after rest
-  pub check_is : after ≡ check_after start check its
-  pub size : used ≡ length (chain_bytes start check its)
-  pub count : to ≡ from + length its
+  pub joined : bytes ≡ chain_bytes key from its ++ rest
+  pub ends : BeginsNoRecord key to rest
+  pub to_is : to ≡ place_behind key from its
   pub stood : (setting : S) (before : List Record) → stands setting old before → stands setting new (before ++ its)
   pub gave : (setting : S) (before : List Record) → stands setting old before → Gave (gives setting) before its
 
--- The bytes begin with records, and the last of them, which has this number, is none that a journal of this machine wrote
--- behind those before it.
-pub record Fails {S M : Type 0} (stands : S → M → List Record → Type 0) (gives : S → List Record → Frame → Reply → Bool → Type 0) (start check bytes : List ℕ) (from : ℕ) (old : M) (number : ℕ) : Type 0 where
+-- The bytes, which stand at a place, begin with records, and the last of them, which has this number, is none that a journal
+-- of this machine wrote behind those before it.
+pub record Fails {S M : Type 0} (stands : S → M → List Record → Type 0) (gives : S → List Record → Frame → Reply → Bool → Type 0) (key : Key) (from : Place) (bytes : List ℕ) (old : M) (number : ℕ) : Type 0 where
   pub its : List Record
   pub it : Record
   pub rest : List ℕ
   pub fit : AllFit its
   pub fits : Fits it
-  pub joined : bytes ≡ chain_bytes start check (its ++ it ∷ []) ++ rest
-  pub count : number ≡ from + length its + 1
+  pub joined : bytes ≡ chain_bytes key from (its ++ it ∷ []) ++ rest
+  pub count : number ≡ from.records + length its + 1
   pub why : (setting : S) (before : List Record) → stands setting old before → Refutes (gives setting) (before ++ its) it.request it.reply

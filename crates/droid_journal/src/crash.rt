@@ -2,7 +2,7 @@
 
 ghost use Rattle.std.specs.Prelude.{◌≡◌, ◌≤◌, ◌++◌, List, ℕ, [], IfOk, IsErrOf, length};
 ghost use Rattle.droid_journal.specs.Standing.{IsSettled, Keeps};
-ghost use Rattle.droid_journal_chain.specs.Chains.{NoneLaterByChance, NotByChance};
+ghost use Rattle.droid_journal_chain.specs.Chains.{NoneLaterByChance, NotByChance, journal_bytes};
 ghost use Rattle.droid_journal_chain.specs.Fronts.{IsFront};
 ghost use Rattle.droid_journal_chain.specs.Records.{Record};
 
@@ -24,15 +24,15 @@ pub trait Tears: LogFile {
         ensures found { IfOk result (λ file. Self.is_found file) };
 }
 
-/// Crashes a journal in whatever state, with any bytes behind what is kept, and opens the file with a new machine. Unless
-/// these bytes are records by chance, the new machine stands for the first of the requests that were accepted, in order,
-/// and for each of which a reply could be sent.
+/// Crashes a journal in whatever state, with any bytes behind what is kept, and opens the file with a new machine, which may
+/// be of another type. Unless these bytes are records by chance, the new machine stands for the first of the requests that
+/// were accepted, in order, and for each of which a reply could be sent.
 ///
 /// The state is one that [`Journal::handle`] and [`Journal::settle`] leave, after a fault too: some records are on the disk
 /// for sure, and more were written.
-pub fn crash_and_reopen<F: Tears + Drop, M: Machine + Drop>(
+pub fn crash_and_reopen<F: Tears + Drop, M: Machine + Drop, N: Machine + Drop>(
     alloc: Global,
-    journal: Journal<F, M>,
+    journal: Journal<F, N>,
     header: &[u8],
     tail: &[u8],
     fresh: M,
@@ -42,9 +42,9 @@ pub fn crash_and_reopen<F: Tears + Drop, M: Machine + Drop>(
     ensures reopened { (setting : M.Setting) (synced written : List Record) → M.stands setting fresh [] → Keeps F.kept header.now journal.file synced written
         → NotByChance header.now written (F.kept journal.file ++ tail.now)
         → IfOk result (λ after. (its : List Record) × IsSettled F.has F.kept (M.stands setting) header.now after its × IsFront synced its × IsFront its written) }
-    // The crash is not reported as damage, unless these bytes have a record of a later turn by chance.
+    // The crash is not reported as damage, unless these bytes have the beginning of a later turn by chance.
     ensures lawful { (synced written : List Record) (n : ℕ) → Keeps F.kept header.now journal.file synced written
-        → NoneLaterByChance header.now written (F.kept journal.file ++ tail.now) (length (F.kept journal.file)) → IsErrOf result (Fault.Damage n) → ⊥ }
+        → NoneLaterByChance header.now written (F.kept journal.file ++ tail.now) (length (journal_bytes header.now synced)) → IsErrOf result (Fault.Damage n) → ⊥ }
 {
     let Ok(file) = journal.file.crash(tail) else {
         return Err(Fault::Read);

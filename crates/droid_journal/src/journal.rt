@@ -1,6 +1,6 @@
 //! The journal.
 
-ghost use Rattle.std.specs.Prelude.{◌≡◌, ◌≤◌, ◌++◌, ℕ, Bool, List, None, Some, true, length, not, IfErr, IfOk, OnOk, OnErr, IsErr, IsSome};
+ghost use Rattle.std.specs.Prelude.{◌≡◌, ◌+◌, ◌≤◌, ◌++◌, if◌then◌else◌, ℕ, Bool, List, [], None, Some, false, true, drop, length, not, IfErr, IfOk, OnOk, OnErr, IsErr, IsSome, vec_capacity, vec_len};
 ghost use Rattle.droid_frame.specs.Frames.{frame_bytes};
 ghost use Rattle.droid_frame.specs.Replies.{HasReplySpelling};
 ghost use Rattle.droid_frame.specs.ReplyFrames.{reply_frame};
@@ -10,19 +10,20 @@ ghost use Rattle.droid_journal.specs.Machines.{Answers, extended};
 ghost use Rattle.droid_journal.specs.Opening.{IsReady};
 ghost use Rattle.droid_journal.specs.Standing.{IsSettled, Stands, WroteOne};
 ghost use Rattle.droid_journal_chain.specs.Fronts.{IsFront};
-ghost use Rattle.droid_journal_chain.specs.Records.{Fits, Record, checksum, made, next_check, record_bytes};
+ghost use Rattle.droid_journal_chain.specs.Records.{Fits, Record, checksum, made, next_check, place_after, record_bytes, turn_mark};
 
-use crate::frames::{is_carried, reply_bytes, request_bytes};
+use crate::frames::{is_carried, request_bytes};
 use crate::journal_fault::Fault;
-use crate::log_file::LogFile;
+use crate::log_file::{FileError, LogFile};
 use crate::machine::Machine;
+use crate::room::{Room, make_rooms, spell_reply};
 use crate::start::Opened;
 use droid_frame::{Frame, Refusal, Reply, mark};
-use droid_journal_chain::record;
-use std::alloc::{AllocError, Global};
+use droid_journal_chain::{Form, Key, Place, put_record, turn_mark};
+use std::alloc::Global;
 
-/// The bytes of a record beside its two frames.
-const AROUND: usize = 25;
+/// The bytes of the beginning of a turn: a byte 1 and its mark.
+const MARK: usize = 17;
 
 /// A machine, and the file with the requests that it accepted.
 ///
@@ -34,12 +35,18 @@ pub struct Journal<F: LogFile, M: Machine> {
     pub file: F,
     /// The machine.
     pub machine: M,
-    /// The MD5 of the file's header.
-    pub(crate) start: [u8; 16],
-    /// The check value of the last record.
-    pub(crate) check: [u8; 16],
+    /// What all check values depend on.
+    pub(crate) key: Key,
+    /// The end of the records.
+    pub(crate) place: Place,
+    /// Whether the beginning of the next turn was written behind them.
+    pub(crate) ahead: bool,
     /// Whether records were appended since the last sync.
     pub(crate) unsynced: bool,
+    /// Room for the next record.
+    pub(crate) room: Vec<u8>,
+    /// Room for the frame of its reply.
+    pub(crate) reply: Room,
     /// The fault that ended the journal, if one did.
     pub(crate) fault: Option<Fault>,
 }
@@ -53,52 +60,93 @@ impl<F: LogFile + Drop, M: Machine + Drop> Journal<F, M> {
     {
         let Opened {
             machine,
-            start,
-            check,
-            ..
+            key,
+            place,
+            ahead,
         } = opened;
         Journal {
             alloc,
             file,
             machine,
-            start,
-            check,
+            key,
+            place,
+            ahead,
             unsynced: false,
+            room: Vec::new(alloc),
+            reply: Room::new(alloc),
             fault: None,
         }
     }
 
-    /// Spells the record of a request with this checksum, and computes its check value.
-    fn spelled(
-        &self,
+    /// Spells the record of a request with this checksum into the room for it, and returns its check value.
+    fn spell(
+        &mut self,
         version: u8,
         client: u32,
         number: u64,
         request: &[u8],
         sum: &[u8; 16],
         reply: &Reply,
-    ) -> Result<(Vec<u8>, [u8; 16]), AllocError>
+    ) -> [u8; 16]
         requires version { IsVersion version }
         requires spelling { HasReplySpelling version reply.now }
         requires header { 18 ≤ length request.now }
         requires size { length request.now ≤ 4194386 }
         requires sum { sum.now ≡ checksum request.now }
-        ensures bytes { IfOk result (λ x. x.0.items ≡ record_bytes self.now.start self.now.check (made (not self.now.unsynced) request.now (reply_frame version client number reply.now))) }
-        ensures fits { IfOk result (λ x. Fits (made (not self.now.unsynced) request.now (reply_frame version client number reply.now))) }
-        ensures check { IfOk result (λ x. x.1 ≡ next_check self.now.start self.now.check (made (not self.now.unsynced) request.now (reply_frame version client number reply.now))) }
+        requires empty { self.old.room.items ≡ [] }
+        requires len { vec_len self.old.room ≡ 0 }
+        requires capacity { length request.now + 1048699 ≤ vec_capacity self.old.room }
+        requires spelled { self.old.reply.items ≡ [] }
+        requires left { 1048658 ≤ self.old.reply.left }
+        ensures bytes { self.new.room.items ≡ record_bytes self.old.key self.old.place (made (not self.old.unsynced) request.now (reply_frame version client number reply.now)) }
+        ensures check { result ≡ next_check self.old.key self.old.place (made (not self.old.unsynced) request.now (reply_frame version client number reply.now)) }
+        ensures fits { Fits (made (not self.old.unsynced) request.now (reply_frame version client number reply.now)) }
+        ensures file { self.new.file ≡ self.old.file }
+        ensures machine { self.new.machine ≡ self.old.machine }
+        ensures key { self.new.key ≡ self.old.key }
+        ensures place { self.new.place ≡ self.old.place }
+        ensures ahead { self.new.ahead ≡ self.old.ahead }
+        ensures unsynced { self.new.unsynced ≡ self.old.unsynced }
+        ensures fault { self.new.fault ≡ self.old.fault }
     {
-        let reply = reply_bytes(self.alloc, version, client, number, reply)?;
-        let mut bytes = Vec::with_capacity(self.alloc, AROUND + request.len() + reply.len())?;
-        let check = record(
-            &mut bytes,
-            &self.start,
-            &self.check,
+        spell_reply(&mut self.reply, version, client, number, reply);
+        put_record(
+            &mut self.room,
+            self.key,
+            self.place,
             !self.unsynced,
             request,
             sum,
-            &reply,
-        )?;
-        Ok((bytes, check))
+            self.reply.as_slice(),
+        )
+    }
+
+    /// Appends what is lacking of the record that was spelled, which has this check value.
+    fn append(&mut self, check: [u8; 16]) -> Result<(), Fault>
+        ensures appended { (s : List ℕ) → F.has self.old.file s → OnOk result (F.has self.new.file (s ++ drop (if self.old.ahead then 17 else 0) self.old.room.items)) }
+        ensures part { (s : List ℕ) → F.has self.old.file s → OnErr result ((part : List ℕ) × F.has self.new.file (s ++ part)
+            × IsFront part (drop (if self.old.ahead then 17 else 0) self.old.room.items)) }
+        ensures place { OnOk result ((self.new.place.at ≡ self.old.place.at + length self.old.room.items) × (self.new.place.check ≡ check) × (self.new.place.records ≡ self.old.place.records + 1)) }
+        ensures ahead { OnOk result (self.new.ahead ≡ false) }
+        ensures unsynced { OnOk result (self.new.unsynced ≡ true) }
+        ensures kept { F.kept self.new.file ≡ F.kept self.old.file }
+        ensures machine { self.new.machine ≡ self.old.machine }
+        ensures key { self.new.key ≡ self.old.key }
+        ensures fault { self.new.fault ≡ self.old.fault }
+        ensures writing { IfErr result (λ fault. fault ≡ Fault.Write) }
+    {
+        // No file is so long that this fails.
+        let Some(place) = self.place.behind(self.room.len(), check) else {
+            return Err(Fault::Write);
+        };
+        self.unsynced = true;
+        match append_lacking(&mut self.file, &self.room, self.ahead) {
+            Ok(()) => {}
+            Err(_) => return Err(Fault::Write),
+        }
+        self.ahead = false;
+        self.place = place;
+        Ok(())
     }
 
     /// Appends the record of a request with this checksum to the file.
@@ -116,30 +164,34 @@ impl<F: LogFile + Drop, M: Machine + Drop> Journal<F, M> {
         requires header { 18 ≤ length request.now }
         requires size { length request.now ≤ 4194386 }
         requires sum { sum.now ≡ checksum request.now }
+        requires empty { self.old.room.items ≡ [] }
+        requires len { vec_len self.old.room ≡ 0 }
+        requires capacity { length request.now + 1048699 ≤ vec_capacity self.old.room }
+        requires spelled { self.old.reply.items ≡ [] }
+        requires left { 1048658 ≤ self.old.reply.left }
         ensures appended { (s : List ℕ) → F.has self.old.file s
-            → OnOk result (F.has self.new.file (s ++ record_bytes self.old.start self.old.check (made (not self.old.unsynced) request.now (reply_frame version client number reply.now)))) }
+            → OnOk result (F.has self.new.file (s ++ drop (if self.old.ahead then 17 else 0) (record_bytes self.old.key self.old.place (made (not self.old.unsynced) request.now (reply_frame version client number reply.now))))) }
         ensures part { (s : List ℕ) → F.has self.old.file s → OnErr result ((part : List ℕ) × F.has self.new.file (s ++ part)
-            × IsFront part (record_bytes self.old.start self.old.check (made (not self.old.unsynced) request.now (reply_frame version client number reply.now)))) }
-        ensures check { OnOk result (self.new.check ≡ next_check self.old.start self.old.check (made (not self.old.unsynced) request.now (reply_frame version client number reply.now))) }
+            × IsFront part (drop (if self.old.ahead then 17 else 0) (record_bytes self.old.key self.old.place (made (not self.old.unsynced) request.now (reply_frame version client number reply.now))))) }
+        ensures place { OnOk result (self.new.place ≡ place_after self.old.key self.old.place (made (not self.old.unsynced) request.now (reply_frame version client number reply.now))) }
         ensures fits { OnOk result (Fits (made (not self.old.unsynced) request.now (reply_frame version client number reply.now))) }
+        ensures ahead { OnOk result (self.new.ahead ≡ false) }
         ensures unsynced { OnOk result (self.new.unsynced ≡ true) }
         ensures kept { F.kept self.new.file ≡ F.kept self.old.file }
         ensures machine { self.new.machine ≡ self.old.machine }
-        ensures start { self.new.start ≡ self.old.start }
+        ensures key { self.new.key ≡ self.old.key }
         ensures fault { self.new.fault ≡ self.old.fault }
         ensures writing { IfErr result IsOfWriting }
     {
-        let (bytes, check) = self.spelled(version, client, number, request, sum, reply)?;
-        self.unsynced = true;
-        match self.file.append(&bytes) {
-            Ok(()) => {}
-            Err(_) => return Err(Fault::Write),
+        let check = self.spell(version, client, number, request, sum, reply);
+        match self.append(check) {
+            Ok(()) => Ok(()),
+            Err(_) => Err(Fault::Write),
         }
-        self.check = check;
-        Ok(())
     }
 
-    /// Handles a request. An accepted one is then written to the file, and not yet synced.
+    /// Handles a request. An accepted one is then written to the file, and not yet synced. Behind the machine's answer nothing
+    /// takes memory.
     fn take(&mut self, frame: Frame) -> Result<Reply, Fault>
         ensures taken { (setting : M.Setting) (header : List ℕ) (synced all : List Record) → Stands F.has F.kept (M.stands setting) header self.old synced all
             → IfOk result (λ reply. (first : Bool) × (accepted : Bool) × Answers (M.gives setting) all frame reply accepted
@@ -150,6 +202,8 @@ impl<F: LogFile + Drop, M: Machine + Drop> Journal<F, M> {
         ensures kept { F.kept self.new.file ≡ F.kept self.old.file }
         ensures fault { self.new.fault ≡ self.old.fault }
         ensures writing { IfErr result IsOfWriting }
+        ensures unwritten { (setting : M.Setting) (records : List Record) → M.stands setting self.old.machine records
+            → ((reply : Reply) → M.gives setting records frame reply true → ⊥) → self.new.file ≡ self.old.file }
     {
         if !is_carried(&frame) {
             return Ok(Reply::Refused(Refusal::Malformed));
@@ -157,6 +211,10 @@ impl<F: LogFile + Drop, M: Machine + Drop> Journal<F, M> {
         let Ok(request) = request_bytes(self.alloc, &frame) else {
             return Ok(Reply::Refused(Refusal::Memory));
         };
+        match make_rooms(&mut self.room, &mut self.reply, request.len()) {
+            Ok(()) => {}
+            Err(_) => return Ok(Reply::Refused(Refusal::Memory)),
+        }
         let (version, client, number) = (frame.version, frame.client, frame.number);
         let mark = mark(frame.kind, frame.body.as_slice());
         let handled = self.machine.handle(frame, mark);
@@ -182,8 +240,11 @@ impl<F: LogFile + Drop, M: Machine + Drop> Journal<F, M> {
             → self.old.fault ≡ None → IsSome self.new.fault → WroteOne F.has (M.gives setting) header self.new.file synced all frame }
         ensures spelled { HasReplySpelling frame.version result }
         ensures kept { F.kept self.new.file ≡ F.kept self.old.file }
-        // No request leads to the fault that the file is damaged or has another header.
+        // No request leads to another fault than that the file could not be written: running out of memory ends no journal.
         ensures writing { MayBeOfWriting self.old.fault → MayBeOfWriting self.new.fault }
+        // Nothing is written for a request that the machine cannot accept.
+        ensures unwritten { (setting : M.Setting) (records : List Record) → M.stands setting self.old.machine records
+            → ((reply : Reply) → M.gives setting records frame reply true → ⊥) → self.new.file ≡ self.old.file }
         // After a fault nothing is done.
         ensures closed { IsSome self.old.fault → (self.new.file ≡ self.old.file) × (self.new.fault ≡ self.old.fault) }
     {
@@ -201,10 +262,14 @@ impl<F: LogFile + Drop, M: Machine + Drop> Journal<F, M> {
 
     /// Syncs the file. After `Ok` the replies to all requests so far may be sent. After a fault no reply may be sent any
     /// more, and every further call returns a fault.
+    ///
+    /// A call with nothing to sync writes the beginning of the next turn instead: its mark says that all before it is on the
+    /// disk, so that from then on damage in the last turn is not taken for a torn end.
     pub fn settle(&mut self) -> Result<(), Fault>
         ensures settled { (setting : M.Setting) (header : List ℕ) (synced all : List Record) → Stands F.has F.kept (M.stands setting) header self.old synced all
             → OnOk result (IsSettled F.has F.kept (M.stands setting) header self.new all) }
-        ensures same { (s : List ℕ) → F.has self.old.file s → F.has self.new.file s }
+        ensures same { (s : List ℕ) → F.has self.old.file s → (part : List ℕ) × F.has self.new.file (s ++ part) × IsFront part (turn_mark self.old.key self.old.place.at) }
+        ensures marks { self.old.unsynced ≡ false → self.old.key.form ≡ Form.Present → OnOk result (self.new.ahead ≡ true) }
         ensures kept { OnErr result (F.kept self.new.file ≡ F.kept self.old.file) }
         ensures fault { OnOk result (self.new.fault ≡ None) }
         ensures closes { OnErr result (IsSome self.new.fault) }
@@ -212,11 +277,15 @@ impl<F: LogFile + Drop, M: Machine + Drop> Journal<F, M> {
         ensures writing { MayBeOfWriting self.old.fault → MayBeOfWriting self.new.fault }
         ensures closed { IsSome self.old.fault → IsErr result }
     {
-        if let Some(fault) = self.fault {
-            return Err(fault);
+        match self.fault {
+            Some(fault) => return Err(fault),
+            None => {}
         }
         if !self.unsynced {
-            return Ok(());
+            match self.begin_turn() {
+                Ok(()) => return Ok(()),
+                Err(fault) => return Err(fault),
+            }
         }
         match self.file.sync() {
             Ok(()) => {
@@ -229,4 +298,61 @@ impl<F: LogFile + Drop, M: Machine + Drop> Journal<F, M> {
             }
         }
     }
+
+    /// Writes the beginning of the next turn, unless it is there.
+    fn begin_turn(&mut self) -> Result<(), Fault>
+        requires fault { self.old.fault ≡ None }
+        requires unsynced { self.old.unsynced ≡ false }
+        ensures settled { (setting : M.Setting) (header : List ℕ) (synced all : List Record) → Stands F.has F.kept (M.stands setting) header self.old synced all
+            → OnOk result (IsSettled F.has F.kept (M.stands setting) header self.new all) }
+        ensures same { (s : List ℕ) → F.has self.old.file s → (part : List ℕ) × F.has self.new.file (s ++ part) × IsFront part (turn_mark self.old.key self.old.place.at) }
+        ensures marks { self.old.key.form ≡ Form.Present → OnOk result (self.new.ahead ≡ true) }
+        ensures kept { OnErr result (F.kept self.new.file ≡ F.kept self.old.file) }
+        ensures fault { OnOk result (self.new.fault ≡ None) }
+        ensures closes { OnErr result (self.new.fault ≡ Some Fault.Write) }
+        ensures reported { IfErr result (λ fault. fault ≡ Fault.Write) }
+    {
+        if self.ahead {
+            return Ok(());
+        }
+        match self.key.form {
+            Form::Before => return Ok(()),
+            Form::Present => {}
+        }
+        let mark = turn_mark(self.key, self.place.at);
+        match self.file.append(&mark) {
+            Ok(()) => {
+                self.ahead = true;
+                Ok(())
+            }
+            Err(_) => {
+                self.fault = Some(Fault::Write);
+                Err(Fault::Write)
+            }
+        }
+    }
+}
+
+/// Returns the bytes behind those that were written ahead.
+fn lacking(bytes: &[u8], ahead: bool) -> &[u8]
+    ensures { result.now ≡ drop (if ahead then 17 else 0) bytes.now }
+{
+    if !ahead {
+        return bytes;
+    }
+    if bytes.len() < MARK {
+        return &[];
+    }
+    let (_, rest) = bytes.split_at(MARK);
+    rest
+}
+
+/// Appends what is lacking of these bytes.
+fn append_lacking<F: LogFile>(file: &mut F, bytes: &Vec<u8>, ahead: bool) -> Result<(), FileError>
+    ensures appended { (s : List ℕ) → F.has file.old s → OnOk result (F.has file.new (s ++ drop (if ahead then 17 else 0) bytes.now.items)) }
+    ensures part { (s : List ℕ) → F.has file.old s → OnErr result ((part : List ℕ) × F.has file.new (s ++ part) × IsFront part (drop (if ahead then 17 else 0) bytes.now.items)) }
+    ensures kept { F.kept file.new ≡ F.kept file.old }
+{
+    let rest = lacking(bytes.as_slice(), ahead);
+    file.append(rest)
 }

@@ -12,8 +12,8 @@ mod journal;
 mod journal_fault;
 mod log_file;
 mod machine;
-mod place;
 mod replay;
+mod room;
 mod start;
 
 pub use crash::{Tears, crash_and_reopen};

@@ -1,6 +1,6 @@
 //! Handing a machine the records of a file again.
 
-ghost use Rattle.std.specs.Prelude.{◌≡◌, ◌+◌, ◌<◌, ◌≤◌, ◌^◌, ◌∷◌, ◌++◌, ℕ, Bool, List, [], length, true, IfErr, IfNone, IfOk, IfSome, IsErrOf, OnOk};
+ghost use Rattle.std.specs.Prelude.{◌≡◌, ◌+◌, ◌<◌, ◌≤◌, ◌∷◌, ◌++◌, ℕ, Bool, List, [], length, true, IfErr, IfNone, IfOk, IfSome, IsErrOf, OnOk};
 ghost use Rattle.droid_frame.specs.types.refusal.Refusal.TheVariants.{Memory};
 ghost use Rattle.droid_frame.specs.types.reply.Reply.TheVariants.{Refused};
 ghost use Rattle.droid_journal.specs.Faults.{IsOfReading};
@@ -12,19 +12,8 @@ use crate::frames::{frame_of, is_same, reply_bytes};
 use crate::journal_fault::Fault;
 use crate::machine::Machine;
 use droid_frame::{Refusal, Reply};
-use droid_journal_chain::{Found, record_of};
+use droid_journal_chain::{Found, Key, Place, record_of};
 use std::alloc::Global;
-
-/// How many of the records in a window were handed to a machine.
-#[derive(Clone, Copy)]
-pub(crate) struct Replayed {
-    /// How many bytes the records have.
-    pub(crate) used: usize,
-    /// The check value of the last record.
-    pub(crate) check: [u8; 16],
-    /// How many records there were in the file so far.
-    pub(crate) records: u64,
-}
 
 /// Whether a reply says that memory ran out.
 fn is_out_of_memory(reply: &Reply) -> bool
@@ -75,51 +64,46 @@ fn replay_one<M: Machine + Drop>(
 }
 
 /// Reads the record at the front of bytes.
-fn next_of<'a>(start: &[u8], check: [u8; 16], bytes: &'a [u8]) -> Option<Found<'a>>
-    ensures found { IfSome result (λ x. BeginsWith start.now check bytes.now (made x.first x.request.now x.reply.now) x.check x.rest.now) }
+fn next_of<'a>(key: Key, place: Place, bytes: &'a [u8]) -> Option<Found<'a>>
+    requires at { place.at + length bytes.now < 18446744073709551616 }
+    requires records { place.records + length bytes.now < 18446744073709551616 }
+    ensures found { IfSome result (λ x. BeginsWith key place bytes.now (made x.first x.request.now x.reply.now) x.after x.rest.now) }
     ensures sum { IfSome result (λ x. x.sum ≡ checksum x.request.now) }
-    ensures none { IfNone result (BeginsNoRecord start.now check bytes.now) }
+    ensures none { IfNone result (BeginsNoRecord key place bytes.now) }
 {
-    record_of(start, &check, bytes)
+    record_of(key, place, bytes)
 }
 
-/// Hands a machine each record at the front of bytes. `records` records came before, the last with this check value.
+/// Hands a machine each record at the front of bytes that stand at a place, and returns the place behind them.
 pub(crate) fn replay<M: Machine + Drop>(
     alloc: Global,
     machine: &mut M,
-    start: &[u8],
-    check: [u8; 16],
-    records: u64,
+    key: Key,
+    from: Place,
     bytes: &[u8],
-) -> Result<Replayed, Fault>
-    requires count { records + length bytes.now < 2 ^ 64 }
-    ensures replays { IfOk result (λ x. Replays M.stands M.gives start.now check bytes.now records machine.old x.used x.check x.records machine.new) }
-    ensures bound { IfOk result (λ x. x.used ≤ length bytes.now) }
+) -> Result<Place, Fault>
+    requires at { from.at + length bytes.now < 18446744073709551616 }
+    requires count { from.records + length bytes.now < 18446744073709551616 }
+    ensures replays { IfOk result (λ to. Replays M.stands M.gives key from bytes.now machine.old to machine.new) }
     ensures fault { IfErr result IsOfReading }
-    ensures refuted { (number : ℕ) → IsErrOf result (Fault.Record number) → Fails M.stands M.gives start.now check bytes.now records machine.old number }
+    ensures refuted { (number : ℕ) → IsErrOf result (Fault.Record number) → Fails M.stands M.gives key from bytes.now machine.old number }
 {
     let mut rest = bytes;
-    let mut check = check;
-    let mut records = records;
-    while let Some(found) = next_of(start, check, rest) {
-        records += 1;
+    let mut place = from;
+    while let Some(found) = next_of(key, place, rest) {
         match replay_one(
             alloc,
             machine,
             found.request,
             found.sum,
             found.reply,
-            records,
+            found.after.records,
         ) {
             Ok(()) => {}
             Err(fault) => return Err(fault),
         }
-        check = found.check;
+        place = found.after;
         rest = found.rest;
     }
-    Ok(Replayed {
-        used: bytes.len() - rest.len(),
-        check,
-        records,
-    })
+    Ok(place)
 }

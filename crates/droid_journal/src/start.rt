@@ -1,10 +1,10 @@
 //! Opening a journal: a machine that stands for the records of a file.
 
-ghost use Rattle.std.specs.Prelude.{◌≡◌, ◌≢◌, ◌≤◌, ℕ, List, [], length, take, IfOk, IfErr, IsErrOf, OnErr, OnOk};
+ghost use Rattle.std.specs.Prelude.{◌≡◌, ◌≢◌, ◌+◌, ◌≤◌, if◌then◌else◌, ℕ, List, [], length, take, drop, IfOk, IfErr, IfSome, IsErrOf, IsTrue, OnErr, OnOk};
 ghost use Rattle.droid_journal.specs.Opening.{HasHeader, IsBegun, IsKept, IsReady, Knows, PartWithin, ReadsAll, WasDamaged, WasFound, WasRefuted};
 ghost use Rattle.droid_journal.specs.Replaying.{Gave};
 ghost use Rattle.droid_journal.specs.Turns.{IsTurn};
-ghost use Rattle.droid_journal_chain.specs.Chains.{NoneLaterByChance, NotByChance, journal_bytes};
+ghost use Rattle.droid_journal_chain.specs.Chains.{IsMark, NoneLaterByChance, NotByChance, form_of, journal_bytes, marked_bytes, skipped};
 ghost use Rattle.droid_journal_chain.specs.Fronts.{IsFront};
 ghost use Rattle.droid_journal_chain.specs.Records.{AllFit, Record};
 
@@ -13,21 +13,23 @@ use crate::frames::is_same;
 use crate::journal_fault::Fault;
 use crate::log_file::LogFile;
 use crate::machine::Machine;
-use crate::place::Place;
-use droid_journal_chain::start_of;
+use droid_journal_chain::{Form, Key, Place, first_place, is_mark, key_of};
 use std::alloc::Global;
+
+/// The bytes of the beginning of a turn: a byte 1 and its mark.
+const MARK: usize = 17;
 
 /// A machine that stands for the records of a file.
 #[derive(Drop)]
 pub struct Opened<M> {
     /// The machine.
     pub machine: M,
-    /// The MD5 of the file's header.
-    pub(crate) start: [u8; 16],
-    /// The check value of the last record.
-    pub(crate) check: [u8; 16],
-    /// How many records there are.
-    pub records: u64,
+    /// What all check values depend on.
+    pub(crate) key: Key,
+    /// The end of the records.
+    pub(crate) place: Place,
+    /// Whether the beginning of the next turn stands behind them.
+    pub(crate) ahead: bool,
 }
 
 impl<M> Opened<M> {
@@ -35,21 +37,21 @@ impl<M> Opened<M> {
     pub fn with<N>(self, machine: N) -> (M, Opened<N>)
         ensures old { result.0 ≡ self.machine }
         ensures new { result.1.machine ≡ machine }
-        ensures start { result.1.start ≡ self.start }
-        ensures check { result.1.check ≡ self.check }
-        ensures records { result.1.records ≡ self.records }
+        ensures key { result.1.key ≡ self.key }
+        ensures place { result.1.place ≡ self.place }
+        ensures ahead { result.1.ahead ≡ self.ahead }
     {
         let Opened {
             machine: old,
-            start,
-            check,
-            records,
+            key,
+            place,
+            ahead,
         } = self;
         let new = Opened {
             machine,
-            start,
-            check,
-            records,
+            key,
+            place,
+            ahead,
         };
         (old, new)
     }
@@ -131,6 +133,49 @@ fn cut_behind<F: LogFile>(file: &mut F, end: u64) -> Result<(), Fault>
     }
 }
 
+/// How many bytes behind the records the search for later turns begins: a mark at the very end of the records is right.
+fn skip_of(form: Form) -> u64
+    ensures { result ≡ skipped form }
+{
+    match form {
+        Form::Before => 0,
+        Form::Present => 1,
+    }
+}
+
+/// Returns whether the beginning of a turn stands at a place.
+fn is_begun_at<F: LogFile>(file: &F, key: Key, at: u64) -> Result<bool, Fault>
+    requires found { F.is_found file.now }
+    ensures mark { (s : List ℕ) → F.has file.now s → IfOk result (λ is. IsTrue is → IsMark key at (drop at s)) }
+    ensures form { IfOk result (λ is. IsTrue is → key.form ≡ Form.Present) }
+    ensures none { (s : List ℕ) → F.has file.now s → IfOk result (λ is. key.form ≡ Form.Present → IsMark key at (drop at s) → IsTrue is) }
+    ensures fault { IfErr result (λ fault. fault ≡ Fault.Read) }
+{
+    match key.form {
+        Form::Before => return Ok(false),
+        Form::Present => {}
+    }
+    let mut front = [0u8; MARK];
+    let Ok(count) = file.read_at(at, &mut front) else {
+        return Err(Fault::Read);
+    };
+    let is = is_mark(key, at, &front[..count]);
+    Ok(is)
+}
+
+/// Where a file is cut: behind its records and the beginning of the next turn, if it is there.
+fn end_of(at: u64, ahead: bool) -> Option<u64>
+    ensures { IfSome result (λ end. end ≡ at + (if ahead then 17 else 0)) }
+{
+    if !ahead {
+        return Some(at);
+    }
+    let Some(end) = at.checked_add(MARK as u64) else {
+        return None;
+    };
+    Some(end)
+}
+
 /// Hands a machine all records of a file with this header, and checks that nothing behind them was damaged.
 fn read_all<F: LogFile, M: Machine + Drop>(
     alloc: Global,
@@ -149,17 +194,17 @@ fn read_all<F: LogFile, M: Machine + Drop>(
         → WasRefuted (M.gives setting) header.now s n }
     ensures others { IsErrOf result Fault.Header → ⊥ }
 {
-    let start = start_of(header);
-    let from = Place {
-        at: header.len() as u64,
-        check: start,
-        records: 0,
-    };
-    let to = match hand_all(alloc, file, machine, &start, from, buffer) {
+    let key = key_of(header);
+    let from = first_place(header);
+    let to = match hand_all(alloc, file, machine, key, from, buffer) {
         Ok(to) => to,
         Err(fault) => return Err(fault),
     };
-    let Ok(later) = is_damaged(file, &start, to.at, buffer) else {
+    // No file is so long that this fails.
+    let Some(behind) = to.at.checked_add(skip_of(key.form)) else {
+        return Err(Fault::Read);
+    };
+    let Ok(later) = is_damaged(file, key, behind, buffer) else {
         return Err(Fault::Read);
     };
     if later {
@@ -183,6 +228,8 @@ fn open_whole<F: LogFile, M: Machine + Drop>(
     requires kept { (s : List ℕ) → F.has file.old s → IsKept header.now (F.kept file.old) }
     ensures opened { (s : List ℕ) → F.has file.old s → IfOk result (λ opened. (its : List Record) × WasFound header.now s its
         × ((setting : M.Setting) → M.stands setting machine [] → IsReady F.has F.kept (M.stands setting) header.now file.new opened its × Gave (M.gives setting) [] its)) }
+    // A file that ends with the mark of its last turn stays as it is.
+    ensures stays { (s : List ℕ) → F.has file.old s → (its : List Record) → form_of header.now ≡ Form.Present → AllFit its → s ≡ marked_bytes header.now its → OnOk result (F.has file.new s) }
     ensures unchanged { IfErr result (λ fault. fault ≢ Fault.Write → file.new ≡ file.old) }
     ensures kept { OnErr result (F.kept file.new ≡ F.kept file.old) }
     ensures damage { (n : ℕ) → IsErrOf result (Fault.Damage n) → (s : List ℕ) → F.has file.old s → WasDamaged header.now s n }
@@ -195,17 +242,22 @@ fn open_whole<F: LogFile, M: Machine + Drop>(
         Ok(to) => to,
         Err(fault) => return Err(fault),
     };
-    match cut_behind(file, to.at) {
+    let key = key_of(header);
+    let Ok(ahead) = is_begun_at(file, key, to.at) else {
+        return Err(Fault::Read);
+    };
+    let Some(end) = end_of(to.at, ahead) else {
+        return Err(Fault::Read);
+    };
+    match cut_behind(file, end) {
         Ok(()) => {}
         Err(_) => return Err(Fault::Write),
     }
-    let start = start_of(header);
-    let check = to.check;
     Ok(Opened {
         machine,
-        start,
-        check,
-        records: to.records,
+        key,
+        place: to,
+        ahead,
     })
 }
 
@@ -227,12 +279,11 @@ fn open_begun<F: LogFile, M: Machine + Drop>(
         Ok(()) => {}
         Err(_) => return Err(Fault::Write),
     }
-    let start = start_of(header);
     Ok(Opened {
         machine,
-        start,
-        check: start,
-        records: 0,
+        key: key_of(header),
+        place: first_place(header),
+        ahead: false,
     })
 }
 
@@ -250,6 +301,8 @@ fn open_by<F: LogFile, M: Machine + Drop>(
     requires kept { (s : List ℕ) → F.has file.old s → HasHeader header.now s → IsKept header.now (F.kept file.old) }
     ensures opened { (s : List ℕ) → F.has file.old s → IfOk result (λ opened. (its : List Record) × WasFound header.now s its
         × ((setting : M.Setting) → M.stands setting machine [] → IsReady F.has F.kept (M.stands setting) header.now file.new opened its × Gave (M.gives setting) [] its)) }
+    // A file that ends with the mark of its last turn stays as it is.
+    ensures stays { (s : List ℕ) → F.has file.old s → (its : List Record) → form_of header.now ≡ Form.Present → AllFit its → s ≡ marked_bytes header.now its → OnOk result (F.has file.new s) }
     ensures unchanged { IfErr result (λ fault. fault ≢ Fault.Write → file.new ≡ file.old) }
     ensures kept { OnErr result (F.kept file.new ≡ F.kept file.old) }
     ensures damage { (n : ℕ) → IsErrOf result (Fault.Damage n) → (s : List ℕ) → F.has file.old s → WasDamaged header.now s n }
@@ -291,13 +344,15 @@ pub fn open<F: LogFile, M: Machine + Drop>(
     ensures reopened { (setting : M.Setting) (s : List ℕ) (synced written : List Record) → F.has file.old s → M.stands setting machine [] → AllFit synced
         → IsFront (journal_bytes header.now synced) s → NotByChance header.now written s
         → IfOk result (λ opened. (its : List Record) × IsReady F.has F.kept (M.stands setting) header.now file.new opened its × IsFront synced its × IsFront its written) }
+    // A file that ends with the mark of its last turn stays as it is.
+    ensures stays { (s : List ℕ) → F.has file.old s → (its : List Record) → form_of header.now ≡ Form.Present → AllFit its → s ≡ marked_bytes header.now its → OnOk result (F.has file.new s) }
     ensures unchanged { IfErr result (λ fault. fault ≢ Fault.Write → file.new ≡ file.old) }
     // After any fault what is on the disk for sure is what it was.
     ensures kept { OnErr result (F.kept file.new ≡ F.kept file.old) }
-    // Damage is reported only where a record stands behind it that was written when all before it was on the disk.
+    // Damage is reported only where the beginning of a later turn stands behind it.
     ensures damage { (n : ℕ) → IsErrOf result (Fault.Damage n) → (s : List ℕ) → F.has file.old s → WasDamaged header.now s n }
-    // So it is never reported of what a crash leaves of a journal, unless the end of the file has a record of a later turn by
-    // chance.
+    // So it is never reported of what a crash leaves of a journal, unless the end of the file has the beginning of a later
+    // turn by chance.
     ensures lawful { (s : List ℕ) (synced written : List Record) (n : ℕ) → F.has file.old s → AllFit synced → IsFront (journal_bytes header.now synced) s → IsTurn synced written
         → NoneLaterByChance header.now written s (length (journal_bytes header.now synced)) → IsErrOf result (Fault.Damage n) → ⊥ }
     // A record is refused only if no journal of such a machine wrote it behind those before it.

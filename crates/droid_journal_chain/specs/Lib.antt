@@ -2,4 +2,5 @@
 pub mod Records
 pub mod Fronts
 pub mod Chains
+pub mod Changes
 pub mod Reading

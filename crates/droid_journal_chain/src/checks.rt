@@ -1,33 +1,72 @@
-//! Check values.
+//! Check values and marks.
 
-ghost use Rattle.std.specs.Prelude.{◌≡◌, ◌≤◌, ◌++◌, ◌↔◌, IsTrue, length, take};
+ghost use Rattle.std.specs.Prelude.{◌≡◌, ◌≤◌, ◌++◌, ◌↔◌, IsTrue, [], length, take};
+ghost use Rattle.std.specs.Int.{w64, to_be_bytes};
 ghost use Rattle.md5.specs.Md5.{md5};
-ghost use Rattle.droid_journal_chain.specs.Chains.{first_check};
-ghost use Rattle.droid_journal_chain.specs.Records.{checksum, digest, first_byte, made, next_check, sealed};
+ghost use Rattle.droid_journal_chain.specs.Records as records;
+ghost use Rattle.droid_journal_chain.specs.Records.{by_form, checksum, digest, made, mark_at, next_check, sealed};
 
+use crate::comparison::is_same;
+use crate::key::{Form, Key};
+use crate::place::Place;
 use md5::{Digest, Md5};
 
 /// How many bytes the header of a request's frame has.
 const HEADER: usize = 18;
 
-/// The bytes of a check value in front of its seal.
+/// The bytes of a check value of version 3 in front of its seal.
 const SEALED: usize = 12;
 
-/// Computes the start value of a journal with this header: its MD5 (RFC 1321).
-pub fn start_of(header: &[u8]) -> [u8; 16]
-    ensures { result ≡ first_check header.now }
+/// The bytes of the beginning of a turn in version 4: a byte 1 and its mark.
+const MARK: usize = 17;
+
+/// Computes the mark at an offset of a journal.
+#[tactic(auto, unfolding(crate::specs::Records::mark_at))]
+pub(crate) fn mark_of(key: Key, at: u64) -> [u8; 16]
+    ensures { result ≡ mark_at key at }
 {
     let mut hasher = Md5::new();
-    hasher.update(header);
+    hasher.update(&key.start);
+    hasher.update(&at.to_be_bytes());
     hasher.finalize()
 }
 
-/// Computes the MD5 of a record, where `check` is the check value of the record before it. Of the request only its
-/// checksum is hashed.
+/// Returns the beginning of a turn at an offset of a journal of version 4: its bytes say that all before them is on the
+/// disk.
+pub fn turn_mark(key: Key, at: u64) -> [u8; 17]
+    ensures { result ≡ records.turn_mark key at }
+{
+    let mark = mark_of(key, at);
+    let mut bytes = [1u8; MARK];
+    bytes[1..].copy_from_slice(&mark);
+    bytes
+}
+
+/// Where a record stands: its offset, and how many records stand before it.
+fn bytes_of(place: Place) -> [u8; 16]
+    ensures { result ≡ to_be_bytes w64 place.at ++ to_be_bytes w64 place.records }
+{
+    let mut bytes = [0u8; 16];
+    bytes[..8].copy_from_slice(&place.at.to_be_bytes());
+    bytes[8..].copy_from_slice(&place.records.to_be_bytes());
+    bytes
+}
+
+/// Returns these bytes in version 4, none in version 3.
+fn of_form(form: Form, bytes: &[u8]) -> &[u8]
+    ensures { result.now ≡ by_form form [] bytes.now }
+{
+    match form {
+        Form::Before => &bytes[..0],
+        Form::Present => bytes,
+    }
+}
+
+/// Computes the MD5 of a record at a place. Of the request only its checksum is hashed.
 #[tactic(auto, unfolding(crate::specs::Records::digest))]
 fn digest_of(
-    start: &[u8],
-    check: &[u8],
+    key: Key,
+    place: Place,
     first: bool,
     request: &[u8],
     sum: &[u8; 16],
@@ -35,11 +74,13 @@ fn digest_of(
 ) -> [u8; 16]
     requires header { 18 ≤ length request.now }
     requires sum { sum.now ≡ checksum request.now }
-    ensures { result ≡ digest start.now check.now (made first request.now reply.now) }
+    ensures { result ≡ digest key place (made first request.now reply.now) }
 {
+    let stands = bytes_of(place);
     let mut hasher = Md5::new();
-    hasher.update(start);
-    hasher.update(check);
+    hasher.update(&key.start);
+    hasher.update(&place.check);
+    hasher.update(of_form(key.form, &stands));
     hasher.update(&[u8::from(first)]);
     hasher.update(&request[..HEADER]);
     hasher.update(sum);
@@ -48,7 +89,7 @@ fn digest_of(
 }
 
 /// Computes the MD5 whose first four bytes seal these bytes.
-fn seal_of(start: &[u8], bytes: &[u8]) -> [u8; 16]
+fn seal_of(start: &[u8; 16], bytes: &[u8]) -> [u8; 16]
     ensures { result ≡ md5 (start.now ++ bytes.now) }
 {
     let mut hasher = Md5::new();
@@ -66,11 +107,19 @@ fn with_seal(digest: &[u8; 16], seal: &[u8; 16]) -> [u8; 16]
     check
 }
 
-/// Computes the check value of a record from that of the record before it and the checksum of its request.
+/// Seals a digest as a check value of version 3.
+fn sealed_by(start: &[u8; 16], digest: &[u8; 16]) -> [u8; 16]
+    ensures { result ≡ sealed start.now (take 12 digest.now) }
+{
+    let seal = seal_of(start, &digest[..SEALED]);
+    with_seal(digest, &seal)
+}
+
+/// Computes the check value of a record at a place from the checksum of its request.
 #[tactic(auto, unfolding(crate::specs::Records::next_check))]
 pub(crate) fn check_of(
-    start: &[u8],
-    check: &[u8],
+    key: Key,
+    place: Place,
     first: bool,
     request: &[u8],
     sum: &[u8; 16],
@@ -78,21 +127,17 @@ pub(crate) fn check_of(
 ) -> [u8; 16]
     requires header { 18 ≤ length request.now }
     requires sum { sum.now ≡ checksum request.now }
-    ensures { result ≡ next_check start.now check.now (made first request.now reply.now) }
+    ensures { result ≡ next_check key place (made first request.now reply.now) }
 {
-    let digest = digest_of(start, check, first, request, sum, reply);
-    let seal = seal_of(start, &digest[..SEALED]);
-    with_seal(&digest, &seal)
+    let digest = digest_of(key, place, first, request, sum, reply);
+    match key.form {
+        Form::Before => sealed_by(&key.start, &digest),
+        Form::Present => digest,
+    }
 }
 
-fn is_same(one: &[u8], other: &[u8]) -> bool
-    ensures { IsTrue result ↔ (one.now ≡ other.now) }
-{
-    one == other
-}
-
-/// Returns whether 16 bytes are sealed like a check value of the journal with this start value.
-pub(crate) fn is_sealed(start: &[u8], check: &[u8]) -> bool
+/// Returns whether 16 bytes are sealed like a check value of a journal of version 3 with this start value.
+pub(crate) fn is_sealed(start: &[u8; 16], check: &[u8]) -> bool
     requires { length check.now ≡ 16 }
     ensures { IsTrue result ↔ (check.now ≡ sealed start.now (take 12 check.now)) }
 {

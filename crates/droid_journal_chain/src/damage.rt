@@ -1,33 +1,81 @@
 //! Whether the end of a journal is torn or damaged.
 
-ghost use Rattle.std.specs.Prelude.{◌≡◌, ◌↔◌, IsTrue, true};
-ghost use Rattle.droid_journal_chain.specs.Chains.{HasLater, IsLater};
+ghost use Rattle.std.specs.Prelude.{◌≡◌, ◌+◌, ◌<◌, ◌^◌, ◌↔◌, IsTrue, length, true};
+ghost use Rattle.droid_journal_chain.specs.Chains.{HasLater, IsLater, IsMark, StandsLater, place_with};
 
-use crate::checks::is_sealed;
+use crate::checks::{is_sealed, turn_mark};
+use crate::comparison::is_same;
+use crate::key::{Form, Key};
+use crate::place::Place;
 use crate::record_reader::record_of;
 
 /// How many bytes a check value has.
 const CHECK: usize = 16;
 
-/// Returns whether these bytes have, anywhere, a check value and then a whole record with a right check value that was
-/// written when all before it was on the disk. If so, the bytes before it were damaged.
+/// The bytes of the beginning of a turn: a byte 1 and its mark.
+const MARK: usize = 17;
+
+/// Returns whether these bytes, which begin at this offset of a file, have, anywhere, the beginning of a later turn. If so,
+/// the bytes before it were damaged.
 ///
-/// Each place costs at most one MD5 of 28 bytes. A record is hashed only behind bytes that are sealed like a check value,
-/// and only who knows the journal's header can seal bytes.
-pub fn has_later(start: &[u8], bytes: &[u8]) -> bool
-    ensures { IsTrue result ↔ HasLater start.now bytes.now }
+/// In version 4 a place costs an MD5 of 24 bytes only where a byte 1 stands. In version 3 each place costs at most one of 28
+/// bytes, and a record is hashed only behind bytes that are sealed like a check value. Only who knows the journal's header
+/// can make a mark or a seal.
+pub fn has_later(key: Key, at: u64, bytes: &[u8]) -> bool
+    requires { at + length bytes.now < 18446744073709551616 }
+    ensures { IsTrue result ↔ HasLater key at bytes.now }
 {
     for place in 0..bytes.len() {
-        if is_later(start, &bytes[place..]) {
+        if is_later(key, at + place as u64, &bytes[place..]) {
             return true;
         }
     }
     false
 }
 
-/// Returns whether they begin with such a record.
-fn is_later(start: &[u8], bytes: &[u8]) -> bool
-    ensures { IsTrue result ↔ IsLater start.now bytes.now }
+/// Returns whether the beginning of a later turn is at the front of bytes, which begin at this offset.
+fn is_later(key: Key, at: u64, bytes: &[u8]) -> bool
+    ensures { IsTrue result ↔ StandsLater key at bytes.now }
+{
+    match key.form {
+        Form::Before => is_later_before(key, bytes),
+        Form::Present => is_mark(key, at, bytes),
+    }
+}
+
+/// Returns whether bytes, which begin at this offset, begin with the beginning of a turn.
+pub fn is_mark(key: Key, at: u64, bytes: &[u8]) -> bool
+    ensures { IsTrue result ↔ IsMark key at bytes.now }
+{
+    if bytes.len() < MARK {
+        return false;
+    }
+    if bytes[0] != 1 {
+        return false;
+    }
+    let (front, _) = bytes.split_at(MARK);
+    is_same(front, &turn_mark(key, at))
+}
+
+/// A place behind a record with this check value, as version 3 knows it.
+fn place_behind(check: &[u8]) -> Place
+    requires { length check.now ≡ 16 }
+    ensures { result ≡ place_with check.now }
+{
+    let mut own = [0u8; CHECK];
+    own.copy_from_slice(check);
+    Place {
+        at: 0,
+        check: own,
+        records: 0,
+    }
+}
+
+/// Returns whether bytes begin with a check value of version 3, and then with a whole record that was written when all
+/// before it was on the disk.
+fn is_later_before(key: Key, bytes: &[u8]) -> bool
+    requires size { length bytes.now < 18446744073709551616 }
+    ensures { IsTrue result ↔ IsLater key bytes.now }
 {
     if bytes.len() <= CHECK {
         return false;
@@ -36,10 +84,10 @@ fn is_later(start: &[u8], bytes: &[u8]) -> bool
         return false;
     }
     let (check, behind) = bytes.split_at(CHECK);
-    if !is_sealed(start, check) {
+    if !is_sealed(&key.start, check) {
         return false;
     }
-    match record_of(start, check, behind) {
+    match record_of(key, place_behind(check), behind) {
         Some(found) => found.first,
         None => false,
     }

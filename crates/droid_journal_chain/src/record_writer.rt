@@ -1,18 +1,18 @@
 //! Writing a record.
 
-ghost use Rattle.std.specs.Prelude.{◌≡◌, ◌+◌, ◌≤◌, ◌++◌, IfOk, OnErr, OnOk, length};
-ghost use Rattle.droid_journal_chain.specs.Fronts.{IsFront};
+ghost use Rattle.std.specs.Prelude.{◌≡◌, ◌+◌, ◌<◌, ◌≤◌, ◌++◌, length, vec_capacity, vec_len};
 ghost use Rattle.droid_journal_chain.specs.Reading as reading;
-ghost use Rattle.droid_journal_chain.specs.Records.{checksum, made, next_check, record_bytes};
+ghost use Rattle.droid_journal_chain.specs.Records.{checksum, front_bytes, made, next_check, record_bytes, string};
 
-use crate::checks::check_of;
-use std::alloc::AllocError;
+use crate::checks::{check_of, turn_mark};
+use crate::key::{Form, Key};
+use crate::place::Place;
 
 /// How many bytes the header of a request's frame has.
 const HEADER: usize = 18;
 
-/// The bytes of a record beside its frames.
-const OVERHEAD: usize = 25;
+/// The most bytes of a record beside its frames.
+const OVERHEAD: usize = 41;
 
 /// The most bytes of a record.
 const LIMIT: usize = 8_388_608;
@@ -32,31 +32,68 @@ pub(crate) fn fits(request: &[u8], reply: &[u8]) -> bool
         <= LIMIT
 }
 
-/// Appends a record to a buffer, and returns its check value. `check` is that of the record before it, `sum` the checksum of
-/// the request.
+/// Appends bytes for which there is room.
+fn put(out: &mut Vec<u8>, bytes: &[u8])
+    requires { vec_len out.old + length bytes.now ≤ vec_capacity out.old }
+    ensures items { out.new.items ≡ out.old.items ++ bytes.now }
+    ensures len { vec_len out.new ≡ vec_len out.old + length bytes.now }
+    ensures capacity { vec_capacity out.old ≤ vec_capacity out.new }
+{
+    out.extend_from_slice(bytes).unwrap()
+}
+
+/// Appends four bytes of length and that many bytes, for which there is room.
+fn put_string(out: &mut Vec<u8>, bytes: &[u8])
+    requires size { length bytes.now < 4294967296 }
+    requires room { vec_len out.old + length bytes.now + 4 ≤ vec_capacity out.old }
+    ensures items { out.new.items ≡ out.old.items ++ string bytes.now }
+    ensures len { vec_len out.new ≡ vec_len out.old + length bytes.now + 4 }
+    ensures capacity { vec_capacity out.old ≤ vec_capacity out.new }
+{
+    put(out, &(bytes.len() as u32).to_be_bytes());
+    put(out, bytes)
+}
+
+/// Appends the beginning of a record, for which there is room.
+fn put_front(out: &mut Vec<u8>, key: Key, place: Place, first: bool)
+    requires room { vec_len out.old + 17 ≤ vec_capacity out.old }
+    ensures items { out.new.items ≡ out.old.items ++ front_bytes key place first }
+    ensures len { vec_len out.new ≤ vec_len out.old + 17 }
+    ensures capacity { vec_capacity out.old ≤ vec_capacity out.new }
+{
+    if !first {
+        return put(out, &[0u8]);
+    }
+    match key.form {
+        Form::Before => put(out, &[1u8]),
+        Form::Present => put(out, &turn_mark(key, place.at)),
+    }
+}
+
+/// Appends a record to bytes that have room for it, and returns its check value. It takes no memory. `place` is where the
+/// record is to stand, `sum` the checksum of the request.
 #[tactic(auto, unfolding(crate::specs::Records::record_bytes))]
-pub fn record(
+pub fn put_record(
     out: &mut Vec<u8>,
-    start: &[u8],
-    check: &[u8],
+    key: Key,
+    place: Place,
     first: bool,
     request: &[u8],
     sum: &[u8; 16],
     reply: &[u8],
-) -> Result<[u8; 16], AllocError>
+) -> [u8; 16]
     requires header { 18 ≤ length request.now }
     requires sum { sum.now ≡ checksum request.now }
-    requires size { length request.now + length reply.now + 25 ≤ 8388608 }
-    ensures bytes { OnOk result (out.new.items ≡ out.old.items ++ record_bytes start.now check.now (made first request.now reply.now)) }
-    ensures check { IfOk result (λ next. next ≡ next_check start.now check.now (made first request.now reply.now)) }
-    ensures part { OnErr result (IsFront out.old.items out.new.items) }
+    requires size { length request.now + length reply.now + 41 ≤ 8388608 }
+    requires room { vec_len out.old + length request.now + length reply.now + 41 ≤ vec_capacity out.old }
+    ensures bytes { out.new.items ≡ out.old.items ++ record_bytes key place (made first request.now reply.now) }
+    ensures check { result ≡ next_check key place (made first request.now reply.now) }
+    ensures capacity { vec_capacity out.old ≤ vec_capacity out.new }
 {
-    let next = check_of(start, check, first, request, sum, reply);
-    out.push(u8::from(first))?;
-    out.extend_from_slice(&(request.len() as u32).to_be_bytes())?;
-    out.extend_from_slice(request)?;
-    out.extend_from_slice(&(reply.len() as u32).to_be_bytes())?;
-    out.extend_from_slice(reply)?;
-    out.extend_from_slice(&next)?;
-    Ok(next)
+    let next = check_of(key, place, first, request, sum, reply);
+    put_front(out, key, place, first);
+    put_string(out, request);
+    put_string(out, reply);
+    put(out, &next);
+    next
 }

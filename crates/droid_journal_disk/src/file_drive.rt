@@ -14,8 +14,8 @@ const REPORTED: u64 = 1_073_741_824;
 /// How often a call is tried that signals interrupt.
 const TRIES: usize = 64;
 
-/// The bits of a mode that say who may read, write and run a file.
-const MODES: u32 = 0o777;
+/// The mode of a file that is made here: only its owner may read and write it. It has the bytes of files that clients sent.
+const PRIVATE: u32 = 0o600;
 
 /// A file of this machine, locked: while it is open, no other process can open it this way. Bytes that are cut off go into the
 /// file with this name and `.torn` behind it.
@@ -31,7 +31,8 @@ pub struct FileDrive<'a, R> {
 }
 
 impl<'a, R: Files<File = File> + Eprint + AllocGlobal> FileDrive<'a, R> {
-    /// Opens a file, and creates it if it is missing. Its name is then on the disk too. A link is no regular file.
+    /// Opens a file, and creates it if it is missing: then only its owner may read and write it. Its name is then on the disk
+    /// too. A link is no regular file.
     ///
     /// Fails as in use if another process replaced the file before this one had the lock: what is appended to a file without
     /// a name would be lost.
@@ -80,6 +81,7 @@ fn open_for_appending<R: Files<File = File>>(runtime: &R, path: &str) -> io::Res
         .read(true)
         .append(true)
         .create(true)
+        .mode(PRIVATE)
         .open(runtime, path)
 }
 
@@ -160,14 +162,13 @@ fn write_once(file: &mut File, bytes: &[u8]) -> io::Result<usize>
 }
 
 impl<'a, R: Files<File = File> + Eprint + AllocGlobal> FileDrive<'a, R> {
-    /// Opens the file for bytes that are cut off. A new one can be read only by those who can read the journal.
+    /// Opens the file for bytes that are cut off.
     fn open_torn(&self) -> io::Result<File> {
         let name = format!(in self.runtime.alloc(); "{}.torn", self.path)?;
-        let journal = self.file.metadata()?;
         let torn = OpenOptions::new()
             .append(true)
             .create(true)
-            .mode(journal.mode() & MODES)
+            .mode(PRIVATE)
             .open(self.runtime, name.as_str())?;
         sync_folder(self.runtime, self.path)?;
         Ok(torn)

@@ -28,7 +28,7 @@ pub fn header_for<F: LogFile>(
     ensures whole { (s : List ℕ) → F.has file.now s → IfOk result (λ header. length fixed.now + 16 ≤ length s → HasHeader fixed.now s → HasHeader header.items s) }
     // A file with only a part of that has a part of this header.
     ensures begun { (s : List ℕ) → F.has file.now s → IfOk result (λ header. length s < length fixed.now + 16 → IsFront s fixed.now ⊎ IsFront fixed.now s → IsBegun header.items s (length s)) }
-    ensures size { IfOk result (λ header. length header.items ≤ 4096) }
+    ensures size { IfOk result (λ header. length header.items ≡ length fixed.now + 16) }
     ensures fault { IfErr result IsMemoryOrRead }
 {
     let random = match random_of(file, fixed.len() as u64, fresh) {

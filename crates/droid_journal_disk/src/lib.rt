@@ -17,5 +17,6 @@ pub use drive::{Drive, DriveError};
 pub use droid_journal::{
     Fault, FileError, Handled, Journal, LogFile, Machine, Opened, Tears, crash_and_reopen, open,
 };
+pub use droid_journal_chain::checked;
 pub use file_drive::FileDrive;
 pub use header::{RANDOM, header_for};

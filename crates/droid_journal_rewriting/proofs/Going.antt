@@ -1,83 +1,75 @@
 -- Records at the front of bytes that are taken one after another.
-use Rattle.std.proofs.Common.{◌≡◌, ℕ, ◌+◌, ◌*◌, ◌<◌, ◌≤◌, List, [], ◌∷◌, ◌++◌, length, refl, sym, ap, subst, ◌∙◌, append_assoc, arith}
+use Rattle.std.proofs.Common.{◌≡◌, ℕ, ◌+◌, ◌<◌, ◌≤◌, List, [], ◌∷◌, ◌++◌, length, refl, sym, ap, subst, ◌∙◌, append_assoc, arith}
 use Rattle.std.proofs.lemmas.List.{append-nil, length-append}
-use Rattle.droid_journal_chain.specs.Chains.{BeginsNoRecord, BeginsWith, chain_bytes, check_after}
-use Rattle.droid_journal_chain.specs.Records.{AllFit, Record, next_check, record_bytes}
-use Rattle.droid_journal_chain.proofs.Chains.{chain_append, check_append, fit_append}
-use Rattle.droid_journal_chain.proofs.RecordLaws.{length-record}
+use Rattle.droid_journal_chain.specs.Chains.{BeginsNoRecord, BeginsWith, chain_bytes, place_behind}
+use Rattle.droid_journal_chain.specs.Records.{AllFit, Record, place_after, record_bytes}
+use Rattle.droid_journal_chain.specs.declared.key.Key.{Key}
+use Rattle.droid_journal_chain.specs.declared.place.Place.{Place}
+use Rattle.droid_journal_chain.proofs.Chains.{at_behind, chain_append, chain_long, fit_append, place_append, records_behind}
+use Rattle.droid_journal_chain.proofs.RecordLaws.{record_within}
 use Rattle.droid_journal_rewriting.specs.Taking.{Takes}
 
--- a record has at least 25 bytes
-pub chain_long : (start check : List ℕ) (its : List Record) → 25 * length its ≤ length (chain_bytes start check its)
-chain_long start check [] = omega arith
-chain_long start check (it ∷ its) =
-    omega (arith, chain_long start (next_check start check it) its, length-append (record_bytes start check it) (chain_bytes start (next_check start check it) its), length-record start check it)
-
-module _ {S T : Type 0} (took : S → T → List Record → Type 0) (start check bytes : List ℕ) (from : ℕ) (old : T) where
-  -- the records of the bytes up to this rest were taken, which are counted on from a number
-  pub record Going (rest after : List ℕ) (count : ℕ) (new : T) : Type 0 where
+module _ {S T : Type 0} (took : S → T → List Record → Type 0) (key : Key) (from : Place) (bytes : List ℕ) (old : T) where
+  -- the records of the bytes up to this rest, which stands at this place, were taken
+  pub record Going (rest : List ℕ) (to : Place) (new : T) : Type 0 where
     pub its : List Record
     pub fit : AllFit its
-    pub joined : bytes ≡ chain_bytes start check its ++ rest
-    pub check_is : after ≡ check_after start check its
-    pub counted : count ≡ from + length its
+    pub joined : bytes ≡ chain_bytes key from its ++ rest
+    pub to_is : to ≡ place_behind key from its
     pub taken : (setting : S) (before : List Record) → took setting old before → took setting new (before ++ its)
 
-  pub begun : Going bytes check from old
+  pub begun : Going bytes from old
   begun = record {
     its = [];
     fit = tt;
     joined = refl;
-    check_is = refl;
-    counted = omega arith;
+    to_is = refl;
     taken = λ setting before st. subst (took setting old) (sym (append-nil before)) st;
   }
 
   -- with the next record
-  one_more : (rest after next behind : List ℕ) (count : ℕ) (mid : T) (it : Record) (so_far : Going rest after count mid) → BeginsWith start after rest it next behind → bytes ≡ chain_bytes start check (so_far.its ++ it ∷ []) ++ behind
-  one_more rest after next behind count mid it so_far found =
+  one_more : (rest behind : List ℕ) (to next : Place) (mid : T) (it : Record) (so_far : Going rest to mid) → BeginsWith key to rest it next behind → bytes ≡ chain_bytes key from (so_far.its ++ it ∷ []) ++ behind
+  one_more rest behind to next mid it so_far found =
       let its = so_far.its in
-      let here : record_bytes start after it ≡ chain_bytes start (check_after start check its) (it ∷ []) =
-      sym (append-nil (record_bytes start after it)) ∙ ap (λ (k : List ℕ). chain_bytes start k (it ∷ [])) so_far.check_is in
-      so_far.joined ∙ ap (λ (t : List ℕ). chain_bytes start check its ++ t) (found.parts ∙ ap (λ (t : List ℕ). t ++ behind) here)
-      ∙ sym (append_assoc (chain_bytes start check its) (chain_bytes start (check_after start check its) (it ∷ [])) behind)
-      ∙ ap (λ (t : List ℕ). t ++ behind) (sym (chain_append start check its (it ∷ [])))
+      let here : record_bytes key to it ≡ chain_bytes key (place_behind key from its) (it ∷ []) =
+      sym (append-nil (record_bytes key to it)) ∙ ap (λ (k : Place). chain_bytes key k (it ∷ [])) so_far.to_is in
+      so_far.joined ∙ ap (λ (t : List ℕ). chain_bytes key from its ++ t) (found.parts ∙ ap (λ (t : List ℕ). t ++ behind) here)
+      ∙ sym (append_assoc (chain_bytes key from its) (chain_bytes key (place_behind key from its) (it ∷ [])) behind)
+      ∙ ap (λ (t : List ℕ). t ++ behind) (sym (chain_append key from its (it ∷ [])))
 
-  pub goes_on : (rest after next behind : List ℕ) (count : ℕ) (mid new : T) (it : Record) (so_far : Going rest after count mid) → BeginsWith start after rest it next behind
-      → ((setting : S) (before : List Record) → took setting mid before → took setting new (before ++ it ∷ [])) → Going behind next (count + 1) new
-  goes_on rest after next behind count mid new it so_far found taken =
+  pub goes_on : (rest behind : List ℕ) (to next : Place) (mid new : T) (it : Record) (so_far : Going rest to mid) → BeginsWith key to rest it next behind
+      → ((setting : S) (before : List Record) → took setting mid before → took setting new (before ++ it ∷ [])) → Going behind next new
+  goes_on rest behind to next mid new it so_far found taken =
       let its = so_far.its in
       record {
         its = its ++ it ∷ [];
         fit = fit_append its (it ∷ []) so_far.fit (found.fits, tt);
-        joined = one_more rest after next behind count mid it so_far found;
-        check_is = found.check_is ∙ ap (λ (k : List ℕ). next_check start k it) so_far.check_is ∙ sym (check_append start check its (it ∷ []));
-        counted = omega (arith, so_far.counted, length-append its (it ∷ []));
+        joined = one_more rest behind to next mid it so_far found;
+        to_is = found.after_is ∙ ap (λ (k : Place). place_after key k it) so_far.to_is ∙ sym (place_append key from its (it ∷ []));
         taken = λ setting before st. subst (took setting new) (append_assoc before its (it ∷ [])) (taken setting (before ++ its) (so_far.taken setting before st));
       }
 
-  pub went : (rest after : List ℕ) (count : ℕ) (new : T) (used : ℕ) → Going rest after count new → used + length rest ≡ length bytes → BeginsNoRecord start after rest → Takes took start check bytes from old used after count new
-  went rest after count new used so_far size none = record {
+  -- where the rest stands: it ends where the bytes end, and no more records came than bytes
+  pub within : (rest : List ℕ) (to : Place) (mid : T) → Going rest to mid → (to.at + length rest ≡ from.at + length bytes) × (to.records + length rest ≤ from.records + length bytes)
+  within rest to mid so_far =
+      let chain : List ℕ = chain_bytes key from so_far.its in
+      let at : to.at ≡ from.at + length chain = ap (λ (p : Place). p.at) so_far.to_is ∙ at_behind key from so_far.its in
+      let count : to.records ≡ from.records + length so_far.its = ap (λ (p : Place). p.records) so_far.to_is ∙ records_behind key from so_far.its in
+      let size : length bytes ≡ length chain + length rest = ap length so_far.joined ∙ length-append chain rest in
+      (omega (arith, at, size), omega (arith, count, size, chain_long key from so_far.its))
+
+  pub went : (rest : List ℕ) (to : Place) (new : T) → Going rest to new → BeginsNoRecord key to rest → Takes took key from bytes old to new
+  went rest to new so_far none = record {
     its = so_far.its;
     rest = rest;
     fit = so_far.fit;
     joined = so_far.joined;
     ends = none;
-    check_is = so_far.check_is;
-    size = omega (arith, size, ap length so_far.joined, length-append (chain_bytes start check so_far.its) rest);
-    count = so_far.counted;
+    to_is = so_far.to_is;
     taken = so_far.taken;
   }
 
-  pub within : (rest after : List ℕ) (count : ℕ) (new : T) → Going rest after count new → (k : ℕ) × (k + length rest ≡ length bytes)
-  within rest after count new so_far = (length (chain_bytes start check so_far.its), omega (arith, ap length so_far.joined, length-append (chain_bytes start check so_far.its) rest))
-
-  -- there are no more records than bytes
-  pub room : (rest after : List ℕ) (count : ℕ) (new : T) → Going rest after count new → count + length rest ≤ from + length bytes
-  room rest after count new so_far =
-      let chain : List ℕ = chain_bytes start check so_far.its in
-      omega (arith, so_far.counted, chain_long start check so_far.its, ap length so_far.joined, length-append chain rest)
-
-pub shorter : (start check rest : List ℕ) (it : Record) (next behind : List ℕ) → BeginsWith start check rest it next behind → length behind < length rest
-shorter start check rest it next behind found =
-    omega (arith, ap length found.parts, length-append (record_bytes start check it) behind, length-record start check it)
+pub shorter : (key : Key) (place : Place) (rest : List ℕ) (it : Record) (next : Place) (behind : List ℕ) → BeginsWith key place rest it next behind → length behind < length rest
+shorter key place rest it next behind found =
+    let within = record_within key place it in
+    omega (arith, ap length found.parts, length-append (record_bytes key place it) behind, within.0)

@@ -65,7 +65,7 @@ smaller_same one other request reply same =
 all_same : (one other : ℕ → Bool) → ((file : ℕ) → one file ≡ other file) → (its : List Record) → map (smaller one) its ≡ map (smaller other) its
 all_same one other same [] = refl
 all_same one other same (it ∷ its) =
-    ap (λ (r : List ℕ). made true r it.reply ∷ map (smaller one) its) (smaller_same one other it.request it.reply (same (file_in it.request))) ∙ ap (λ (xs : List Record). smaller other it ∷ xs) (all_same one other same its)
+    ap (λ (r : List ℕ). made false r it.reply ∷ map (smaller one) its) (smaller_same one other it.request it.reply (same (file_in it.request))) ∙ ap (λ (xs : List Record). smaller other it ∷ xs) (all_same one other same its)
 
 pub smaller_by_same : (one other : ℕ → Bool) (its : List Record) → ((file : ℕ) → one file ≡ other file) → smaller_by one its ≡ smaller_by other its
 smaller_by_same one other its same = all_same one other same (once [] its)

@@ -5,6 +5,7 @@ use Rattle.std.specs.Prelude.{IfSome, slice_index, slice_index_or}
 use Rattle.md5.specs.Md5.{md5}
 use Rattle.droid_journal_rewriting.specs.Sums.{AreSumsIn, IsEndOf, IsSumOf, body_in, kind_in, last_in, request_or_none}
 use Rattle.droid_journal_rewriting.specs.declared.sums.Sums.{Sums}
+use Rattle.droid_journal_chain.specs.declared.key.Form.{Form}
 
 pub end_end : (bytes rest more : List ℕ) → IsEndOf bytes rest → IsEndOf rest more → IsEndOf bytes more
 end_end bytes rest more one two = (one.0 ++ two.0, one.1 ∙ ap (λ (t : List ℕ). one.0 ++ t) two.1 ∙ sym (append_assoc one.0 two.0 more))
@@ -16,8 +17,8 @@ end_is_last bytes rest count is same =
     ap (λ (n : ℕ). drop n bytes) front ∙ ap (λ (t : List ℕ). drop (length is.0) t) is.1 ∙ drop_at is.0 rest (length is.0) refl
 
 -- what is said of all ends of some bytes holds of an end of them
-pub sums_on : (bytes rest : List ℕ) (sums : Sums) → AreSumsIn bytes sums → IsEndOf bytes rest → AreSumsIn rest sums
-sums_on bytes rest sums are is = λ lane few more its left. are lane few more (end_end bytes rest more is its) left
+pub sums_on : (form : Form) (bytes rest : List ℕ) (sums : Sums) → AreSumsIn form bytes sums → IsEndOf bytes rest → AreSumsIn form rest sums
+sums_on form bytes rest sums are is = λ lane few more its left. are lane few more (end_end bytes rest more is its) left
 
 -- the bytes of which a lane computes the MD5
 pub marked_is : (request : List ℕ) → 18 ≤ length request → take 1 (drop 1 request) ++ drop 18 request ≡ slice_index request 1 ∷ drop 18 request
@@ -25,18 +26,18 @@ marked_is [] long = absurd (omega (arith, long))
 marked_is (a ∷ []) long = absurd (omega (arith, long))
 marked_is (a ∷ b ∷ rest) long = refl
 
-sum_is : (rest : List ℕ) → IsSumOf rest (md5 (kind_in rest ++ body_in rest))
-sum_is rest = λ request there long.
+sum_is : (form : Form) (rest : List ℕ) → IsSumOf form rest (md5 (kind_in form rest ++ body_in form rest))
+sum_is form rest = λ request there long.
     ap (λ (r : Option (List ℕ)). md5 (take 1 (drop 1 (request_or_none r)) ++ drop 18 (request_or_none r))) there ∙ ap md5 (marked_is request long)
 
 -- what eight lanes computed are the checksums
-pub sums_are : (bytes : List ℕ) (left : List ℕ) (digests : List (List ℕ)) → ((lane : ℕ) → lane < 8 → slice_index_or digests lane [] ≡ md5 (kind_in (last_in bytes (slice_index left lane)) ++ body_in (last_in bytes (slice_index left lane))))
-    → AreSumsIn bytes (record { left = left; digests = digests })
-sums_are bytes left digests computed = λ lane below rest is there.
-    subst (IsSumOf rest) (sym (computed lane below ∙ ap (λ (t : List ℕ). md5 (kind_in t ++ body_in t)) (end_is_last bytes rest (slice_index left lane) is there))) (sum_is rest)
+pub sums_are : (form : Form) (bytes : List ℕ) (left : List ℕ) (digests : List (List ℕ)) → ((lane : ℕ) → lane < 8 → slice_index_or digests lane [] ≡ md5 (kind_in form (last_in bytes (slice_index left lane)) ++ body_in form (last_in bytes (slice_index left lane))))
+    → AreSumsIn form bytes (record { left = left; digests = digests })
+sums_are form bytes left digests computed = λ lane below rest is there.
+    subst (IsSumOf form rest) (sym (computed lane below ∙ ap (λ (t : List ℕ). md5 (kind_in form t ++ body_in form t)) (end_is_last bytes rest (slice_index left lane) is there))) (sum_is form rest)
 
 -- what is known of the request at the front
-pub sum_at : (bytes : List ℕ) (sums : Sums) (sum : Option (List ℕ)) → AreSumsIn bytes sums → IfSome sum (λ it. (lane : ℕ) × (lane < 8) × (slice_index sums.left lane ≡ length bytes) × (it ≡ slice_index_or sums.digests lane []))
-    → IfSome sum (λ it. IsSumOf bytes it)
-sum_at bytes sums None are it = tt
-sum_at bytes sums (Some s) are it = subst (IsSumOf bytes) (sym it.3) (are it.0 it.1 bytes ([], refl) (sym it.2))
+pub sum_at : (form : Form) (bytes : List ℕ) (sums : Sums) (sum : Option (List ℕ)) → AreSumsIn form bytes sums → IfSome sum (λ it. (lane : ℕ) × (lane < 8) × (slice_index sums.left lane ≡ length bytes) × (it ≡ slice_index_or sums.digests lane []))
+    → IfSome sum (λ it. IsSumOf form bytes it)
+sum_at form bytes sums None are it = tt
+sum_at form bytes sums (Some s) are it = subst (IsSumOf form bytes) (sym it.3) (are it.0 it.1 bytes ([], refl) (sym it.2))

@@ -3,20 +3,44 @@ use Rattle.std.proofs.Common.{◌≡◌, ℕ, ◌+◌, ◌*◌, ◌≤◌, Bool,
 use Rattle.std.proofs.lemmas.Bool.{ltb-false}
 use Rattle.std.proofs.lemmas.List.{length-append, length-drop}
 use Rattle.std.proofs.lemmas.List.Sums.{sum_by-cons}
-use Rattle.std.specs.List.{sum_by}
+use Rattle.std.specs.List.{AllByRecursion, sum_by}
 use Rattle.droid_journal_bare.specs.BareFrames.{bare_finish_bytes, bare_piece_bytes}
-use Rattle.droid_journal_chain.specs.Chains.{chain_bytes, first_check, journal_bytes}
-use Rattle.droid_journal_chain.specs.Records.{Record, next_check, record_bytes}
-use Rattle.droid_journal_chain.proofs.RecordLaws.{length-record}
+use Rattle.droid_journal_chain.specs.Chains.{chain_bytes, first_place, journal_bytes, key_of, last_place, marked_bytes}
+use Rattle.droid_journal_chain.specs.Records.{Record, body, front_bytes, next_check, place_after, record_bytes, turn_mark}
+use Rattle.droid_journal_chain.specs.declared.key.Key.{Key}
+use Rattle.droid_journal_chain.specs.declared.place.Place.{Place}
+use Rattle.droid_journal_chain.proofs.RecordLaws.{length-body, length-check, length-mark}
 use Rattle.droid_journal_rewriting.specs.Fields.{file_in, is_about, stamp_in}
 use Rattle.droid_journal_rewriting.specs.Shortening.{has_ended, has_stamp, once, shortened, smaller, smaller_request}
 use Rattle.droid_journal_rewriting.specs.Sizes.{size_of}
 use Rattle.droid_journal_rewriting.proofs.BareSizes.{bare_finish_long, bare_piece_long}
 
-chain_size : (start check : List ℕ) (its : List Record) → length (chain_bytes start check its) ≡ sum_by size_of its
-chain_size start check [] = refl
-chain_size start check (it ∷ its) =
-    omega (arith, length-append (record_bytes start check it) (chain_bytes start (next_check start check it) its), length-record start check it, chain_size start (next_check start check it) its, sum_by-cons size_of it its)
+-- a record that begins no turn
+pub record_size : (key : Key) (place : Place) (it : Record) → it.first ≡ false → length (record_bytes key place it) ≡ size_of it
+unfolding record_bytes
+record_size key place it first =
+    let rest : List ℕ = body it ++ next_check key place it in
+    let one : length (front_bytes key place it.first) ≡ 1 = ap (λ (b : Bool). length (front_bytes key place b)) first in
+    omega (arith, one, length-append (front_bytes key place it.first) rest, length-append (body it) (next_check key place it), length-body it, length-check key place it)
+
+-- no record begins a turn
+abbrev pub AreOthers : List Record → Type 0
+AreOthers its = AllByRecursion (λ it. it.first ≡ false) its
+
+chain_size : (key : Key) (place : Place) (its : List Record) → AreOthers its → length (chain_bytes key place its) ≡ sum_by size_of its
+chain_size key place [] all = refl
+chain_size key place (it ∷ its) all =
+    omega (
+      arith,
+      length-append (record_bytes key place it) (chain_bytes key (place_after key place it) its),
+      record_size key place it all.0,
+      chain_size key (place_after key place it) its all.1,
+      sum_by-cons size_of it its,
+    )
+
+smaller_others : (ended : ℕ → Bool) (its : List Record) → AreOthers (map (smaller ended) its)
+smaller_others ended [] = tt
+smaller_others ended (it ∷ its) = (refl, smaller_others ended its)
 
 smaller_size : (change : Record → Record) (its : List Record) → sum_by size_of (map change its) ≡ sum_by (λ it. size_of (change it)) its
 smaller_size change [] = refl
@@ -34,13 +58,16 @@ once_size f before (it ∷ its) =
     let kept : List Record = once (before ++ it ∷ []) its in
     subst (λ (n : ℕ). sum_by f (cond again kept (it ∷ kept)) ≤ n) (sym (sum_by-cons f it its)) (kept_size f again it kept (sum_by f its) (once_size f (before ++ it ∷ []) its))
 
-pub total_size : (header : List ℕ) (its : List Record) → length (journal_bytes header (shortened its)) ≤ length header + sum_by (λ it. size_of (smaller (has_ended (once [] its)) it)) its
+pub total_size : (header : List ℕ) (its : List Record) → length (marked_bytes header (shortened its)) ≤ length header + 17 + sum_by (λ it. size_of (smaller (has_ended (once [] its)) it)) its
 total_size header its =
     let change : Record → Record = smaller (has_ended (once [] its)) in
+    let chain : List ℕ = chain_bytes (key_of header) (first_place header) (shortened its) in
     omega (
       arith,
-      length-append header (chain_bytes (first_check header) (first_check header) (shortened its)),
-      chain_size (first_check header) (first_check header) (shortened its),
+      length-append (header ++ chain) (turn_mark (key_of header) (last_place header (shortened its)).at),
+      length-mark (key_of header) (last_place header (shortened its)).at,
+      length-append header chain,
+      chain_size (key_of header) (first_place header) (shortened its) (smaller_others (has_ended (once [] its)) (once [] its)),
       smaller_size change (once [] its),
       once_size (λ it. size_of (change it)) [] its,
     )

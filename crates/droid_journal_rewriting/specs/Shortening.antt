@@ -1,9 +1,10 @@
 -- The records of a journal that was made smaller (this project's own).
-use Rattle.std.specs.Prelude.{◌≡◌, ◌≢◌, ℕ, ◌==◌, ◌&&◌, if◌then◌else◌, Bool, true, List, [], ◌∷◌, ◌++◌, length, map}
+use Rattle.std.specs.Prelude.{◌≡◌, ◌≢◌, ℕ, ◌==◌, ◌&&◌, if◌then◌else◌, Bool, true, false, List, [], ◌∷◌, ◌++◌, length, map}
 use Rattle.std.specs.List.{list_any}
 use Rattle.droid_journal_bare.specs.BareFrames.{bare_finish_bytes, bare_piece_bytes}
-use Rattle.droid_journal_chain.specs.Chains.{Chain, journal_bytes}
+use Rattle.droid_journal_chain.specs.Chains.{Chain, journal_bytes, marked_bytes}
 use Rattle.droid_journal_chain.specs.Records.{AllFit, Record, made}
+use Rattle.droid_journal.specs.Standing.{ahead_bytes}
 use Rattle.droid_journal_rewriting.specs.Fields.{file_in, is_about, is_end, stamp_in}
 
 -- the record is the Finish or the Abandon of this file
@@ -21,9 +22,10 @@ smaller_request ended request reply =
     else if is_about 5 request reply then (if ended (file_in request) then bare_finish_bytes request reply else request)
     else request
 
--- Each record says that all before it is on the disk: the whole file is before it is used.
+-- No record of a smaller journal begins a turn: the mark at the end of the file says of all of them that they are on the
+-- disk.
 abbrev pub smaller : (ℕ → Bool) → Record → Record
-smaller ended it = made true (smaller_request ended it.request it.reply) it.reply
+smaller ended it = made false (smaller_request ended it.request it.reply) it.reply
 
 -- whether one of the records has a request with this client and number
 abbrev pub has_stamp : List Record → ℕ → Bool
@@ -42,19 +44,20 @@ smaller_by ended its = map (smaller ended) (once [] its)
 abbrev pub shortened : List Record → List Record
 shortened its = smaller_by (has_ended (once [] its)) its
 
--- the file is a journal of these records, and nothing else
+-- the file is a journal of these records, and nothing else but perhaps the beginning of the next turn
 pub record IsWhole (header file : List ℕ) (its : List Record) : Type 0 where
   pub fit : AllFit its
-  pub file_is : file ≡ journal_bytes header its
+  pub file_is : (ahead : Bool) × (file ≡ journal_bytes header its ++ ahead_bytes header its ahead)
 
--- the bytes are those of the smaller journal of the file
-abbrev pub IsShortened : List ℕ → List ℕ → List ℕ → Type 0
-IsShortened header file bytes = (its : List Record) × IsWhole header file its × AllFit (shortened its) × (bytes ≡ journal_bytes header (shortened its))
+-- the bytes are those of the smaller journal of the file, under a new header and with its mark
+abbrev pub IsShortened : List ℕ → List ℕ → List ℕ → List ℕ → Type 0
+IsShortened header new file bytes = (its : List Record) × IsWhole header file its × AllFit (shortened its) × (bytes ≡ marked_bytes new (shortened its))
 
--- Bytes stand behind this many whole records of the file, and begin with no further one.
+-- Bytes stand behind this many whole records of the file, and neither begin with a further one nor are the beginning of the
+-- next turn.
 pub record HasBehind (header file : List ℕ) (count : ℕ) : Type 0 where
   pub its : List Record
   pub rest : List ℕ
   pub chain : Chain header file its rest
-  pub more : rest ≢ []
+  pub more : (ahead : Bool) → rest ≢ ahead_bytes header its ahead
   pub count_is : count ≡ length its

@@ -1,13 +1,13 @@
 -- How many bytes and records there are (this project's own).
 use Rattle.std.specs.Prelude.{◌≡◌, ◌<◌, ℕ, ◌+◌, ◌*◌, ◌&&◌, if◌then◌else◌, Bool, List, [], length}
 use Rattle.std.specs.List.{sum_by}
-use Rattle.droid_journal_chain.specs.Chains.{journal_bytes}
+use Rattle.droid_journal_chain.specs.Chains.{marked_bytes}
 use Rattle.droid_journal_chain.specs.Records.{Record}
 use Rattle.droid_journal_rewriting.specs.Fields.{file_in, is_about}
 use Rattle.droid_journal_rewriting.specs.Shortening.{IsWhole, has_ended, once, shortened}
 use Rattle.droid_journal_rewriting.specs.declared.size.Size.{Size}
 
--- the bytes of a record: a byte, two lengths of four bytes, the two frames, and the check value
+-- the bytes of a record without its mark: a byte, two lengths of four bytes, the two frames, and the check value
 abbrev pub size_of : Record → ℕ
 size_of it = length it.request + length it.reply + 25
 
@@ -28,7 +28,7 @@ pub record IsSizeOf (file : List ℕ) (its : List Record) (size : Size) : Type 0
   pub records_are : size.records ≡ length its
   pub bytes_are : size.bytes ≡ length file
 
--- the one size is that of the file, and the other that of the smaller journal of its records
-abbrev pub AreSizes : List ℕ → List ℕ → Size → Size → Type 0
-AreSizes header file before after =
-    (its : List Record) × IsWhole header file its × IsSizeOf file its before × IsSizeOf (journal_bytes header (shortened its)) (shortened its) after
+-- the one size is that of the file, and the other that of the smaller journal of its records under the new header
+abbrev pub AreSizes : List ℕ → List ℕ → List ℕ → Size → Size → Type 0
+AreSizes header new file before after =
+    (its : List Record) × IsWhole header file its × IsSizeOf file its before × IsSizeOf (marked_bytes new (shortened its)) (shortened its) after

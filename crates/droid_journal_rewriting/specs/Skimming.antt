@@ -3,8 +3,9 @@ use Rattle.std.specs.Prelude.{◌≡◌, ◌≤◌, ℕ, List, length, slice_ind
 use Rattle.droid_journal_rewriting.specs.Fields.{file_in, stamp_in}
 use Rattle.droid_journal_rewriting.specs.declared.skim.Front.{Front}
 
--- the front is that of a record with this request
-pub record IsFrontOf (request : List ℕ) (front : Front) : Type 0 where
+-- the front is that of a record with this request, in front of whose length this many bytes stand
+pub record IsFrontOf (ahead : ℕ) (request : List ℕ) (front : Front) : Type 0 where
+  pub ahead_is : front.ahead ≡ ahead
   pub request_is : front.request ≡ length request
   pub kind_is : front.kind ≡ slice_index request 1
   pub stamp_is : front.stamp ≡ stamp_in request

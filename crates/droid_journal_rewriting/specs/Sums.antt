@@ -2,6 +2,7 @@
 use Rattle.std.specs.Prelude.{◌≡◌, ◌<◌, ◌≤◌, ℕ, List, [], ◌++◌, ◌-◌, Option, Some, None, drop, length, slice_index, slice_index_or, take}
 use Rattle.droid_journal_chain.specs.Reading.{request_in}
 use Rattle.droid_journal_chain.specs.Records.{checksum}
+use Rattle.droid_journal_chain.specs.declared.key.Form.{Form}
 use Rattle.droid_journal_rewriting.specs.declared.sums.Sums.{Sums}
 
 -- the second list is an end of the first
@@ -9,12 +10,12 @@ abbrev pub IsEndOf : List ℕ → List ℕ → Type 0
 IsEndOf bytes rest = (front : List ℕ) × (bytes ≡ front ++ rest)
 
 -- this is the checksum of the request at the front, if one with a whole header is there
-abbrev pub IsSumOf : List ℕ → List ℕ → Type 0
-IsSumOf bytes sum = (request : List ℕ) → request_in bytes ≡ Some request → 18 ≤ length request → sum ≡ checksum request
+abbrev pub IsSumOf : Form → List ℕ → List ℕ → Type 0
+IsSumOf form bytes sum = (request : List ℕ) → request_in form bytes ≡ Some request → 18 ≤ length request → sum ≡ checksum request
 
 -- where as many bytes are left as a lane says, its digest is the checksum of the request there
-abbrev pub AreSumsIn : List ℕ → Sums → Type 0
-AreSumsIn bytes sums = (lane : ℕ) → lane < 8 → (rest : List ℕ) → IsEndOf bytes rest → length rest ≡ slice_index sums.left lane → IsSumOf rest (slice_index_or sums.digests lane [])
+abbrev pub AreSumsIn : Form → List ℕ → Sums → Type 0
+AreSumsIn form bytes sums = (lane : ℕ) → lane < 8 → (rest : List ℕ) → IsEndOf bytes rest → length rest ≡ slice_index sums.left lane → IsSumOf form rest (slice_index_or sums.digests lane [])
 
 -- the last `count` bytes
 abbrev pub last_in : List ℕ → ℕ → List ℕ
@@ -26,8 +27,8 @@ request_or_none (Some request) = request
 request_or_none None = []
 
 -- the byte of its kind, and its body
-abbrev pub kind_in : List ℕ → List ℕ
-kind_in bytes = take 1 (drop 1 (request_or_none (request_in bytes)))
+abbrev pub kind_in : Form → List ℕ → List ℕ
+kind_in form bytes = take 1 (drop 1 (request_or_none (request_in form bytes)))
 
-abbrev pub body_in : List ℕ → List ℕ
-body_in bytes = drop 18 (request_or_none (request_in bytes))
+abbrev pub body_in : Form → List ℕ → List ℕ
+body_in form bytes = drop 18 (request_or_none (request_in form bytes))

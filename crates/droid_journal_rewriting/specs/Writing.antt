@@ -1,6 +1,6 @@
 -- For proofs: records of the smaller journal that were written.
 use Rattle.std.specs.Prelude.{◌≡◌, ℕ, List, ◌++◌, length}
-use Rattle.droid_journal_chain.specs.Chains.{first_check, journal_bytes, last_check}
+use Rattle.droid_journal_chain.specs.Chains.{journal_bytes, key_of, last_place}
 use Rattle.droid_journal_chain.specs.Records.{AllFit, Record}
 use Rattle.droid_journal_rewriting.specs.Aims.{Aim}
 use Rattle.droid_journal_rewriting.specs.Numbers.{has_number}
@@ -12,9 +12,8 @@ pub record IsWriting {N : Type 0} (has : N → List ℕ → Type 0) (aim : Aim) 
   pub written : List ℕ
   pub there : has rewriter.file written
   pub joined : written ++ rewriter.out.items ≡ journal_bytes aim.header (smaller_by aim.ended its)
-  pub start_is : rewriter.start ≡ first_check aim.header
-  pub check_is : rewriter.check ≡ last_check aim.header (smaller_by aim.ended its)
-  pub records_are : rewriter.records ≡ length (smaller_by aim.ended its)
+  pub key_is : rewriter.key ≡ key_of aim.header
+  pub place_is : rewriter.place ≡ last_place aim.header (smaller_by aim.ended its)
   pub bytes_are : rewriter.bytes ≡ length written
   pub fit : AllFit (smaller_by aim.ended its)
   pub ended_are : (file : ℕ) → has_number rewriter.ended file ≡ aim.ended file

@@ -13,6 +13,7 @@ use crate::numbers::Numbers;
 use crate::rewrite_fault::RewriteFault;
 use crate::skim::{Front, skim};
 use droid_journal::LogFile;
+use droid_journal_chain::key_of;
 use std::alloc::Global;
 
 /// The files that ended so far.
@@ -26,7 +27,7 @@ pub(crate) struct Ended {
 impl Ended {
     /// Notes the next record, by the fields at its front and the length of its reply. A request that came again ends no file.
     pub(crate) fn note(&mut self, front: Front, reply: u32) -> Result<(), RewriteFault>
-        ensures noted { (before : List Record) (first : Bool) (request answer : List ℕ) → AreNoted self.old.files self.old.stamps before → IsFrontOf request front → reply ≡ length answer
+        ensures noted { (before : List Record) (first : Bool) (ahead : ℕ) (request answer : List ℕ) → AreNoted self.old.files self.old.stamps before → IsFrontOf ahead request front → reply ≡ length answer
             → OnOk result (AreNoted self.new.files self.new.stamps (before ++ made first request answer ∷ [])) }
         ensures fault { IfErr result IsOfTaking }
     {
@@ -65,7 +66,7 @@ pub(crate) fn ended_in<F: LogFile>(
         files: Numbers::new(alloc),
         stamps: Numbers::new(alloc),
     };
-    match skim(file, &mut ended, header.len() as u64) {
+    match skim(file, key_of(header).form, &mut ended, header.len() as u64) {
         Ok(()) => Ok(ended.files),
         Err(fault) => Err(fault),
     }

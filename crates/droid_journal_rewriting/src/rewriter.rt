@@ -1,6 +1,6 @@
 //! Writing the records of the smaller journal.
 
-ghost use Rattle.std.specs.Prelude.{◌≡◌, ◌+◌, ◌≤◌, ◌++◌, ℕ, [], List, IfErr, IfOk, IfSome, MatchOption, OnOk, length, true};
+ghost use Rattle.std.specs.Prelude.{◌≡◌, ◌+◌, ◌≤◌, ◌++◌, ℕ, [], List, IfErr, IfOk, IfSome, MatchOption, OnOk, false, length};
 ghost use Rattle.droid_journal_bare.specs.BareFrames.{bare_piece_bytes};
 ghost use Rattle.droid_journal_chain.specs.Records.{Fits, checksum, made, next_check, record_bytes};
 ghost use Rattle.droid_journal_rewriting.specs.Numbers.{has_number};
@@ -12,8 +12,11 @@ use crate::rewrite_fault::RewriteFault;
 use crate::taker::Taker;
 use droid_journal::LogFile;
 use droid_journal_bare::{bare_finish, bare_piece_by};
-use droid_journal_chain::{checksum_of, record};
+use droid_journal_chain::{Key, Place, checksum_of, put_record};
 use std::alloc::{AllocError, Global};
+
+/// The most bytes of a record beside its two frames.
+const AROUND: usize = 41;
 
 /// The bytes that are collected before they are written.
 const COLLECTED: usize = 1_048_576;
@@ -29,11 +32,9 @@ pub(crate) struct Rewriter<N: LogFile> {
     pub(crate) file: N,
     /// What is not written yet.
     pub(crate) out: Vec<u8>,
-    pub(crate) start: [u8; 16],
-    /// The check value of the last record.
-    pub(crate) check: [u8; 16],
-    /// How many records were spelled.
-    pub(crate) records: u64,
+    pub(crate) key: Key,
+    /// The place behind the records that were spelled.
+    pub(crate) place: Place,
     /// How many bytes were written.
     pub(crate) bytes: u64,
 }
@@ -51,7 +52,7 @@ fn bare_of(
     ensures bare { IfOk result (λ bare. MatchOption bare (smaller_request (has_number ended.now) request.now reply.now ≡ request.now)
         (λ bytes. bytes.items ≡ smaller_request (has_number ended.now) request.now reply.now)) }
     ensures least { IfOk result (λ bare. IfSome bare (λ bytes. 18 ≤ length bytes.items)) }
-    ensures most { IfOk result (λ bare. IfSome bare (λ bytes. length bytes.items + length reply.now + 25 ≤ 8388608)) }
+    ensures most { IfOk result (λ bare. IfSome bare (λ bytes. length bytes.items + length reply.now + 41 ≤ 8388608)) }
 {
     if is_about(PIECE, request, reply) {
         let its = file_of(request);
@@ -72,31 +73,49 @@ fn bare_of(
     Ok(Some(bare))
 }
 
-/// Appends the record of a request to a buffer, bare if its file has ended, and returns its check value. `seals` are the
-/// start value and the check value of the record before it.
-fn spell(
-    alloc: Global,
-    ended: &Numbers,
+/// Appends a record that begins no turn to a buffer, and returns its check value.
+fn append_record(
     out: &mut Vec<u8>,
-    seals: ([u8; 16], [u8; 16]),
+    key: Key,
+    place: Place,
     request: &[u8],
     sum: [u8; 16],
     reply: &[u8],
 ) -> Result<[u8; 16], AllocError>
     requires header { 18 ≤ length request.now }
     requires sum { sum ≡ checksum request.now }
-    requires size { length request.now + length reply.now + 25 ≤ 8388608 }
-    ensures bytes { OnOk result (out.new.items ≡ out.old.items ++ record_bytes seals.0 seals.1 (made true (smaller_request (has_number ended.now) request.now reply.now) reply.now)) }
-    ensures check { IfOk result (λ next. next ≡ next_check seals.0 seals.1 (made true (smaller_request (has_number ended.now) request.now reply.now) reply.now)) }
-    ensures fits { OnOk result (Fits (made true (smaller_request (has_number ended.now) request.now reply.now) reply.now)) }
+    requires size { length request.now + length reply.now + 41 ≤ 8388608 }
+    ensures bytes { OnOk result (out.new.items ≡ out.old.items ++ record_bytes key place (made false request.now reply.now)) }
+    ensures check { IfOk result (λ next. next ≡ next_check key place (made false request.now reply.now)) }
 {
-    let (start, check) = seals;
+    out.reserve(request.len() + reply.len() + AROUND)?;
+    Ok(put_record(out, key, place, false, request, &sum, reply))
+}
+
+/// Appends the record of a request to a buffer, bare if its file has ended, and returns its check value.
+fn spell(
+    alloc: Global,
+    ended: &Numbers,
+    out: &mut Vec<u8>,
+    stands: (Key, Place),
+    request: &[u8],
+    sum: [u8; 16],
+    reply: &[u8],
+) -> Result<[u8; 16], AllocError>
+    requires header { 18 ≤ length request.now }
+    requires sum { sum ≡ checksum request.now }
+    requires size { length request.now + length reply.now + 41 ≤ 8388608 }
+    ensures bytes { OnOk result (out.new.items ≡ out.old.items ++ record_bytes stands.0 stands.1 (made false (smaller_request (has_number ended.now) request.now reply.now) reply.now)) }
+    ensures check { IfOk result (λ next. next ≡ next_check stands.0 stands.1 (made false (smaller_request (has_number ended.now) request.now reply.now) reply.now)) }
+    ensures fits { OnOk result (Fits (made false (smaller_request (has_number ended.now) request.now reply.now) reply.now)) }
+{
+    let (key, place) = stands;
     match bare_of(alloc, ended, request, sum, reply)? {
         Some(bare) => {
             let its = checksum_of(&bare);
-            record(out, &start, &check, true, &bare, &its, reply)
+            append_record(out, key, place, &bare, its, reply)
         }
-        None => record(out, &start, &check, true, request, &sum, reply),
+        None => append_record(out, key, place, request, sum, reply),
     }
 }
 
@@ -139,23 +158,24 @@ impl<N: LogFile> Taker for Rewriter<N> {
             Ok(()) => {}
             Err(_) => return Err(RewriteFault::Memory),
         }
-        let Some(records) = self.records.checked_add(1) else {
-            return Err(RewriteFault::Write);
-        };
-        self.records = records;
-        let (start, check) = (self.start, self.check);
-        match spell(
+        let before = self.out.len();
+        let (key, place) = (self.key, self.place);
+        let check = match spell(
             self.alloc,
             &self.ended,
             &mut self.out,
-            (start, check),
+            (key, place),
             request,
             sum,
             reply,
         ) {
-            Ok(next) => self.check = next,
+            Ok(check) => check,
             Err(_) => return Err(RewriteFault::Memory),
-        }
+        };
+        let Some(next) = place.behind(self.out.len() - before, check) else {
+            return Err(RewriteFault::Write);
+        };
+        self.place = next;
         if self.out.len() < COLLECTED {
             return Ok(());
         }

@@ -3,7 +3,9 @@
 ghost use Rattle.std.specs.Prelude.{◌≡◌, ◌≤◌, ◌<◌, ◌+◌, ◌^◌, ◌++◌, ◌∷◌, ℕ, [], None, Some, List, IfErr, IfOk, MatchOption, OnOk, drop, if◌then◌else◌, length, nat_lt, take, true};
 ghost use Rattle.std.specs.Int.{from_be_bytes, to_be_bytes, w32};
 ghost use Rattle.droid_journal_chain.specs.Chains.{chain_bytes};
-ghost use Rattle.droid_journal_chain.specs.Records.{AllFit, Fits, Record, record_bytes};
+ghost use Rattle.droid_journal_chain.specs.Records.{AllFit, Fits, Record, front_bytes, record_bytes};
+ghost use Rattle.droid_journal_chain.specs.declared.key.Key.{Key};
+ghost use Rattle.droid_journal_chain.specs.declared.place.Place.{Place};
 ghost use Rattle.droid_journal_rewriting.specs.Faults.{IsOfReading};
 ghost use Rattle.droid_journal_rewriting.specs.Noting.{AreNoted};
 ghost use Rattle.droid_journal_rewriting.specs.Skimming.{IsFrontOf};
@@ -12,12 +14,16 @@ use crate::ended_files::Ended;
 use crate::fields::{file_of, stamp_of};
 use crate::rewrite_fault::RewriteFault;
 use droid_journal::LogFile;
+use droid_journal_chain::Form;
 
 /// The bytes that are read at the front of a record.
-const READ: usize = 64;
+const READ: usize = 80;
 
-/// The least bytes of a record.
-const LEAST: usize = 43;
+/// The least bytes of a record behind its beginning.
+const LEAST: usize = 42;
+
+/// The bytes of the beginning of a turn: a byte 1 and its mark.
+const MARK: usize = 17;
 
 /// The least bytes of a request.
 const LEAST_REQUEST: u32 = 18;
@@ -28,6 +34,8 @@ const LIMIT: u64 = 8_388_608;
 /// The fields at the front of a record.
 #[derive(Clone, Copy)]
 pub(crate) struct Front {
+    /// How many bytes stand in front of the request's length.
+    pub(crate) ahead: u8,
     /// How many bytes the request has.
     pub(crate) request: u32,
     /// The request's kind.
@@ -62,19 +70,43 @@ fn length_at<F: LogFile>(file: &F, at: u64) -> Result<Option<u32>, RewriteFault>
     }
 }
 
-/// Returns the fields in the bytes at the front of a record. `None`: they are too few.
-fn front_in(bytes: &[u8]) -> Option<Front>
-    ensures there { (start check : List ℕ) (it : Record) (rest : List ℕ) → Fits it → bytes.now ≡ take 64 (record_bytes start check it ++ rest) → MatchOption result ⊥ (IsFrontOf it.request) }
-    ensures none { bytes.now ≡ [] → result ≡ None }
+/// Returns how many bytes the beginning of a record has: its first byte, and its mark if it is the first of a turn.
+pub(crate) fn ahead_in(form: Form, bytes: &[u8]) -> usize
+    ensures least { 1 ≤ result }
+    ensures bound { result ≤ 17 }
+    ensures there { (key : Key) (place : Place) (it : Record) (rest : List ℕ) (n : ℕ) → key.form ≡ form → 1 ≤ n → bytes.now ≡ take n (record_bytes key place it ++ rest) → result ≡ length (front_bytes key place it.first) }
 {
-    if bytes.len() < LEAST {
+    match form {
+        Form::Before => return 1,
+        Form::Present => {}
+    }
+    if bytes.len() < 1 {
+        return 1;
+    }
+    if bytes[0] == 1 {
+        return MARK;
+    }
+    1
+}
+
+/// Returns the fields in the bytes at the front of a record. `None`: they are too few.
+fn front_in(form: Form, bytes: &[u8]) -> Option<Front>
+    ensures there { (key : Key) (place : Place) (it : Record) (rest : List ℕ) → key.form ≡ form → Fits it → bytes.now ≡ take 80 (record_bytes key place it ++ rest)
+        → MatchOption result ⊥ (IsFrontOf (length (front_bytes key place it.first)) it.request) }
+    ensures none { length bytes.now < 25 → result ≡ None }
+{
+    let ahead = ahead_in(form, bytes);
+    let least = ahead + LEAST;
+    if bytes.len() < least {
         return None;
     }
-    let Some(request) = length_in(&bytes[1..]) else {
+    let (_, rest) = bytes.split_at(ahead);
+    let Some(request) = length_in(rest) else {
         return None;
     };
-    let front = &bytes[5..];
+    let (_, front) = rest.split_at(4);
     Some(Front {
+        ahead: ahead as u8,
         request,
         kind: front[1],
         stamp: stamp_of(front),
@@ -83,15 +115,16 @@ fn front_in(bytes: &[u8]) -> Option<Front>
 }
 
 /// Reads the fields at the front of the record at a place. `None`: no record is there.
-fn front_at<F: LogFile>(file: &F, at: u64) -> Result<Option<Front>, RewriteFault>
+fn front_at<F: LogFile>(file: &F, form: Form, at: u64) -> Result<Option<Front>, RewriteFault>
     requires found { F.is_found file.now }
-    ensures there { (s start check : List ℕ) (it : Record) (rest : List ℕ) → F.has file.now s → Fits it → drop at s ≡ record_bytes start check it ++ rest → IfOk result (λ seen. MatchOption seen ⊥ (IsFrontOf it.request)) }
-    ensures none { (s : List ℕ) → F.has file.now s → drop at s ≡ [] → IfOk result (λ seen. seen ≡ None) }
+    ensures there { (s : List ℕ) (key : Key) (place : Place) (it : Record) (rest : List ℕ) → key.form ≡ form → F.has file.now s → Fits it → drop at s ≡ record_bytes key place it ++ rest
+        → IfOk result (λ seen. MatchOption seen ⊥ (IsFrontOf (length (front_bytes key place it.first)) it.request)) }
+    ensures none { (s : List ℕ) → F.has file.now s → length (drop at s) < 25 → IfOk result (λ seen. seen ≡ None) }
     ensures fault { IfErr result IsOfReading }
 {
     let mut bytes = [0u8; READ];
     match file.read_at(at, &mut bytes) {
-        Ok(count) => Ok(front_in(&bytes[..count])),
+        Ok(count) => Ok(front_in(form, &bytes[..count])),
         Err(_) => Err(RewriteFault::Read),
     }
 }
@@ -107,21 +140,26 @@ fn can_be(request: u32, reply: u32) -> bool
 }
 
 /// Notes the record at a place, and returns where the next one begins. `None`: no record is there.
-fn skim_one<F: LogFile>(file: &F, ended: &mut Ended, at: u64) -> Result<Option<u64>, RewriteFault>
+fn skim_one<F: LogFile>(
+    file: &F,
+    form: Form,
+    ended: &mut Ended,
+    at: u64,
+) -> Result<Option<u64>, RewriteFault>
     requires found { F.is_found file.now }
-    ensures there { (s start check : List ℕ) (before : List Record) (it : Record) (rest : List ℕ) → F.has file.now s → Fits it → drop at s ≡ record_bytes start check it ++ rest → AreNoted ended.old.files ended.old.stamps before
-        → IfOk result (λ next. MatchOption next ⊥ (λ n. (n ≡ at + length (record_bytes start check it)) × AreNoted ended.new.files ended.new.stamps (before ++ it ∷ []))) }
-    ensures none { (s : List ℕ) → F.has file.now s → drop at s ≡ [] → IfOk result (λ next. (next ≡ None) × (ended.new ≡ ended.old)) }
+    ensures there { (s : List ℕ) (key : Key) (place : Place) (before : List Record) (it : Record) (rest : List ℕ) → key.form ≡ form → F.has file.now s → Fits it → drop at s ≡ record_bytes key place it ++ rest → AreNoted ended.old.files ended.old.stamps before
+        → IfOk result (λ next. MatchOption next ⊥ (λ n. (n ≡ at + length (record_bytes key place it)) × AreNoted ended.new.files ended.new.stamps (before ++ it ∷ []))) }
+    ensures none { (s : List ℕ) → F.has file.now s → length (drop at s) < 25 → IfOk result (λ next. (next ≡ None) × (ended.new ≡ ended.old)) }
     ensures fault { IfErr result IsOfReading }
 {
-    let front = match front_at(file, at) {
+    let front = match front_at(file, form, at) {
         Ok(front) => front,
         Err(fault) => return Err(fault),
     };
     let Some(front) = front else {
         return Ok(None);
     };
-    let Some(place) = at.checked_add(u64::from(front.request) + 5) else {
+    let Some(place) = at.checked_add(u64::from(front.request) + u64::from(front.ahead) + 4) else {
         return Err(RewriteFault::Read);
     };
     let reply = match length_at(file, place) {
@@ -144,15 +182,20 @@ fn skim_one<F: LogFile>(file: &F, ended: &mut Ended, at: u64) -> Result<Option<u
 }
 
 /// Notes the records of a journal from a place on. A file that is no journal is read as if it were one.
-pub(crate) fn skim<F: LogFile>(file: &F, ended: &mut Ended, from: u64) -> Result<(), RewriteFault>
+pub(crate) fn skim<F: LogFile>(
+    file: &F,
+    form: Form,
+    ended: &mut Ended,
+    from: u64,
+) -> Result<(), RewriteFault>
     requires found { F.is_found file.now }
-    ensures noted { (s start check : List ℕ) (its : List Record) → F.has file.now s → AllFit its → drop from s ≡ chain_bytes start check its → AreNoted ended.old.files ended.old.stamps []
+    ensures noted { (s : List ℕ) (key : Key) (place : Place) (its : List Record) (tail : List ℕ) → key.form ≡ form → F.has file.now s → AllFit its → length tail < 25 → drop from s ≡ chain_bytes key place its ++ tail → AreNoted ended.old.files ended.old.stamps []
         → OnOk result (AreNoted ended.new.files ended.new.stamps its) }
     ensures fault { IfErr result IsOfReading }
 {
     let mut at = from;
     for _ in 0..u64::MAX {
-        let next = match skim_one(file, ended, at) {
+        let next = match skim_one(file, form, ended, at) {
             Ok(next) => next,
             Err(fault) => return Err(fault),
         };

@@ -5,17 +5,14 @@ ghost use Rattle.droid_journal_rewriting.specs.Sums.{AreSumsIn, body_in, kind_in
 ghost use Rattle.droid_journal_chain.specs.Reading.{request_in};
 ghost use Rattle.md5.specs.Md5.{md5};
 
-use crate::skim::length_in;
-use droid_journal_chain::request_of;
+use crate::skim::{ahead_in, length_in};
+use droid_journal_chain::{Form, request_of};
 use droid_lanes::Md5Lanes;
 
 /// How many bytes the header of a request's frame has.
 const HEADER: usize = 18;
 
-/// The bytes in front of a record's request.
-const FRONT: usize = 5;
-
-/// The bytes in front of a record's reply.
+/// The bytes of a length.
 const LENGTH: usize = 4;
 
 /// How many bytes a check value has.
@@ -35,20 +32,20 @@ pub(crate) struct Sums {
 }
 
 /// Returns the request of the record at the front, and no bytes if there is none.
-fn request_at(bytes: &[u8]) -> &[u8]
-    ensures { result.now ≡ request_or_none (request_in bytes.now) }
+fn request_at(form: Form, bytes: &[u8]) -> &[u8]
+    ensures { result.now ≡ request_or_none (request_in form bytes.now) }
 {
-    match request_of(bytes) {
+    match request_of(form, bytes) {
         Some(request) => request,
         None => &[],
     }
 }
 
 /// Returns the byte of a request's kind.
-fn kind_at(bytes: &[u8]) -> &[u8]
-    ensures { result.now ≡ kind_in bytes.now }
+fn kind_at(form: Form, bytes: &[u8]) -> &[u8]
+    ensures { result.now ≡ kind_in form bytes.now }
 {
-    let request = request_at(bytes);
+    let request = request_at(form, bytes);
     if request.len() < 2 {
         return &request[request.len()..];
     }
@@ -56,10 +53,10 @@ fn kind_at(bytes: &[u8]) -> &[u8]
 }
 
 /// Returns the body of a request.
-fn body_at(bytes: &[u8]) -> &[u8]
-    ensures { result.now ≡ body_in bytes.now }
+fn body_at(form: Form, bytes: &[u8]) -> &[u8]
+    ensures { result.now ≡ body_in form bytes.now }
 {
-    let request = request_at(bytes);
+    let request = request_at(form, bytes);
     if request.len() < HEADER {
         return &request[request.len()..];
     }
@@ -75,12 +72,14 @@ fn last_of(bytes: &[u8], count: usize) -> &[u8]
 
 /// Returns how many bytes are left behind the record that begins where `left` bytes are left, by its lengths alone, or 0 if
 /// there is no whole request. Only the time depends on it: a checksum is used only where exactly as many bytes are left.
-fn left_behind(bytes: &[u8], left: usize) -> usize {
+fn left_behind(form: Form, bytes: &[u8], left: usize) -> usize {
     let rest = last_of(bytes, left);
-    let Some(request) = request_of(rest) else {
+    let Some(request) = request_of(form, rest) else {
         return 0;
     };
-    let front = FRONT.saturating_add(request.len());
+    let front = ahead_in(form, rest)
+        .saturating_add(LENGTH)
+        .saturating_add(request.len());
     let reply = match length_in(last_of(rest, rest.len().saturating_sub(front))) {
         Some(reply) => reply as usize,
         None => 0,
@@ -93,72 +92,72 @@ fn left_behind(bytes: &[u8], left: usize) -> usize {
 }
 
 /// Returns whether a whole and long request is at the front.
-pub(crate) fn is_long(bytes: &[u8]) -> bool {
-    request_at(bytes).len() >= LONG
+pub(crate) fn is_long(form: Form, bytes: &[u8]) -> bool {
+    request_at(form, bytes).len() >= LONG
 }
 
 /// Returns how many bytes are left where the next record with a long request begins, or 0 if there is none.
-fn next_long(bytes: &[u8], left: usize) -> usize {
+fn next_long(form: Form, bytes: &[u8], left: usize) -> usize {
     let mut left = left;
     for _ in 0..bytes.len() {
-        if left == 0 || is_long(last_of(bytes, left)) {
+        if left == 0 || is_long(form, last_of(bytes, left)) {
             return left;
         }
-        left = left_behind(bytes, left);
+        left = left_behind(form, bytes, left);
     }
     left
 }
 
 /// Returns how many bytes are left where each of the next eight records with a long request begins.
-fn places_of(bytes: &[u8]) -> [usize; 8] {
-    let first = next_long(bytes, bytes.len());
-    let second = next_long(bytes, left_behind(bytes, first));
-    let third = next_long(bytes, left_behind(bytes, second));
-    let fourth = next_long(bytes, left_behind(bytes, third));
-    let fifth = next_long(bytes, left_behind(bytes, fourth));
-    let sixth = next_long(bytes, left_behind(bytes, fifth));
-    let seventh = next_long(bytes, left_behind(bytes, sixth));
-    let eighth = next_long(bytes, left_behind(bytes, seventh));
+fn places_of(form: Form, bytes: &[u8]) -> [usize; 8] {
+    let first = next_long(form, bytes, bytes.len());
+    let second = next_long(form, bytes, left_behind(form, bytes, first));
+    let third = next_long(form, bytes, left_behind(form, bytes, second));
+    let fourth = next_long(form, bytes, left_behind(form, bytes, third));
+    let fifth = next_long(form, bytes, left_behind(form, bytes, fourth));
+    let sixth = next_long(form, bytes, left_behind(form, bytes, fifth));
+    let seventh = next_long(form, bytes, left_behind(form, bytes, sixth));
+    let eighth = next_long(form, bytes, left_behind(form, bytes, seventh));
     [first, second, third, fourth, fifth, sixth, seventh, eighth]
 }
 
 /// Computes the checksums of the requests that begin where these numbers of bytes are left.
-fn digests_of(bytes: &[u8], left: [usize; 8]) -> [[u8; 16]; 8]
-    ensures { (lane : ℕ) → lane < 8 → slice_index_or result lane [] ≡ md5 (kind_in (last_in bytes.now (slice_index left lane)) ++ body_in (last_in bytes.now (slice_index left lane))) }
+fn digests_of(form: Form, bytes: &[u8], left: [usize; 8]) -> [[u8; 16]; 8]
+    ensures { (lane : ℕ) → lane < 8 → slice_index_or result lane [] ≡ md5 (kind_in form (last_in bytes.now (slice_index left lane)) ++ body_in form (last_in bytes.now (slice_index left lane))) }
 {
     let mut lanes = Md5Lanes::new();
     lanes.update([
-        kind_at(last_of(bytes, left[0])),
-        kind_at(last_of(bytes, left[1])),
-        kind_at(last_of(bytes, left[2])),
-        kind_at(last_of(bytes, left[3])),
-        kind_at(last_of(bytes, left[4])),
-        kind_at(last_of(bytes, left[5])),
-        kind_at(last_of(bytes, left[6])),
-        kind_at(last_of(bytes, left[7])),
+        kind_at(form, last_of(bytes, left[0])),
+        kind_at(form, last_of(bytes, left[1])),
+        kind_at(form, last_of(bytes, left[2])),
+        kind_at(form, last_of(bytes, left[3])),
+        kind_at(form, last_of(bytes, left[4])),
+        kind_at(form, last_of(bytes, left[5])),
+        kind_at(form, last_of(bytes, left[6])),
+        kind_at(form, last_of(bytes, left[7])),
     ]);
     lanes.update([
-        body_at(last_of(bytes, left[0])),
-        body_at(last_of(bytes, left[1])),
-        body_at(last_of(bytes, left[2])),
-        body_at(last_of(bytes, left[3])),
-        body_at(last_of(bytes, left[4])),
-        body_at(last_of(bytes, left[5])),
-        body_at(last_of(bytes, left[6])),
-        body_at(last_of(bytes, left[7])),
+        body_at(form, last_of(bytes, left[0])),
+        body_at(form, last_of(bytes, left[1])),
+        body_at(form, last_of(bytes, left[2])),
+        body_at(form, last_of(bytes, left[3])),
+        body_at(form, last_of(bytes, left[4])),
+        body_at(form, last_of(bytes, left[5])),
+        body_at(form, last_of(bytes, left[6])),
+        body_at(form, last_of(bytes, left[7])),
     ]);
     lanes.digests()
 }
 
 impl Sums {
     /// Computes the checksums of the next eight long requests.
-    pub(crate) fn of(bytes: &[u8]) -> Sums
-        ensures { AreSumsIn bytes.now result }
+    pub(crate) fn of(form: Form, bytes: &[u8]) -> Sums
+        ensures { AreSumsIn form bytes.now result }
     {
-        let left = places_of(bytes);
+        let left = places_of(form, bytes);
         Sums {
             left,
-            digests: digests_of(bytes, left),
+            digests: digests_of(form, bytes, left),
         }
     }
 

@@ -18,7 +18,7 @@ pub(crate) trait Taker {
     /// Takes the next record, whose request has this checksum.
     fn take(&mut self, request: &[u8], sum: [u8; 16], reply: &[u8]) -> Result<(), RewriteFault>
         requires header { 18 ≤ length request.now }
-        requires size { length request.now + length reply.now + 25 ≤ 8388608 }
+        requires size { length request.now + length reply.now + 41 ≤ 8388608 }
         requires sum { sum ≡ checksum request.now }
         ensures took { (setting : Setting) (before : List Record) (first : Bool) → took setting self.old before → OnOk result (took setting self.new (before ++ made first request.now reply.now ∷ [])) }
         ensures fault { IfErr result IsOfTaking };

@@ -30,7 +30,7 @@ pub(crate) struct Weight {
 
 /// Returns how many bytes a record has if it is a piece of one of these files, and 0 for any other.
 fn weight_of(files: &Numbers, request: &[u8], reply: &[u8]) -> u64
-    requires { length request.now + length reply.now + 25 ≤ 8388608 }
+    requires { length request.now + length reply.now + 41 ≤ 8388608 }
     ensures { (first : Bool) → result ≡ piece_bytes (has_number files.now) (made first request.now reply.now) }
 {
     if !is_about(PIECE, request, reply) {
@@ -115,7 +115,8 @@ fn is_mostly_ended_by<F: LogFile>(
 /// Returns whether more than half of a journal's bytes are of pieces of files that were finished or abandoned. Then the
 /// smaller journal has little more than the other half. Only reads the file, 16 MiB at a time.
 ///
-/// A journal with anything behind its whole records is refused ([`RewriteFault::Behind`]).
+/// A journal with anything behind its whole records, but the beginning of the next turn, is refused
+/// ([`RewriteFault::Behind`]).
 pub fn is_mostly_ended<F: LogFile>(
     alloc: Global,
     file: &F,

@@ -1,8 +1,8 @@
 //! Taking all records of a journal with nothing behind them.
 
-ghost use Rattle.std.specs.Prelude.{◌≡◌, ◌≢◌, ◌<◌, ◌↔◌, ℕ, List, [], IfErr, IfOk, IsErrOf, IsTrue, drop, length};
+ghost use Rattle.std.specs.Prelude.{◌≡◌, ◌≢◌, ◌+◌, ◌↔◌, if◌then◌else◌, ℕ, List, [], IfErr, IfNone, IfOk, IfSome, IsErrOf, IsTrue, drop, length, take, true};
 ghost use Rattle.droid_journal.specs.Opening.{HasHeader};
-ghost use Rattle.droid_journal_chain.specs.Records.{Record};
+ghost use Rattle.droid_journal_chain.specs.Records.{Record, turn_mark};
 ghost use Rattle.droid_journal_rewriting.specs.Faults.{IsOfReading};
 ghost use Rattle.droid_journal_rewriting.specs.Shortening.{HasBehind, IsWhole};
 ghost use Rattle.droid_journal_rewriting.specs.Sizes.{IsSizeOf};
@@ -10,10 +10,13 @@ ghost use Rattle.droid_journal_rewriting.specs.Sizes.{IsSizeOf};
 use crate::rewrite_fault::RewriteFault;
 use crate::size::Size;
 use crate::taker::Taker;
-use crate::walk::{Place, take_all};
+use crate::walk::take_all;
 use droid_journal::LogFile;
-use droid_journal_chain::start_of;
+use droid_journal_chain::{Form, Key, first_place, key_of, turn_mark};
 use std::alloc::Global;
+
+/// The bytes of the beginning of a turn: a byte 1 and its mark.
+const MARK: usize = 17;
 
 fn is_same(one: &[u8], other: &[u8]) -> bool
     ensures { IsTrue result ↔ (one.now ≡ other.now) }
@@ -44,21 +47,57 @@ fn has_header<F: LogFile>(alloc: Global, file: &F, header: &[u8]) -> Result<bool
     is_header(file, header, front.as_mut_slice())
 }
 
-/// Reads one byte at a place, and returns 1, or 0 if the file ends there.
-fn count_at<F: LogFile>(file: &F, at: u64) -> Result<usize, RewriteFault>
+/// Reads at most 18 bytes at a place, and returns whether they are nothing but the beginning of a turn (`Some(true)`),
+/// nothing at all (`Some(false)`), or anything else.
+fn end_at<F: LogFile>(file: &F, key: Key, at: u64) -> Result<Option<bool>, RewriteFault>
     requires found { F.is_found file.now }
-    ensures none { (s : List ℕ) → F.has file.now s → IfOk result (λ count. count ≡ 0 → drop at s ≡ []) }
-    ensures some { (s : List ℕ) → F.has file.now s → IfOk result (λ count. 0 < count → drop at s ≢ []) }
+    ensures there { (s : List ℕ) → F.has file.now s → IfOk result (λ end. IfSome end (λ ahead. drop at s ≡ (if ahead then turn_mark key at else []))) }
+    ensures form { IfOk result (λ end. IfSome end (λ ahead. ahead ≡ true → key.form ≡ Form.Present)) }
+    ensures other { (s : List ℕ) → F.has file.now s → IfOk result (λ end. IfNone end ((drop at s ≢ []) × (key.form ≡ Form.Present → drop at s ≢ turn_mark key at))) }
     ensures fault { IfErr result IsOfReading }
 {
-    let mut byte = [0u8; 1];
-    match file.read_at(at, &mut byte) {
-        Ok(count) => Ok(count),
-        Err(_) => Err(RewriteFault::Read),
-    }
+    let mut bytes = [0u8; MARK + 1];
+    let Ok(count) = file.read_at(at, &mut bytes) else {
+        return Err(RewriteFault::Read);
+    };
+    let end = end_in(key, at, &bytes[..count]);
+    Ok(end)
 }
 
-/// Takes all records of a file with this header, checks that nothing is behind them, and returns the file's size.
+/// Returns the same of the first 18 bytes behind the records.
+fn end_in(key: Key, at: u64, seen: &[u8]) -> Option<bool>
+    ensures there { (rest : List ℕ) → seen.now ≡ take 18 rest → IfSome result (λ ahead. rest ≡ (if ahead then turn_mark key at else [])) }
+    ensures form { IfSome result (λ ahead. ahead ≡ true → key.form ≡ Form.Present) }
+    ensures other { (rest : List ℕ) → seen.now ≡ take 18 rest → IfNone result ((rest ≢ []) × (key.form ≡ Form.Present → rest ≢ turn_mark key at)) }
+{
+    if seen.len() < 1 {
+        return Some(false);
+    }
+    match key.form {
+        Form::Before => return None,
+        Form::Present => {}
+    }
+    if !is_same(seen, &turn_mark(key, at)) {
+        return None;
+    }
+    Some(true)
+}
+
+/// Where a file ends, behind its records and the beginning of the next turn, if it is there.
+fn size_of(at: u64, ahead: bool) -> Option<u64>
+    ensures { IfSome result (λ end. end ≡ at + (if ahead then 17 else 0)) }
+{
+    if !ahead {
+        return Some(at);
+    }
+    let Some(end) = at.checked_add(MARK as u64) else {
+        return None;
+    };
+    Some(end)
+}
+
+/// Takes all records of a file with this header, checks that nothing is behind them but perhaps the beginning of the next
+/// turn, and returns the file's size.
 pub(crate) fn take_whole<F: LogFile, T: Taker>(
     alloc: Global,
     file: &F,
@@ -81,25 +120,25 @@ pub(crate) fn take_whole<F: LogFile, T: Taker>(
     if !has {
         return Err(RewriteFault::Header);
     }
-    let start = start_of(header);
-    let from = Place {
-        at: header.len() as u64,
-        check: start,
-        records: 0,
-    };
-    let to = match take_all(file, taker, &start, from, buffer) {
+    let key = key_of(header);
+    let from = first_place(header);
+    let to = match take_all(file, taker, key, from, buffer) {
         Ok(to) => to,
         Err(fault) => return Err(fault),
     };
-    let more = match count_at(file, to.at) {
-        Ok(more) => more,
+    let end = match end_at(file, key, to.at) {
+        Ok(end) => end,
         Err(fault) => return Err(fault),
     };
-    if more > 0 {
+    let Some(ahead) = end else {
         return Err(RewriteFault::Behind(to.records));
-    }
+    };
+    // No file is so long that this fails.
+    let Some(bytes) = size_of(to.at, ahead) else {
+        return Err(RewriteFault::Read);
+    };
     Ok(Size {
         records: to.records,
-        bytes: to.at,
+        bytes,
     })
 }

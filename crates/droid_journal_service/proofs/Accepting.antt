@@ -1,6 +1,8 @@
--- What goes into the journal: every command that is accepted and new.
-use Rattle.std.proofs.Common.{◌≡◌, ◌^◌, nat_lt, cond, Bool, true, false, Option, Some, None, IsSome, refl, sym, ap, subst, ◌∙◌}
-use Rattle.std.specs.Prelude.{MatchBool}
+-- What goes into the journal: of a service that serves every command that is accepted and new, and nothing else; of one that
+-- reads a journal every command that is not refused.
+use Rattle.std.proofs.Common.{◌≡◌, ◌^◌, nat_lt, cond, Bool, true, false, List, Option, Some, None, IsSome, refl, sym, ap, subst, ◌∙◌}
+use Rattle.std.specs.Prelude.{MatchBool, not, ◌&&◌}
+use Rattle.std.proofs.lemmas.Bool.{and_parts}
 use Rattle.droid_journal_smaller.specs.recovery.frame.Streams.{IsReadable}
 use Rattle.droid_journal_smaller.specs.recovery.frame.types.frame.Frame.{Frame}
 use Rattle.droid_journal_smaller.specs.recovery.frame.types.reply.Reply.{Reply}
@@ -12,14 +14,17 @@ use Rattle.droid_journal_smaller.specs.recovery.frame.Values.{request_in, reques
 use Rattle.droid_journal_smaller.proofs.recovery.frame.RequestLaws.{value_is_spelled}
 use Rattle.droid_journal_smaller.proofs.core.Judged.{judged}
 use Rattle.droid_journal_smaller.proofs.core.Meetings.{answer_by, next_by, whatever_meets}
-use Rattle.droid_journal_smaller.specs.core.Histories.{Entry, Handles, History, Meeting, New, answer, command, history_with, kept, meeting, next, reply_to, world_of}
+use Rattle.droid_journal_smaller.specs.core.Histories.{Entry, Handles, History, Meeting, Nothing, Repeat, Reuse, New, answer, command, history_with, kept, meeting, next, reply_to, world_of}
+use Rattle.droid_journal_smaller.specs.core.Handled.{adds, is_added}
 use Rattle.droid_journal_smaller.specs.core.Judging.{Accepted, Answered, Refuses, Verdict}
 use Rattle.droid_journal_smaller.specs.core.MemoryFaults.{is_out_of_memory}
 use Rattle.droid_journal_smaller.specs.core.Setting.{Setting}
 use Rattle.droid_journal_smaller.specs.core.Standing.{StandsFor}
 use Rattle.droid_journal_smaller.specs.core.Verdicts.{MayCome, is_command, is_refused}
 use Rattle.droid_journal_smaller.specs.core.declared.service.Service.{Service}
-use Rattle.droid_journal_service.specs.Histories.{history_then}
+use Rattle.droid_journal_disk.specs.chain.Records.{Record}
+use Rattle.droid_journal_service.specs.Histories.{Base, GivesNew, IsHistoryBehind, history_then}
+use Rattle.droid_journal_service.proofs.HistoryLaws.{one_history}
 
 -- the kind of a frame is that of the request that it asks
 where_it_holds : (b : Bool) (value : Option Request) (request : Request) → cond b value None ≡ Some request → value ≡ Some request
@@ -50,37 +55,9 @@ none_kept : (o : Option Entry) → o ≡ None → IsSome o → ⊥
 none_kept None is some = absurd cc
 none_kept (Some entry) is some = absurd cc
 
-unknown : (known : Bool) (o : Option Entry) → (known ≡ true → IsSome o) → o ≡ None → known ≡ false
-unknown true o some is = absurd (none_kept o is (some refl))
-unknown false o some is = refl
+-- ---- what comes of a request
 
-module _ (setting : Setting) (history : History) (frame : Frame) (reply : Reply) (new : Service) (known accepted : Bool) (readable : IsReadable frame)
-    (known_is : known ≡ true → IsSome (kept history frame.client frame.number)) (refused : is_refused reply ≡ true → accepted ≡ false)
-    (taken : nat_lt frame.kind 7 ≡ true → known ≡ false → is_refused reply ≡ false → accepted ≡ true) where
-  by_kind : (request : Request) → command frame ≡ Some request → is_command request ≡ true → nat_lt frame.kind 7 ≡ true
-  by_kind request asked is = ap (λ (kind : _). nat_lt kind 7) (kind_asked frame request readable.is_frame.body_is_bytes asked) ∙ is
-
-  by_verdict : (request : Request) (verdict : Verdict) → command frame ≡ Some request → kept history frame.client frame.number ≡ None → MayCome (world_of setting history) request verdict → accepted ≡ false
-      → reply ≡ reply_to (New verdict) → history_with history frame (New verdict) ≡ history
-  by_verdict request (Accepted its after) asked is_new may isnt reported =
-      let carried : is_refused reply ≡ false = ap (λ (r : Reply). is_refused r) reported ∙ may.no_refusal in
-      let is : accepted ≡ true = taken (by_kind request asked may.command) (unknown known (kept history frame.client frame.number) known_is is_new) carried in
-      absurd (contrary accepted is isnt)
-  by_verdict request (Answered its) asked is_new may isnt reported = refl
-  by_verdict request (Refuses refusal) asked is_new may isnt reported = refl
-
-  -- what does not go into the journal leaves the history as it is
-  stays : accepted ≡ false → reply ≡ answer setting history frame → next setting history frame ≡ history
-  stays isnt reported =
-      let met : Meeting = meeting setting history frame in
-      next_by setting history frame met refl
-      ∙ whatever_meets setting history frame (λ (m : Meeting). reply ≡ reply_to m → history_with history frame m ≡ history) (λ is. refl) (λ entry there is. refl) (λ is. refl)
-      (λ request asked is_new is. by_verdict request _ asked is_new (judged setting (world_of setting history) frame.version request) isnt is) (reported ∙ answer_by setting history frame met refl)
-
-  then_is : (b : Bool) → accepted ≡ b → reply ≡ answer setting history frame → next setting history frame ≡ history_then setting history frame b
-  then_is true is reported = refl
-  then_is false is reported = stays is reported
-
+module _ (setting : Setting) (history : History) (frame : Frame) (reply : Reply) (new : Service) (accepted : Bool) where
   -- the request was handled, the service stands for what comes next, and what goes into the journal was answered
   abbrev pub Came : Bool → Type 0
   Came b =
@@ -88,14 +65,98 @@ module _ (setting : Setting) (history : History) (frame : Frame) (reply : Reply)
       ((reply ≡ answer setting history frame) × (next setting history frame ≡ history_then setting history frame accepted))
       × StandsFor setting new (history_then setting history frame accepted) × (accepted ≡ true → reply ≡ answer setting history frame)
 
-  by_memory : (b : Bool) → is_out_of_memory reply ≡ b → MatchBool b (IsSome (command frame) × StandsFor setting new history) ((reply ≡ answer setting history frame) × StandsFor setting new (next setting history frame)) → Came b
-  by_memory true is handled =
-      let isnt : accepted ≡ false = refused (refused_memory reply is) in
-      let same : history ≡ history_then setting history frame accepted = ap (λ (b : Bool). history_then setting history frame b) (sym isnt) in
-      ((handled.0, same), subst (StandsFor setting new) same handled.1, λ was. absurd (contrary accepted was isnt))
-  by_memory false is handled =
-      let same : next setting history frame ≡ history_then setting history frame accepted = then_is accepted refl handled.0 in
-      ((handled.0, same), subst (StandsFor setting new) same handled.1, λ was. handled.0)
+  module _ (failed : is_out_of_memory reply ≡ true → accepted ≡ false) (goes : is_out_of_memory reply ≡ false → reply ≡ answer setting history frame → next setting history frame ≡ history_then setting history frame accepted) where
+    by_memory : (b : Bool) → is_out_of_memory reply ≡ b → MatchBool b (IsSome (command frame) × StandsFor setting new history) ((reply ≡ answer setting history frame) × StandsFor setting new (next setting history frame)) → Came b
+    by_memory true is handled =
+        let isnt : accepted ≡ false = failed is in
+        let same : history ≡ history_then setting history frame accepted = ap (λ (b : Bool). history_then setting history frame b) (sym isnt) in
+        ((handled.0, same), subst (StandsFor setting new) same handled.1, λ was. absurd (contrary accepted was isnt))
+    by_memory false is handled =
+        let same : next setting history frame ≡ history_then setting history frame accepted = goes is handled.0 in
+        ((handled.0, same), subst (StandsFor setting new) same handled.1, λ was. handled.0)
 
-  pub came : Handles setting history frame reply (StandsFor setting new) → Came (is_out_of_memory reply)
-  came handled = by_memory (is_out_of_memory reply) refl handled
+    pub came : Handles setting history frame reply (StandsFor setting new) → Came (is_out_of_memory reply)
+    came handled = by_memory (is_out_of_memory reply) refl handled
+
+by_kind : (frame : Frame) (request : Request) → IsReadable frame → command frame ≡ Some request → is_command request ≡ true → nat_lt frame.kind 7 ≡ true
+by_kind frame request readable asked is = ap (λ (kind : _). nat_lt kind 7) (kind_asked frame request readable.is_frame.body_is_bytes asked) ∙ is
+
+-- ---- a service that reads a journal
+
+module _ (setting : Setting) (history : History) (frame : Frame) (reply : Reply) (accepted : Bool) (readable : IsReadable frame) (refused : is_refused reply ≡ true → accepted ≡ false)
+    (taken : nat_lt frame.kind 7 ≡ true → is_refused reply ≡ false → accepted ≡ true) where
+  by_verdict : (request : Request) (verdict : Verdict) → command frame ≡ Some request → MayCome (world_of setting history) request verdict → accepted ≡ false → reply ≡ reply_to (New verdict)
+      → history_with history frame (New verdict) ≡ history
+  by_verdict request (Accepted its after) asked may isnt reported =
+      let carried : is_refused reply ≡ false = ap (λ (r : Reply). is_refused r) reported ∙ may.no_refusal in
+      absurd (contrary accepted (taken (by_kind frame request readable asked may.command) carried) isnt)
+  by_verdict request (Answered its) asked may isnt reported = refl
+  by_verdict request (Refuses refusal) asked may isnt reported = refl
+
+  -- what does not stand in the journal leaves the history as it is
+  stays : accepted ≡ false → reply ≡ answer setting history frame → next setting history frame ≡ history
+  stays isnt reported =
+      let met : Meeting = meeting setting history frame in
+      next_by setting history frame met refl
+      ∙ whatever_meets setting history frame (λ (m : Meeting). reply ≡ reply_to m → history_with history frame m ≡ history) (λ is. refl) (λ entry there is. refl) (λ is. refl)
+      (λ request asked is_new is. by_verdict request _ asked (judged setting (world_of setting history) frame.version request) isnt is) (reported ∙ answer_by setting history frame met refl)
+
+  then_is : (b : Bool) → accepted ≡ b → reply ≡ answer setting history frame → next setting history frame ≡ history_then setting history frame b
+  then_is true is reported = refl
+  then_is false is reported = stays is reported
+
+  pub read_failed : is_out_of_memory reply ≡ true → accepted ≡ false
+  read_failed is = refused (refused_memory reply is)
+
+  pub read_goes : is_out_of_memory reply ≡ false → reply ≡ answer setting history frame → next setting history frame ≡ history_then setting history frame accepted
+  read_goes isnt reported = then_is accepted refl reported
+
+-- ---- a service that serves
+
+unchanged : (history : History) (frame : Frame) (met : Meeting) → adds met ≡ false → history_with history frame met ≡ history
+unchanged history frame Nothing isnt = refl
+unchanged history frame (Repeat entry) isnt = refl
+unchanged history frame Reuse isnt = refl
+unchanged history frame (New (Accepted reply after)) isnt = absurd cc
+unchanged history frame (New (Answered reply)) isnt = refl
+unchanged history frame (New (Refuses refusal)) isnt = refl
+
+module _ (setting : Setting) (history : History) (frame : Frame) where
+  next_then : (b : Bool) → adds (meeting setting history frame) ≡ b → next setting history frame ≡ history_then setting history frame b
+  next_then true is = refl
+  next_then false isnt = next_by setting history frame (meeting setting history frame) refl ∙ unchanged history frame (meeting setting history frame) isnt
+
+  abbrev IsNew : Meeting → Type 0
+  IsNew met = (kept history frame.client frame.number ≡ None) × (nat_lt frame.kind 7 ≡ true) × (is_refused (reply_to met) ≡ false)
+
+  new_by_verdict : (request : Request) (verdict : Verdict) → IsReadable frame → command frame ≡ Some request → kept history frame.client frame.number ≡ None → MayCome (world_of setting history) request verdict
+      → adds (New verdict) ≡ true → IsNew (New verdict)
+  new_by_verdict request (Accepted its after) readable asked is_new may is = (is_new, by_kind frame request readable asked may.command, may.no_refusal)
+  new_by_verdict request (Answered its) readable asked is_new may is = absurd cc
+  new_by_verdict request (Refuses refusal) readable asked is_new may is = absurd cc
+
+  new_met : IsReadable frame → adds (meeting setting history frame) ≡ true → IsNew (meeting setting history frame)
+  new_met readable =
+      whatever_meets setting history frame (λ (m : Meeting). adds m ≡ true → IsNew m) (λ is. absurd cc) (λ entry there is. absurd cc) (λ is. absurd cc)
+      (λ request asked is_new is. new_by_verdict request _ readable asked is_new (judged setting (world_of setting history) frame.version request) is)
+
+  module _ (reply : Reply) (accepted : Bool) (added : accepted ≡ is_added setting history frame reply) where
+    pub new_failed : is_out_of_memory reply ≡ true → accepted ≡ false
+    new_failed is = added ∙ ap (λ (b : Bool). not b && adds (meeting setting history frame)) is
+
+    pub new_goes : is_out_of_memory reply ≡ false → reply ≡ answer setting history frame → next setting history frame ≡ history_then setting history frame accepted
+    new_goes isnt reported = next_then accepted (sym (added ∙ ap (λ (b : Bool). not b && adds (meeting setting history frame)) isnt))
+
+    -- what goes into the journal is a new command that is not refused
+    pub new_added : IsReadable frame → (accepted ≡ true → reply ≡ answer setting history frame) → accepted ≡ true → (kept history frame.client frame.number ≡ None) × (nat_lt frame.kind 7 ≡ true) × (is_refused reply ≡ false)
+    new_added readable answered is =
+        let met : Meeting = meeting setting history frame in
+        let its = new_met readable (and_parts (not (is_out_of_memory reply)) (adds met) (sym added ∙ is)).1 in
+        (its.0, its.1, ap (λ (r : Reply). is_refused r) (answered is ∙ answer_by setting history frame met refl) ∙ its.2)
+
+-- under a number that has an entry nothing is new
+pub never_new : (setting : Setting) (base : Base setting) (records : List Record) (all : History) (frame : Frame) (reply : Reply) → IsHistoryBehind setting base records all → IsSome (kept all frame.client frame.number)
+    → GivesNew setting base records frame reply true → ⊥
+never_new setting base records all frame reply its known gives =
+    let same : gives.gives.history ≡ all = one_history setting base records gives.gives.history all gives.gives.its its in
+    none_kept (kept all frame.client frame.number) (subst (λ (h : History). kept h frame.client frame.number ≡ None) same (gives.is_new refl)) known

@@ -11,7 +11,7 @@ use Rattle.droid_journal_disk.specs.journal.Standing.{Keeps, Stands, WroteOne}
 use Rattle.droid_journal_disk.specs.journal.declared.journal.Journal.{Journal}
 use Rattle.droid_journal_disk.specs.chain.Records.{Record}
 use Rattle.droid_journal_disk.proofs.chain.Chains.{front_fit}
-use Rattle.droid_journal_service.specs.Histories.{Base, GivesReply, IsHistoryBehind, StandsForRecords, history_then}
+use Rattle.droid_journal_service.specs.Histories.{Base, GivesNew, GivesReply, IsHistoryBehind, StandsForRecords, history_then}
 use Rattle.droid_journal_service.specs.Standing.{AnswersIn, IsNextOr, KeepsHistory, StandsForHistory}
 use Rattle.droid_journal_service.specs.declared.service_machine.ServiceMachine.{ServiceMachine}
 use Rattle.droid_journal_service.proofs.HistoryLaws.{one_history, records_then}
@@ -42,17 +42,17 @@ module _ {F : Type 0} (has : F → List ℕ → Type 0) (kept : F → List ℕ) 
       )
 
   pub answers_in : (old new : Journal F ServiceMachine) (synced all : History) (frame : Frame) (reply : Reply) (first accepted : Bool) → (stood : StandsForHistory has kept setting header old synced all)
-      → Answers (GivesReply setting stood.base) stood.records frame reply accepted → Stands has kept (OfRecords stood.base) header new stood.first (extended stood.records first frame reply accepted)
+      → Answers (GivesNew setting stood.base) stood.records frame reply accepted → Stands has kept (OfRecords stood.base) header new stood.first (extended stood.records first frame reply accepted)
       → AnswersIn setting all frame reply (StandsForHistory has kept setting header new synced)
   answers_in old new synced all frame reply first accepted stood (inl gives) stands =
-      let said = gives_in stood.base stood.records all frame reply accepted stood.accepted gives in
+      let said = gives_in stood.base stood.records all frame reply accepted stood.accepted gives.gives in
       inl (by_memory (IsSome (command frame)) (reply ≡ answer setting all frame) (λ after. after ≡ history_then setting all frame accepted) (StandsForHistory has kept setting header new synced) (is_out_of_memory reply) all (next setting all frame) (λ after is. record {
         base = stood.base;
         first = stood.first;
         records = extended stood.records first frame reply accepted;
         stands = stands;
         on_disk = stood.on_disk;
-        accepted = subst (IsHistoryBehind setting stood.base (extended stood.records first frame reply accepted)) (sym is) (records_then setting stood.base stood.records first all frame reply accepted gives.readable gives.spelled stood.accepted said.1 gives.command gives.unrefused);
+        accepted = subst (IsHistoryBehind setting stood.base (extended stood.records first frame reply accepted)) (sym is) (records_then setting stood.base stood.records first all frame reply accepted gives.gives.readable gives.gives.spelled stood.accepted said.1 gives.gives.command gives.gives.unrefused);
       }) said.0)
   answers_in old new synced all frame reply first accepted stood (inr other) stands =
       inr (
@@ -91,9 +91,9 @@ module _ {F : Type 0} (has : F → List ℕ → Type 0) (kept : F → List ℕ) 
     abbrev pub Kept : Type 0
     Kept = (written : List Record) × (after : History) × IsNextOr setting all frame after × KeepsHistory kept setting header new.file written synced after
 
-    by_answer : (first accepted : Bool) → Answers (GivesReply setting stood.base) stood.records frame reply accepted → Stands has kept (OfRecords stood.base) header new stood.first (extended stood.records first frame reply accepted) → Kept
+    by_answer : (first accepted : Bool) → Answers (GivesNew setting stood.base) stood.records frame reply accepted → Stands has kept (OfRecords stood.base) header new stood.first (extended stood.records first frame reply accepted) → Kept
     by_answer first accepted (inl gives) stands =
-        let said = gives_in stood.base stood.records all frame reply accepted stood.accepted gives in (
+        let said = gives_in stood.base stood.records all frame reply accepted stood.accepted gives.gives in (
           extended stood.records first frame reply accepted,
           history_then setting all frame accepted,
           next_or setting all frame accepted,
@@ -102,7 +102,7 @@ module _ {F : Type 0} (has : F → List ℕ → Type 0) (kept : F → List ℕ) 
             first = stood.first;
             keeps = keeps_these stood.base new stood.first (extended stood.records first frame reply accepted) stands;
             on_disk = stood.on_disk;
-            accepted = records_then setting stood.base stood.records first all frame reply accepted gives.readable gives.spelled stood.accepted said.1 gives.command gives.unrefused;
+            accepted = records_then setting stood.base stood.records first all frame reply accepted gives.gives.readable gives.gives.spelled stood.accepted said.1 gives.gives.command gives.gives.unrefused;
           },
         )
     by_answer first accepted (inr other) stands = (
@@ -118,39 +118,31 @@ module _ {F : Type 0} (has : F → List ℕ → Type 0) (kept : F → List ℕ) 
       },
     )
 
-    by_part : kept new.file ≡ kept old.file → (wrote : WroteOne has (GivesReply setting stood.base) header new.file stood.first stood.records frame) → Kept
+    by_part : kept new.file ≡ kept old.file → (wrote : WroteOne has (GivesNew setting stood.base) header new.file stood.first stood.records frame) → Kept
     by_part same wrote =
-        let keeps : Keeps kept header new.file stood.first wrote.written = record {
-          on_disk = same ∙ stood.stands.on_disk;
-          turn = wrote.turn;
-          fit = front_fit stood.first stood.records (stood.stands.turn.turn, stood.stands.turn.parts) stood.stands.fit;
-        } in
-        elim wrote.which [
-          | inl none ↦ (
-            wrote.written,
-            all,
-            inl refl,
-            record { base = stood.base; first = stood.first; keeps = keeps; on_disk = stood.on_disk; accepted = subst (λ (its : List Record). IsHistoryBehind setting stood.base its all) (sym none) stood.accepted },
-          )
-          | inr one ↦
-              let said = gives_in stood.base stood.records all frame one.1 true stood.accepted one.2 in
-              let more : IsHistoryBehind setting stood.base (stood.records ++ record_of one.0 frame one.1 ∷ []) (next setting all frame) = records_then setting stood.base stood.records one.0 all frame one.1 true one.2.readable one.2.spelled stood.accepted said.1 one.2.command one.2.unrefused in (
-                wrote.written,
-                next setting all frame,
-                inr refl,
-                record {
-                  base = stood.base;
-                  first = stood.first;
-                  keeps = keeps;
-                  on_disk = stood.on_disk;
-                  accepted = subst (λ (its : List Record). IsHistoryBehind setting stood.base its (next setting all frame)) (sym one.3) more;
-                },
-              )
-        ]
+        let one = wrote.which in
+        let gives = one.2.gives in
+        let said = gives_in stood.base stood.records all frame one.1 true stood.accepted gives in
+        let more : IsHistoryBehind setting stood.base (stood.records ++ record_of one.0 frame one.1 ∷ []) (next setting all frame) = records_then setting stood.base stood.records one.0 all frame one.1 true gives.readable gives.spelled stood.accepted said.1 gives.command gives.unrefused in (
+          wrote.written,
+          next setting all frame,
+          inr refl,
+          record {
+            base = stood.base;
+            first = stood.first;
+            keeps = record {
+              on_disk = (stood.stands.on_disk.0, same ∙ stood.stands.on_disk.1);
+              turn = wrote.turn;
+              fit = front_fit stood.first stood.records (stood.stands.turn.turn, stood.stands.turn.parts) stood.stands.fit;
+            };
+            on_disk = stood.on_disk;
+            accepted = subst (λ (its : List Record). IsHistoryBehind setting stood.base its (next setting all frame)) (sym one.3) more;
+          },
+        )
 
     pub kept_after : kept new.file ≡ kept old.file → (IsSome old.fault → new.file ≡ old.file)
-        → (new.fault ≡ None → (first : Bool) × (accepted : Bool) × Answers (GivesReply setting stood.base) stood.records frame reply accepted × Stands has kept (OfRecords stood.base) header new stood.first (extended stood.records first frame reply accepted))
-        → (old.fault ≡ None → IsSome new.fault → WroteOne has (GivesReply setting stood.base) header new.file stood.first stood.records frame) → Kept
+        → (new.fault ≡ None → (first : Bool) × (accepted : Bool) × Answers (GivesNew setting stood.base) stood.records frame reply accepted × Stands has kept (OfRecords stood.base) header new stood.first (extended stood.records first frame reply accepted))
+        → (old.fault ≡ None → IsSome new.fault → WroteOne has (GivesNew setting stood.base) header new.file stood.first stood.records frame) → Kept
     kept_after same closed handled part =
         elim (none_or_some old.fault) [
           | inr some ↦ (

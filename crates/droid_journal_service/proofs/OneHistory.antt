@@ -1,5 +1,5 @@
 -- Records whose requests are whole have one history, whichever files may lack their bytes.
-use Rattle.std.proofs.Common.{◌≡◌, ◌⊎◌, ℕ, List, [], ◌∷◌, ◌++◌, refl, sym, ap, subst, ◌∙◌, inl, inr}
+use Rattle.std.proofs.Common.{◌≡◌, ℕ, List, [], ◌∷◌, ◌++◌, sym, ap, subst, ◌∙◌, inl, inr}
 use Rattle.droid_journal_disk.specs.chain.Records.{Record}
 use Rattle.droid_journal_smaller.proofs.recovery.KeptFrames.{FrameForm, Whole, Piece, Finish, frame_is, form_of}
 use Rattle.droid_journal_smaller.proofs.core.Meetings.{next_kept, next_new}

@@ -1,13 +1,13 @@
 -- The history of a journal's records (this project's own).
 use Rattle.std.proofs.Common.{inl, refl}
-use Rattle.std.specs.Prelude.{◌≡◌, ◌⊎◌, ℕ, if◌then◌else◌, nat_lt, Bool, true, false, List, [], ◌∷◌, ◌++◌}
+use Rattle.std.specs.Prelude.{◌≡◌, ◌⊎◌, if◌then◌else◌, nat_lt, Bool, true, false, List, [], ◌∷◌, ◌++◌, None}
 use Rattle.droid_journal_smaller.specs.recovery.frame.Frames.{frame_bytes}
 use Rattle.droid_journal_smaller.specs.recovery.frame.Replies.{HasReplySpelling}
 use Rattle.droid_journal_smaller.specs.recovery.frame.ReplyFrames.{reply_frame}
 use Rattle.droid_journal_smaller.specs.recovery.frame.Streams.{IsReadable}
 use Rattle.droid_journal_smaller.specs.recovery.frame.types.frame.Frame.{Frame}
 use Rattle.droid_journal_smaller.specs.recovery.frame.types.reply.Reply.{Reply}
-use Rattle.droid_journal_smaller.specs.core.Histories.{Handles, History, HasReply, answer, history_from, next}
+use Rattle.droid_journal_smaller.specs.core.Histories.{Handles, History, HasReply, answer, history_from, kept, next}
 use Rattle.droid_journal_smaller.specs.core.Setting.{Setting}
 use Rattle.droid_journal_smaller.specs.core.Standing.{StandsFor}
 use Rattle.droid_journal_smaller.specs.core.Verdicts.{is_refused}
@@ -18,7 +18,7 @@ use Rattle.droid_journal_disk.specs.chain.Records.{Record}
 use Rattle.droid_journal_smaller.specs.recovery.BareRecords.{LeadTo}
 
 -- The record has the frames of this request and of its answer after the history. The request is a command that was accepted,
--- or one that came again.
+-- or, in a journal of version 3, one that came again.
 pub record IsOf (setting : Setting) (history : History) (it : Record) (frame : Frame) : Type 0 where
   pub readable : IsReadable frame
   pub request : it.request ≡ frame_bytes frame
@@ -103,6 +103,11 @@ pub record GivesReply (setting : Setting) (base : Base setting) (records : List 
   pub answered : accepted ≡ true → reply ≡ answer setting history frame
   pub command : accepted ≡ true → nat_lt frame.kind 7 ≡ true
   pub unrefused : accepted ≡ true → is_refused reply ≡ false
+
+-- The same of a service that serves: whatever goes into the journal is new, so a request that came again never does.
+pub record GivesNew (setting : Setting) (base : Base setting) (records : List Record) (frame : Frame) (reply : Reply) (accepted : Bool) : Type 0 where
+  pub gives : GivesReply setting base records frame reply accepted
+  pub is_new : accepted ≡ true → kept gives.history frame.client frame.number ≡ None
 
 -- The history goes on from one and is the first of another: nothing of the one is lost, nothing was put in, and all is in
 -- order. Each reply that the one keeps it keeps too.

@@ -21,11 +21,11 @@ pub fn records_lead_to_their_history()
 {}
 
 /// However often a service's journal is made smaller between two runs, it leads to the history of all that was accepted:
-/// whatever records opening finds in the bytes that [`droid_journal_smaller::rewrite`] writes, they lead to the history of the
-/// old file's records.
+/// whatever records opening finds in the bytes that [`droid_journal_smaller::rewrite`] writes under a new header, they lead to
+/// the history of the old file's records.
 pub fn a_smaller_file_leads_to_the_same_history()
-    ensures { (header file bytes : List ℕ) (setting : Setting) (base : Base setting) (its read : List Record) (history : History) → IsHistoryBehind setting base its history → IsWhole header file its
-        → IsShortened header file bytes → WasFound header bytes read → (bare : Bare) × LeadTo setting bare read history }
+    ensures { (header new file bytes : List ℕ) (setting : Setting) (base : Base setting) (its read : List Record) (history : History) → IsHistoryBehind setting base its history → IsWhole header file its
+        → IsShortened header new file bytes → WasFound new bytes read → (bare : Bare) × LeadTo setting bare read history }
 {}
 
 /// Whole records have one history. So a service that is made from a journal without bare records has the history that its

@@ -8,17 +8,20 @@
 #![tactic(auto)]
 
 pub mod laws;
+mod reading_machine;
 mod service_journal;
 mod service_machine;
 mod small_reader;
 
 pub use droid_journal_disk::{
-    DiskFault, DiskLog, Drive, DriveError, Fault, FileDrive, FileError, LogFile, Tears, header_for,
+    DiskFault, DiskLog, Drive, DriveError, Fault, FileDrive, FileError, LogFile, Tears, checked,
+    header_for,
 };
 pub use droid_journal_smaller::{
     Exchange, Folder, Limits, RewriteFault, Service, Size, Smaller, compact, is_mostly_ended,
     replace, rewrite,
 };
+pub use reading_machine::ReadingMachine;
 pub use service_journal::{ServiceJournal, Unopened, crash_and_reopen};
 pub use service_machine::ServiceMachine;
 pub use small_reader::SmallReader;

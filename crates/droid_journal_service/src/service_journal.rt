@@ -1,7 +1,7 @@
 //! A service with its journal, in histories.
 
-ghost use Rattle.std.specs.Prelude.{◌≡◌, ◌≢◌, ◌≤◌, ◌++◌, ◌⊎◌, ℕ, List, [], None, Some, IfErr, IfOk, IfSome, IsErr, IsErrOf, IsSome, OnErr, OnOk, length};
-ghost use Rattle.droid_journal_smaller.specs.core.Histories.{History};
+ghost use Rattle.std.specs.Prelude.{◌≡◌, ◌≢◌, ◌≤◌, ◌++◌, ◌⊎◌, ℕ, List, [], None, Some, false, true, IfErr, IfOk, IfSome, IsErr, IsErrOf, IsSome, OnErr, OnOk, length};
+ghost use Rattle.droid_journal_smaller.specs.core.Histories.{History, kept};
 ghost use Rattle.droid_journal_smaller.specs.core.Identified.{IsOf};
 ghost use Rattle.droid_journal_smaller.specs.core.Setting.{Setting};
 ghost use Rattle.droid_journal_smaller.specs.core.Standing.{StandsFor};
@@ -13,11 +13,13 @@ ghost use Rattle.droid_journal_disk.specs.journal.Opening.{HasHeader, IsBegun, I
 ghost use Rattle.droid_journal_disk.specs.journal.Standing.{IsSettled, Keeps};
 ghost use Rattle.droid_journal_disk.specs.chain.Chains.{NotByChance};
 ghost use Rattle.droid_journal_disk.specs.chain.Records.{Record};
+ghost use Rattle.droid_journal_disk.specs.chain.declared.key.Form.TheVariants as forms;
 ghost use Rattle.droid_journal_smaller.specs.recovery.Standing.{GivesReply as GivesRecord, Recovery};
 ghost use Rattle.droid_journal_smaller.specs.recovery.BareRecords.{LeadTo};
 ghost use Rattle.droid_journal_service.specs.Histories.{Base, GivesReply, HasBare, IsBetween, IsHistoryOf, StandsForRecords, no_base};
 ghost use Rattle.droid_journal_service.specs.Standing.{AnswersIn, IsLeft, IsNextOr, KeepsHistory, ReadsRecords, StandsForHistory};
 
+use crate::reading_machine::ReadingMachine;
 use crate::service_machine::ServiceMachine;
 use crate::small_reader::SmallReader;
 use droid_journal_disk::{Fault, Journal, LogFile, Opened, Tears, open};
@@ -78,12 +80,8 @@ impl<F: LogFile + Drop> ServiceJournal<F> {
         ensures other_header { (s : List ℕ) → F.has file s → IfErr result (λ it. it.fault ≡ Fault.Header → (HasHeader header.now s → ⊥) × ((count : ℕ) → IsBegun header.now s count → ⊥)) }
     {
         let mut file = file;
-        let fresh = ServiceMachine {
-            service: fresh,
-            live: false,
-        };
-        match open(alloc, &mut file, header, fresh) {
-            Ok(opened) => Ok(ServiceJournal::begun(Journal::new(alloc, file, opened))),
+        match open(alloc, &mut file, header, ReadingMachine { service: fresh }) {
+            Ok(opened) => Ok(ServiceJournal::begun(alloc, file, opened)),
             Err(fault) => Err(Unopened { fault, file }),
         }
     }
@@ -155,23 +153,22 @@ impl<F: LogFile + Drop> ServiceJournal<F> {
         let Ok(service) = machine.into_service(places) else {
             return Err(Fault::Memory);
         };
-        let machine = ServiceMachine {
-            service,
-            live: true,
-        };
-        let (_nothing, opened) = opened.with(machine);
+        let (_nothing, opened) = opened.with(ServiceMachine { service });
         let journal = Journal::new(alloc, file, opened);
         Ok(Some(ServiceJournal { journal }))
     }
 
     /// Starts from a journal that was read.
-    fn begun(journal: Journal<F, ServiceMachine>) -> ServiceJournal<F>
-        ensures settled { (setting : Setting) (base : Base setting) (header : List ℕ) (records : List Record) → IsSettled F.has F.kept (λ machine its. StandsForRecords setting base machine.service its) header journal records
+    fn begun(alloc: Global, file: F, opened: Opened<ReadingMachine>) -> ServiceJournal<F>
+        ensures settled { (setting : Setting) (base : Base setting) (header : List ℕ) (records : List Record)
+            → IsReady F.has F.kept (λ machine its. StandsForRecords setting base machine.service its) header file opened records
             → IsSettled F.has F.kept (λ machine its. StandsForRecords setting base machine.service its) header result.journal records }
-        ensures fault { result.journal.fault ≡ journal.fault }
+        ensures fault { result.journal.fault ≡ None }
     {
-        let mut journal = journal;
-        journal.machine.live = true;
+        let (reader, opened) = opened.with(());
+        let ReadingMachine { service } = reader;
+        let (_nothing, opened) = opened.with(ServiceMachine { service });
+        let journal = Journal::new(alloc, file, opened);
         ServiceJournal { journal }
     }
 
@@ -186,6 +183,9 @@ impl<F: LogFile + Drop> ServiceJournal<F> {
     pub fn handle(&mut self, frame: Frame) -> Reply
         ensures handled { (setting : Setting) (header : List ℕ) (synced all : History) → StandsForHistory F.has F.kept setting header self.old.journal synced all
             → self.new.journal.fault ≡ None → AnswersIn setting all frame result (StandsForHistory F.has F.kept setting header self.new.journal synced) }
+        // A request whose client and number have an entry writes nothing, however old the entry is.
+        ensures repeats { (setting : Setting) (header : List ℕ) (synced all : History) → StandsForHistory F.has F.kept setting header self.old.journal synced all
+            → IsSome (kept all frame.client frame.number) → self.new.journal.file ≡ self.old.journal.file }
         // Also after a fault, what was on the disk stays, and nothing was written but what was accepted so far and this
         // request.
         ensures keeps { (setting : Setting) (header : List ℕ) (synced all : History) → StandsForHistory F.has F.kept setting header self.old.journal synced all
@@ -199,9 +199,13 @@ impl<F: LogFile + Drop> ServiceJournal<F> {
 
     /// Brings the history to the disk. After `Ok` the replies to all requests so far may be sent. After a fault no reply may
     /// be sent any more, and every further call returns a fault.
+    ///
+    /// A call with nothing to sync writes the mark of the last turn instead: from then on damage in it is not taken for a torn
+    /// end.
     pub fn settle(&mut self) -> Result<(), Fault>
         ensures settled { (setting : Setting) (header : List ℕ) (synced all : History) → StandsForHistory F.has F.kept setting header self.old.journal synced all
             → OnOk result (StandsForHistory F.has F.kept setting header self.new.journal all all) }
+        ensures marks { self.old.journal.unsynced ≡ false → self.old.journal.key.form ≡ forms.Present → OnOk result (self.new.journal.ahead ≡ true) }
         ensures kept { OnErr result (F.kept self.new.journal.file ≡ F.kept self.old.journal.file) }
         ensures closes { OnErr result (IsSome self.new.journal.fault) }
         ensures reported { IfErr result (λ fault. self.new.journal.fault ≡ Some fault) }
@@ -229,12 +233,12 @@ pub fn crash_and_reopen<F: Tears + Drop>(
         → IfOk result (λ after. (history : History) × StandsForHistory F.has F.kept setting header.now after.journal history history × IsBetween synced history all) }
 {
     let ServiceJournal { journal } = before;
-    let fresh = ServiceMachine {
-        service: fresh,
-        live: false,
+    let Ok(file) = journal.file.crash(tail) else {
+        return Err(Fault::Read);
     };
-    match droid_journal_disk::crash_and_reopen(alloc, journal, header, tail, fresh) {
-        Ok(journal) => Ok(ServiceJournal::begun(journal)),
+    let mut file = file;
+    match open(alloc, &mut file, header, ReadingMachine { service: fresh }) {
+        Ok(opened) => Ok(ServiceJournal::begun(alloc, file, opened)),
         Err(fault) => Err(fault),
     }
 }

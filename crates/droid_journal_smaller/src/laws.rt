@@ -29,8 +29,8 @@ pub fn its_bare_files_have_ended()
 /// Making a journal smaller, however often, keeps its history: whatever records opening finds in the bytes that
 /// [`droid_journal_rewriting::rewrite`] writes, a service that is made from them has the history of the old file's records.
 pub fn a_smaller_file_stands_for_the_same_history()
-    ensures same { (header file bytes : List ℕ) (setting : Setting) (bare : Bare) (its read : List Record) (history : History) → IsWhole header file its → LeadTo setting bare its history
-        → IsShortened header file bytes → WasFound header bytes read → LeadTo setting (bare_after bare its) read history }
+    ensures same { (header new file bytes : List ℕ) (setting : Setting) (bare : Bare) (its read : List Record) (history : History) → IsWhole header file its → LeadTo setting bare its history
+        → IsShortened header new file bytes → WasFound new bytes read → LeadTo setting (bare_after bare its) read history }
     // What `RecoveringMachine::into_service` requires of the records.
     ensures service { (setting : Setting) (bare : Bare) (its : List Record) (history : History) → LeadTo setting bare its history
         → HaveHistory setting bare [] its history × HaveEnded bare (world_of setting history) }

@@ -16,7 +16,7 @@ pub use droid_wire_journal::{
     Came, Connections, Departure, DiskFault, DiskLog, Drive, DriveError, Exchange, Fault,
     FileDrive, FileError, Folder, JournalHandler, Limits, LogFile, Pipe, RewriteFault, Rules,
     Served, Service, ServiceJournal, ServiceMachine, Size, Smaller, Tears, Took, Unopened,
-    WaitFault, answer_journal, compact, crash_and_reopen, header_for, is_mostly_ended,
+    WaitFault, answer_journal, checked, compact, crash_and_reopen, header_for, is_mostly_ended,
     journal_laws, replace, rewrite, serve_journal,
 };
 pub use many::serve_many;

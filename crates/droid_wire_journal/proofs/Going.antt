@@ -85,7 +85,7 @@ module _ {F : Type 0} (has : F → List ℕ → Type 0) (kept : F → List ℕ) 
   kept_same old new written synced all same it = record {
     base = it.base;
     first = it.first;
-    keeps = record { on_disk = same ∙ it.keeps.on_disk; turn = it.keeps.turn; fit = it.keeps.fit };
+    keeps = record { on_disk = (it.keeps.on_disk.0, same ∙ it.keeps.on_disk.1); turn = it.keeps.turn; fit = it.keeps.fit };
     on_disk = it.on_disk;
     accepted = it.accepted;
   }

@@ -9,7 +9,8 @@ mod stream;
 pub use droid_journal_service::{
     DiskFault, DiskLog, Drive, DriveError, Exchange, Fault, FileDrive, FileError, Folder, Limits,
     LogFile, RewriteFault, Service, ServiceJournal, ServiceMachine, Size, Smaller, Tears, Unopened,
-    compact, crash_and_reopen, header_for, is_mostly_ended, laws as journal_laws, replace, rewrite,
+    checked, compact, crash_and_reopen, header_for, is_mostly_ended, laws as journal_laws, replace,
+    rewrite,
 };
 pub use droid_wire_pipe::{
     Came, Connections, Departure, Handler, Pipe, Rules, Served, Took, WaitFault, serve_in_turns,

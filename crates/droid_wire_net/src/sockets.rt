@@ -24,6 +24,10 @@ const TRIES: u32 = 16;
 /// How often a turn waits for more requests, at most.
 const MOST_WAITS: u32 = 1_000;
 
+/// If turns share syncs, a wait after a turn with requests ends after this many milliseconds. Then an idle turn follows, in
+/// which a journal marks its end.
+const SETTLED: u64 = 10;
+
 /// The connections to a port of this machine.
 #[derive(Drop)]
 pub struct Sockets<'a, R> {
@@ -88,7 +92,8 @@ impl<'a, R: Clock + Eprint + Net> Sockets<'a, R> {
 
     /// Lets requests that come soon after each other share a sync. If the last turn took a millisecond or more, `wait` also
     /// waits for the next requests of the other connections that this turn answered: at most half as long as the turn took,
-    /// and never for a single connection.
+    /// and never for a single connection. After a turn with requests the next one begins within 10 milliseconds, also if
+    /// nothing comes.
     pub fn share_syncs(&mut self)
         ensures { self.new.tally ≡ self.old.tally }
     {
@@ -199,6 +204,11 @@ impl<R: Clock + Eprint + Net> Connections for Sockets<'_, R> {
         // The system reports only once that a connection waits to be accepted.
         let limit = if self.is_knocking && self.has_left {
             0
+        } else {
+            limit
+        };
+        let limit = if self.grace.is_given && frames > 0 {
+            limit.min(SETTLED)
         } else {
             limit
         };

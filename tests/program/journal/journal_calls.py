@@ -7,10 +7,11 @@ import os
 import random
 import socket
 import threading
+import time
 import unittest
 
-from journal_compact import compact, smaller_of
-from journal_file import read
+from journal_compact import compact, is_smaller_of
+from journal_file import MARK, read
 from journal_session import NO_ROOM_BESIDE, NOT_EXCHANGED, UNREAD, UNWRITTEN, InJournal, contents, not_beside, printed, run_journal, serving
 from journal_session import store, unopened
 from lib.connections import SECONDS, connect, read_exactly, read_frame, read_until_reset
@@ -31,8 +32,9 @@ UNOPENED, NOT_BESIDE = unopened(BROKEN), not_beside(BROKEN)
 FOLDERS = [create(1), folder(2, b"a"), folder(3, b"b")]
 
 
-def without_answers(noted):
-    return [call for call in noted if not call.startswith("answer")]
+def counted(noted):
+    """Those that noted.c counts for FAILS."""
+    return [call for call in noted if not call.startswith(("answer", "mark"))]
 
 
 def is_open(stream):
@@ -95,13 +97,17 @@ class Noted(InJournal):
 
 class Order(Noted):
     def answers_are_on_the_disk(self):
-        """Nothing is written to anyone between a write to the journal and the next sync of it."""
-        behind, answers = False, 0
+        """Nothing is written to anyone between a write to the journal and the next sync of it, and no mark is: it says that all before
+        it is on the disk. There is no mark behind a mark."""
+        behind, marked, answers = False, False, 0
         for call in self.noted():
             if call == f"write {FILE}":
-                behind = True
+                behind, marked = True, False
             elif call == f"sync {FILE}":
                 behind = False
+            elif call == f"mark {FILE}":
+                self.assertFalse(behind or marked, self.noted())
+                marked = True
             elif call.startswith("answer"):
                 self.assertFalse(behind, self.noted())
                 answers += 1
@@ -110,8 +116,10 @@ class Order(Noted):
     def test_a_new_journal(self):
         """Its name is on the disk before it has a header, and that before an answer."""
         self.assertEqual(run_journal(self.path, ASKED[0], env=self.noting())[1], due_to(ASKED[:1]))
-        self.stand_in_order(f"open {FILE}", f"lock {FILE}", "sync .", f"write {FILE}", f"sync {FILE}", f"write {FILE}", f"sync {FILE}", "answer ")
+        begun = [f"open {FILE}", f"lock {FILE}", "sync .", f"write {FILE}", f"sync {FILE}", f"mark {FILE}"]
+        self.stand_in_order(*begun, f"write {FILE}", f"sync {FILE}", "answer ", f"mark {FILE}")
         self.assertEqual(self.answers_are_on_the_disk(), 1)
+        self.assertEqual(self.noted().count(f"mark {FILE}"), 2)
 
     def test_a_start_that_cuts_nothing(self):
         """It syncs the name and the file, in which a service that was killed may have left records that no disk has."""
@@ -119,6 +127,41 @@ class Order(Noted):
         self.assertEqual(run_journal(self.path, export(99), env=self.noting())[0], 0)
         self.stand_in_order(f"lock {FILE}", "sync .", f"sync {FILE}", "answer ")
         self.assertNotIn(f"write {FILE}", self.noted())
+        self.assertNotIn(f"mark {FILE}", self.noted())
+
+    def test_a_start_without_a_mark(self):
+        """What a power cut leaves: the mark is written once all before it was synced."""
+        self.assertEqual(run_journal(self.path, ASKED[0])[0], 0)
+        whole = contents(self.path)
+        store(self.path, whole[:-MARK])
+        self.assertEqual(run_journal(self.path, export(99), env=self.noting())[0], 0)
+        self.stand_in_order(f"lock {FILE}", "sync .", f"sync {FILE}", f"mark {FILE}", "answer ")
+        self.assertNotIn(f"write {FILE}", self.noted())
+        self.assertEqual(self.noted().count(f"mark {FILE}"), 1)
+        self.assertEqual(contents(self.path), whole)
+
+    def test_silence(self):
+        """A service that is asked for nothing more marks the last turn, once, and syncs nothing for that."""
+        with serving(self.path, "--forever", env=self.noting(), killed=True) as service, connect(service.port) as stream:
+            stream.sendall(ASKED[0])
+            read_frame(stream)
+            self.waits_for_marks(2)
+            found = read(contents(self.path))
+            self.assertEqual((len(found.records), found.ahead), (1, True))
+            time.sleep(0.1)
+            self.assertEqual(self.noted()[-4:], [f"write {FILE}", f"sync {FILE}", "answer ", f"mark {FILE}"])
+            stream.sendall(export(99))
+            read_frame(stream)
+            time.sleep(0.1)
+            self.assertEqual(self.noted()[-2:], [f"mark {FILE}", "answer "])
+        self.answers_are_on_the_disk()
+
+    def waits_for_marks(self, count):
+        """Waits until so many marks were written."""
+        end = time.monotonic() + SECONDS
+        while self.noted().count(f"mark {FILE}") < count and time.monotonic() < end:
+            time.sleep(0.005)
+        self.assertEqual(self.noted().count(f"mark {FILE}"), count)
 
     def test_a_torn_end(self):
         """What is cut off is on the disk under another name before."""
@@ -170,9 +213,9 @@ class Failing(Noted):
         """Runs a command over a file of these bytes, or none, with each of its calls failing: the results."""
         self.lay(before)
         command(self.noting())
-        counted = without_answers(self.noted())
-        self.assertGreater(len(counted), 6)
-        for number, call in enumerate(counted, 1):
+        calls = counted(self.noted())
+        self.assertGreater(len(calls), 6)
+        for number, call in enumerate(calls, 1):
             self.lay(before)
             found = command(self.noting(FAILS=number))
             self.assertIn(call, self.noted())
@@ -215,18 +258,18 @@ class Failing(Noted):
         """FILE is the old one or, where the folder's sync fails, the smaller one; and no other file is left."""
         self.assertEqual(run_journal(self.path, b"".join(ASKED))[0], 0)
         old = contents(self.path)
-        new = smaller_of(old)
         renamed, reported = False, set()
         for call, (status, _, said) in self.each_in_turn(old, lambda env: compact(self.path, env=env)):
             sentence = self.ends_by(status, said, smaller_sentences(call), call)
             reported |= sentence
             found = contents(self.path)
-            self.assertIn(found, (old, new), call)
-            renamed |= found == new
-            if found == new:
+            if found != old:
+                self.assertTrue(is_smaller_of(found, old), call)
                 self.assertEqual(sentence, {NOT_EXCHANGED}, call)
+                renamed = True
             self.assertEqual(compact(self.path, "--quiet")[0], 0, call)
-            self.assertEqual((contents(self.path), os.listdir(self.folder)), (new, [FILE]), call)
+            self.assertTrue(is_smaller_of(contents(self.path), old), call)
+            self.assertEqual(os.listdir(self.folder), [FILE], call)
         self.assertTrue(renamed)
         self.assertEqual(reported, {UNOPENED, UNREAD, NOT_BESIDE, NO_ROOM_BESIDE, NOT_EXCHANGED})
 
@@ -236,12 +279,12 @@ class Failing(Noted):
             self.assertEqual(self.asks(service.port, closed=False), len(FOLDERS))
         noted = self.noted()
         before = noted.index("answer ")
-        numbers = [number for number, call in enumerate(without_answers(noted), 1) if number > before and call.endswith(FILE)]
-        self.assertGreaterEqual(len(numbers), 2 * len(FOLDERS))
+        numbers = range(len(counted(noted[:before])) + 1, len(counted(noted)) + 1)
+        # (a request is a write and a sync)
+        self.assertEqual(counted(noted)[numbers[0] - 1 :], [f"write {FILE}", f"sync {FILE}"] * len(FOLDERS))
         for place, number in enumerate(numbers):
             self.lay(None)
             with serving(self.path, "--forever", env=self.noting(FAILS=number), killed=True) as service:
-                # (a request is a write and a sync)
                 self.assertEqual(self.asks(service.port, closed=True), place // 2)
                 self.assertEqual(service.process.wait(SECONDS), 4)
                 self.assertEqual(service.process.stderr.read(), printed("Journal", UNWRITTEN, self.path))
@@ -281,7 +324,7 @@ class Failing(Noted):
         anyone, all are closed, and each reply that came has its record in the file."""
         self.lay(None)
         with serving(self.path, "--forever", env=self.noting(), killed=True):
-            begun = len(without_answers(self.noted()))
+            begun = len(counted(self.noted()))
         lost = 0
         for seed in range(4):
             for place in range(1, 13):
@@ -291,8 +334,8 @@ class Failing(Noted):
                     self.assertEqual(service.process.wait(SECONDS), 4)
                     self.assertEqual(service.process.stderr.read(), printed("Journal", UNWRITTEN, self.path))
                 noted = self.noted()
-                failed = [at for at, call in enumerate(noted) if not call.startswith("answer")][begun + place - 1]
-                self.assertEqual([call for call in noted[failed + 1 :] if call.startswith("answer")], [], (seed, place))
+                failed = [at for at, call in enumerate(noted) if counted([call])][begun + place - 1]
+                self.assertEqual(noted[failed + 1 :], [], (seed, place))
                 records = read(contents(self.path)).records
                 self.assertLessEqual(set(came), {it.reply for it in records}, (seed, place))
                 lost += len(came) < len(records)
@@ -316,6 +359,37 @@ class Failing(Noted):
             stream.close()
         return came
 
+    def test_a_mark_of_run(self):
+        """At a start nothing is answered without it. At the end all was answered, and is in the file."""
+        self.assertEqual(run_journal(self.path, b"".join(ASKED))[0], 0)
+        before = contents(self.path)[:-MARK]
+        asked = [folder(40, b"new"), folder(41, b"newer")]
+        due = due_to(ASKED + asked)[len(due_to(ASKED)) :]
+        for number, answered in ((1, b""), (2, due)):
+            self.lay(before)
+            status, written, said = run_journal(self.path, b"".join(asked), env=self.noting(FAILS_MARK=number))
+            self.assertEqual((status, written, said), (4, answered, printed("Journal", UNWRITTEN, self.path)))
+            self.assertEqual(self.noted().count(f"mark {FILE}"), number)
+            self.assertFalse(read(contents(self.path)).ahead)
+            self.assertEqual(run_journal(self.path, b"".join(asked)), (0, due, b""))
+
+    def test_a_mark_of_serve(self):
+        """In a silence a mark can't be written: all connections are closed, the service ends, and nothing that was answered is lost."""
+        for number in (2, 3):
+            self.lay(None)
+            with serving(self.path, "--forever", env=self.noting(FAILS_MARK=number), killed=True) as service:
+                with connect(service.port) as waits, connect(service.port) as stream:
+                    for request in FOLDERS[: number - 1]:
+                        stream.sendall(request)
+                        read_frame(stream)
+                        time.sleep(0.1)
+                    self.assertFalse(is_open(stream) or is_open(waits))
+                self.assertEqual(service.process.wait(SECONDS), 4)
+                self.assertEqual(service.process.stderr.read(), printed("Journal", UNWRITTEN, self.path))
+            self.assertEqual(self.noted()[-1], f"mark {FILE}")
+            found = read(contents(self.path))
+            self.assertEqual(([it.request for it in found.records], found.ahead), (FOLDERS[: number - 1], False))
+
     def test_interrupted(self):
         """A read or a write that a signal interrupts is made again."""
         self.assertEqual(run_journal(self.path, b"".join(ASKED))[0], 0)
@@ -324,16 +398,22 @@ class Failing(Noted):
         for number in range(1, len(self.calls_of(before, asked)) + 1):
             self.lay(before)
             found = run_journal(self.path, b"".join(asked), env=self.noting(FAILS=number, INTERRUPTED=1))
-            call = without_answers(self.noted())[number - 1]
+            call = counted(self.noted())[number - 1]
             if call.split()[0] in ("read", "write"):
                 self.assertEqual(found, (0, due, b""), call)
                 again += 1
         self.assertGreater(again, 2)
+        for number in (1, 2):
+            self.lay(before[:-MARK])
+            found = run_journal(self.path, b"".join(asked), env=self.noting(FAILS_MARK=number, INTERRUPTED=1))
+            self.assertEqual(found, (0, due, b""), number)
+            # (one at the start, one at the end, and the one that was made again)
+            self.assertEqual(self.noted().count(f"mark {FILE}"), 3)
 
     def calls_of(self, before, asked):
         self.lay(before)
         run_journal(self.path, b"".join(asked), env=self.noting())
-        return without_answers(self.noted())
+        return counted(self.noted())
 
 
 if __name__ == "__main__":

@@ -1,6 +1,6 @@
-"""`compact`: the journal becomes the one that the model (smaller_file.py) makes of it, byte for byte, and a service goes on with
-it as with the whole one. Where that fails, or the command is killed, the file is the old one or the smaller one. `serve` does
-the same with a large journal before it listens."""
+"""`compact`: the journal becomes the one that the model (smaller_file.py) makes of it, byte for byte behind a header with other
+random bytes, and a service goes on with it as with the whole one. Where that fails, or the command is killed, the file is the old
+one or the smaller one. `serve` does the same with a large journal before it listens."""
 
 import fcntl
 import os
@@ -9,7 +9,7 @@ import subprocess
 import time
 import unittest
 
-from journal_file import header_size, header_text, md5, next_check, read, record_bytes
+from journal_file import CHECK, RANDOM, header_in, header_of, header_size, journal_bytes, md5, read
 from journal_full import limited
 from journal_session import IN_USE, NO_FILE, NO_ROOM_BESIDE, OTHER_HEADER, REGISTRY, InJournal, contents, cut_off, damaged, not_beside
 from journal_session import other_reply, run_journal, sample_bytes, serving, store, unopened
@@ -17,12 +17,14 @@ from journal_smaller import ASKED, EXPORT_ALL, MORE, AskedByModel
 from lib.connections import SECONDS, connect, read_exactly
 from lib.frames import HEADER, NODE, PIECE, create, file, finish, piece, reply
 from lib.program import EVERYDAY, PROGRAM, preloaded
-from smaller_file import journal_bytes, sample, smaller
+from smaller_file import sample, smaller
 
 KILLS = int(os.environ.get("KILLS", "30"))
 SEED = 20_271_128
 # the most bytes of a command in a smaller journal, beside its name
 COMMAND = 256
+# how many bytes the records of the model's sample have, as they are and made smaller, with a mark behind them
+SAMPLE_SIZES = (1_160, 911)
 # a larger journal is made smaller before it is served
 LARGE = 64 << 20
 
@@ -33,9 +35,17 @@ def compact(path, *more, registry=REGISTRY, env=None, before=None):
     return done.returncode, done.stdout, done.stderr
 
 
-def smaller_of(data):
-    """The bytes that the model makes of a journal's."""
-    return smaller(data[: header_size()], read(data).records)
+def smaller_of(data, header):
+    """The bytes that the model makes of a journal's, behind this header."""
+    return smaller(header, read(data).records)
+
+
+def is_smaller_of(new, old):
+    """Whether these bytes are those that the model makes of a journal's, behind a header of the same registry and with a right check
+    value, but with other random bytes."""
+    header, before = header_in(new), header_in(old)
+    same = header[: -CHECK - RANDOM] == before[: -CHECK - RANDOM] and header[: -CHECK][-RANDOM:] != before[: -CHECK][-RANDOM:]
+    return read(new) is not None and same and new == smaller_of(old, header)
 
 
 def made_small(path, old, new):
@@ -54,9 +64,10 @@ class Compaction(AskedByModel):
         """The journal becomes the smaller one of the model, and no other file is left."""
         path = path or self.path
         old = contents(path)
-        new = smaller_of(old)
-        self.assertEqual(compact(path), (0, b"", made_small(path, old, new)))
-        self.assertEqual(contents(path), new)
+        found = compact(path)
+        new = contents(path)
+        self.assertTrue(is_smaller_of(new, old), found)
+        self.assertEqual(found, (0, b"", made_small(path, old, new)))
         self.assertFalse(os.path.exists(path + ".new"))
         return new
 
@@ -74,26 +85,28 @@ class Compaction(AskedByModel):
             self.asks(ASKED + MORE + [EXPORT_ALL])
 
     def test_once_more(self):
-        """A smaller journal stays as it is; nothing is printed if that is asked for."""
+        """A smaller journal stays as it is, but for its header; nothing is printed if that is asked for."""
         self.make(ASKED)
         new = self.becomes_smaller()
         self.assertEqual(compact(self.path, "--quiet"), (0, b"", b""))
-        self.assertEqual(contents(self.path), new)
+        again = contents(self.path)
+        self.assertTrue(is_smaller_of(again, new))
+        self.assertEqual((read(again).records, len(again)), (read(new).records, len(new)))
 
     def test_the_sample(self):
         """A file that was finished, one that was abandoned, and one that goes on, though a record with a number that had come before
-        abandons it. A piece came again. The smaller journal stays as it is."""
-        header = header_text(sample_bytes()) + md5(b"random")
-        old, new = journal_bytes(header, sample()), smaller(header, sample())
-        sizes = [(len(read(data).records), len(data) - len(header)) for data in (old, new)]
-        self.assertEqual(sizes, [(12, 1_015), (10, 894)])
-        for data in (old, new):
-            store(self.path, data)
-            self.assertEqual(compact(self.path), (0, b"", made_small(self.path, data, new)))
-            self.assertEqual(contents(self.path), new)
+        abandons it. A piece came again. With the mark of the next turn, and without it."""
+        header = header_of(sample_bytes(), md5(b"random"))
+        sizes = [(len(read(data).records), len(data) - len(header)) for data in (journal_bytes(header, sample()), smaller(header, sample()))]
+        self.assertEqual(sizes, [(12, SAMPLE_SIZES[0]), (10, SAMPLE_SIZES[1])])
+        for ahead in (True, False):
+            for records in (sample(), read(smaller(header, sample())).records):
+                store(self.path, journal_bytes(header, records, ahead))
+                self.assertEqual(smaller(header, records), smaller(header, sample()))
+                self.becomes_smaller()
         # what the model writes behind another header, byte for byte
         digests = [md5(make(b"0123456789", sample())).hex() for make in (journal_bytes, smaller)]
-        self.assertEqual(digests, ["05cc10db2418b0fb024a1394dc22f065", "676f61b0962f34e42f4ff0a8b7677874"])
+        self.assertEqual(digests, ["7144d79db1e065cb8787a16891a6d305", "20f3e9d4fe61faa4cf75a94b9ce7221b"])
 
     def test_on_the_disk_first(self):
         """All of the smaller journal is synced while it has its own name (synced.c notes how much of a file of that name is)."""
@@ -107,7 +120,8 @@ class Compaction(AskedByModel):
         for data in (b"", contents_of_a_start(self)):
             store(self.path, data)
             self.assertEqual(compact(self.path, "--quiet"), (0, b"", b""))
-            self.assertEqual(len(contents(self.path)), header_size())
+            new = contents(self.path)
+            self.assertEqual(new, journal_bytes(read(new).header, []))
 
     def test_random_sessions(self):
         """Files of random pieces, in a random order, with repeats; the journal is made smaller behind each fifth of it."""
@@ -141,12 +155,14 @@ class Compaction(AskedByModel):
         """It is cut off and saved first, as a start does."""
         old = self.make(ASKED)
         store(self.path, old + b"\1\0\0")
-        status, out, said = compact(self.path)
-        self.assertEqual((status, out, said), (0, b"", cut_off(3, self.path) + made_small(self.path, old, smaller_of(old))))
-        self.assertEqual((contents(self.path), contents(self.path + ".torn")), (smaller_of(old), b"\1\0\0"))
+        found = compact(self.path)
+        new = contents(self.path)
+        self.assertTrue(is_smaller_of(new, old), found)
+        self.assertEqual(found, (0, b"", cut_off(3, self.path) + made_small(self.path, old, new)))
+        self.assertEqual(contents(self.path + ".torn"), b"\1\0\0")
 
     def test_faults_of_a_start(self):
-        """Another registry, no journal, and damage. (In a smaller journal any later record shows it.)"""
+        """Another registry, no journal, and damage. (In a smaller journal the mark at its end shows it.)"""
         self.make(ASKED)
         data = self.becomes_smaller()
         changed = bytearray(data)
@@ -168,13 +184,9 @@ class Compaction(AskedByModel):
 
     def with_another_reply(self, data):
         """The fourth record of these bytes has another reply."""
-        made = data[: header_size()]
-        start = check = md5(made)
-        for at, it in enumerate(read(data).records):
-            it = it._replace(reply=reply(NODE, 4, 7)) if at == 3 else it
-            made += record_bytes(start, check, it)
-            check = next_check(start, check, it)
-        return made
+        found = read(data)
+        found.records[3] = found.records[3]._replace(reply=reply(NODE, 4, 7))
+        return journal_bytes(found.header, found.records)
 
     def test_in_use(self):
         self.before = self.make(ASKED)
@@ -237,11 +249,11 @@ class Compaction(AskedByModel):
     def test_a_full_disk(self):
         """The smaller journal does not fit, by a limit of the size of files."""
         self.before = self.make(ASKED + MORE)
-        most = len(smaller_of(self.before))
+        most = len(smaller_of(self.before, header_in(self.before)))
         for size in (0, 1, header_size(), most // 2, most - 1):
             self.stays(compact(self.path, before=limited(size)), 4, "Journal", NO_ROOM_BESIDE)
         self.assertEqual(compact(self.path, "--quiet", before=limited(most))[:2], (0, b""))
-        self.assertEqual(contents(self.path), smaller_of(self.before))
+        self.assertTrue(is_smaller_of(contents(self.path), self.before))
 
 
 def contents_of_a_start(test):
@@ -280,7 +292,6 @@ class Killed(InJournal):
         self.assertEqual(status, 0)
         replies = list(frames_of(written))
         old = contents(self.path)
-        new = smaller_of(old)
         begun = time.monotonic()
         self.assertEqual(compact(self.path, "--quiet"), (0, b"", b""))
         taken = time.monotonic() - begun
@@ -292,13 +303,14 @@ class Killed(InJournal):
             process.kill()
             process.wait()
             left = contents(self.path)
-            self.assertIn(left, (old, new))
-            found.add(left == new)
+            self.assertTrue(left == old or is_smaller_of(left, old))
+            found.add(left != old)
             # its lock is free, and a service goes on
             self.assertEqual(run_journal(self.path, asked[-1] + asked[2])[:2], (0, replies[-1] + replies[2]))
         self.assertIn(False, found)
         self.assertEqual(compact(self.path, "--quiet"), (0, b"", b""))
-        self.assertEqual((contents(self.path), os.listdir(self.folder)), (new, ["desk.journal"]))
+        self.assertTrue(is_smaller_of(contents(self.path), old))
+        self.assertEqual(os.listdir(self.folder), ["desk.journal"])
 
 
 class BeforeServing(InJournal):
@@ -337,9 +349,8 @@ class BeforeServing(InJournal):
         asked, replies = self.files(11, 6)
         old = contents(self.path)
         self.assertGreater(len(old), LARGE)
-        new = smaller_of(old)
-        self.assertEqual(self.answers(asked, replies), made_small(self.path, old, new))
-        self.goes_on_with(new)
+        said = self.answers(asked, replies)
+        self.is_made_small(old, said)
         self.assertEqual(os.listdir(self.folder), ["desk.journal"])
         # and the pieces come again
         self.assertEqual(run_journal(self.path, b"".join(asked))[:2], (0, replies))
@@ -361,11 +372,11 @@ class BeforeServing(InJournal):
         said = b"journal: %s could not be made smaller: has the disk room for %s.new? It is served all the same\n"
         self.as_it_was(asked, replies, said % ((os.fsencode(self.path),) * 2))
 
-    def goes_on_with(self, new):
-        """The file has these bytes, and behind them what came again: the service had none of its replies cached."""
-        data = contents(self.path)
-        self.assertTrue(data.startswith(new))
-        self.assertEqual(smaller_of(data), new)
+    def is_made_small(self, old, said):
+        """The file is the smaller one, and this was printed. What came again was not written, though none of its replies was cached."""
+        new = contents(self.path)
+        self.assertTrue(is_smaller_of(new, old))
+        self.assertEqual(said, made_small(self.path, old, new))
 
     def as_it_was(self, asked, replies, said):
         old = contents(self.path)
@@ -377,8 +388,10 @@ class BeforeServing(InJournal):
         asked, replies = self.files(17, 0)
         old = contents(self.path)
         store(self.path, old + bytes(9))
-        self.assertEqual(self.answers(asked, replies), cut_off(9, self.path) + made_small(self.path, old, smaller_of(old)))
-        self.goes_on_with(smaller_of(old))
+        said = self.answers(asked, replies)
+        torn = cut_off(9, self.path)
+        self.assertTrue(said.startswith(torn))
+        self.is_made_small(old, said[len(torn) :])
 
 
 def frames_of(stream):

@@ -1,17 +1,16 @@
 """A journal of twenty records of which one byte is changed, dropped or doubled, and one that is cut anywhere: a start finds
 damage, or the first records, as a reader of its own says (journal_file.py); never another history. And journals of three
-records, of which the last two are of one turn or not."""
+records, of which the last two are of one turn or not, with the mark of the next turn behind them or without it."""
 
 import os
 import unittest
 from concurrent.futures import ThreadPoolExecutor
 
-from journal_file import CHECK, Record, header_size, header_text, md5, read
+from journal_file import MARK, Record, header_in, header_of, header_size, header_text, journal_bytes, left_by_a_start, md5, read
 from journal_session import OTHER_HEADER, InJournal, contents, cut_off, damaged, printed, run_journal, sample_bytes, serving, store
 from lib.connections import connect, read_exactly
 from lib.frames import EXPORT, abandon, create, export_body, file, finish, folder, frame, piece
 from model_frames import answer, service_of_the_sample
-from smaller_file import journal_bytes
 
 STEP = int(os.environ.get("STEP", "9"))
 FILES = [file(2, b"a.msg", 14, 7), piece(3, 1, 1, b" of it."), piece(4, 1, 0, b"message"), finish(5, 1), file(6, b"gone", 3, 3), abandon(7, 2)]
@@ -20,8 +19,8 @@ EXPORT_ALL = frame(EXPORT, 1, 21, export_body())
 
 
 class Starts(InJournal):
-    """Tests of many starts. Each has a file's bytes, how many records a start finds in them, and where these end; there is no
-    end behind which damage is reported, and no number of records where the header is another one."""
+    """Tests of many starts. Each has a file's bytes, how many records a start finds in them, and where these end, with the mark behind
+    them, if it is there. There is no end where damage is reported, and no number of records where the header is another one."""
 
     def setUp(self):
         super().setUp()
@@ -47,7 +46,7 @@ class Starts(InJournal):
             return 3, b"", printed("Journal at 0", OTHER_HEADER, path), data, b""
         if end is None:
             return 3, b"", printed(f"Journal at {count + 1}", damaged(count), path), data, b""
-        return 0, self.exports[count], cut_off(len(data) - end, path), data[:end], data[end:]
+        return 0, self.exports[count], cut_off(len(data) - end, path), left_by_a_start(data), data[end:]
 
     def all_start(self, rows):
         with ThreadPoolExecutor(len(os.sched_getaffinity(0))) as pool:
@@ -88,11 +87,9 @@ class Damage(Starts):
 
     def test_swapped_records(self):
         """Two records in the other order, one twice, one that is missing."""
-        ends = [header_size()]
-        for count in range(1, len(ASKED) + 1):
-            ends.append(read(self.whole[: self.end_of(count, ends[-1])]).end)
+        ends = [place.at for place in read(self.whole).places]
         parts = [self.whole[start:end] for start, end in zip(ends, ends[1:])]
-        head = self.whole[: header_size()]
+        head = header_in(self.whole)
         changed = []
         for at in range(len(parts) - 1):
             changed.append(head + b"".join(parts[:at] + [parts[at + 1], parts[at]] + parts[at + 2 :]))
@@ -100,16 +97,9 @@ class Damage(Starts):
             changed.append(head + b"".join(parts[:at] + parts[at + 1 :]))
         self.all_start(changed)
 
-    def end_of(self, count, last):
-        """A size of the file that has `count` whole records."""
-        size = last
-        while len(read(self.whole[:size]).records) < count:
-            size += 1
-        return size
-
 
 class Turns(Starts):
-    """A journal of three records. A changed record is a torn end, unless a later turn shows that it had been on the disk."""
+    """A journal of three records. A changed record is a torn end, unless a later mark shows that it had been on the disk."""
 
     def all_start(self, rows):
         """Starts with each of these bytes. The reader agrees with what has to be found."""
@@ -118,41 +108,67 @@ class Turns(Starts):
         super().all_start(rows)
 
     def test_cut(self):
-        """At each byte: the records are there that are whole in what is left."""
+        """At each byte: the records are there that are whole in what is left, and the mark behind them, if that is."""
         whole, ends = journal_of(True, True, False)
         rows = []
-        for size in range(ends[0], ends[3] + 1):
+        for size in range(ends[0], len(whole) + 1):
             count = sum(end <= size for end in ends[1:])
-            rows.append((whole[:size], count, ends[count]))
+            # (the third record begins no turn)
+            has_mark = count != 2 and size >= ends[count] + MARK
+            rows.append((whole[:size], count, ends[count] + (MARK if has_mark else 0)))
         self.all_start(rows)
 
     def test_a_flipped_bit(self):
-        """Of each byte. In the first record the second turn shows that it had been on the disk, but not in its check value, since
-        the next record is chained to the one that was written. In the second and third, which are of one turn, it is a torn
-        end."""
+        """Of each byte. In a record a later mark shows that it had been on the disk. In the last mark it is a torn end."""
         whole, ends = journal_of(True, True, False)
-        rows = [(0, None)] * (ends[1] - CHECK - ends[0]) + [(0, ends[0])] * CHECK
-        rows += [(1, ends[1])] * (ends[2] - ends[1]) + [(2, ends[2])] * (ends[3] - ends[2])
+        rows = [(0, None)] * (ends[1] - ends[0]) + [(1, None)] * (ends[2] - ends[1]) + [(2, None)] * (ends[3] - ends[2])
+        rows += [(3, ends[3])] * MARK
         self.all_start([(flipped(whole, at), *found) for at, found in enumerate(rows, ends[0])])
 
-    def test_a_later_turn_shows_damage(self):
-        """Three turns: a flipped bit in the check value of the first is shown by the third."""
+    def test_a_flipped_bit_of_the_last_turn(self):
+        """The same without the last mark. The last turn, of two records, is a torn end, and not more than that: its own mark shows
+        damage before it, and stays where it is whole."""
+        whole, ends = journal_of(True, True, False)
+        rows = [(0, None)] * (ends[1] - ends[0]) + [(1, ends[1])] * MARK
+        rows += [(1, ends[1] + MARK)] * (ends[2] - ends[1] - MARK) + [(2, ends[2])] * (ends[3] - ends[2])
+        self.all_start([(flipped(whole[:-MARK], at), *found) for at, found in enumerate(rows, ends[0])])
+
+    def test_a_flipped_bit_of_the_header(self):
         whole, ends = journal_of(True, True, True)
-        self.all_start([(flipped(whole, at), 0, None) for at in range(ends[1] - CHECK, ends[1])])
+        self.all_start([(flipped(whole, at), None, None) for at in range(ends[0])])
+
+    def test_two_torn_turns(self):
+        """Of two turns that are lost, the second had begun: what is there of it shows that the first was on the disk."""
+        whole, ends = journal_of(True, True, True)
+        lost = bytes(ends[2] - ends[1])
+        rows = []
+        for size in (ends[2], ends[2] + MARK - 1, ends[2] + MARK, ends[3], len(whole)):
+            shown = size >= ends[2] + MARK
+            rows.append(((whole[: ends[1]] + lost + whole[ends[2] :])[:size], 1, None if shown else ends[1]))
+        self.all_start(rows)
+
+    def test_a_mark_elsewhere(self):
+        """A mark counts at its own offset alone."""
+        whole, ends = journal_of(True, True, True)
+        for at in (ends[1], ends[2], ends[3]):
+            mark = whole[at : at + MARK]
+            torn = whole[: ends[3]] + bytes(9)
+            self.all_start([(torn + mark + bytes(count), 3, ends[3]) for count in (0, 50)])
 
     def test_zeros(self):
         """Behind the records they are no record, however many."""
         whole, ends = journal_of(True, False)
-        self.all_start([(whole + bytes(count), 2, ends[2]) for count in (1, 24, 25, 300)])
+        for data in (whole, whole[:-MARK]):
+            self.all_start([(data + bytes(count), 2, len(data)) for count in (1, 24, 25, 300)])
 
 
 def journal_of(*begun):
-    """A journal of as many records, each of which begins a turn or goes on with one: its bytes, and where its header and each
-    record end."""
+    """A journal of as many records, each of which begins a turn or goes on with one, with a mark behind them: its bytes, and where its
+    header and each record end."""
     records = [Record(*row) for row in zip(begun, ASKED, replies_to(ASKED))]
-    header = header_text(sample_bytes()) + md5(b"random")
-    fronts = [journal_bytes(header, records[:count]) for count in range(len(records) + 1)]
-    return fronts[-1], [len(front) for front in fronts]
+    header = header_of(sample_bytes(), md5(b"random"))
+    fronts = [journal_bytes(header, records[:count], False) for count in range(len(records) + 1)]
+    return journal_bytes(header, records), [len(front) for front in fronts]
 
 
 def flipped(data, at):
@@ -162,9 +178,9 @@ def flipped(data, at):
 def found_in(data):
     """What the reader finds in a file: how many records, and where they end. None: there is no such end, since that is damage; or
     neither, since the header is another one."""
-    if not data.startswith(header_text(sample_bytes())) or len(data) < header_size():
+    found = read(data) if data.startswith(header_text(sample_bytes())) else None
+    if found is None:
         return None, None
-    found = read(data)
     return len(found.records), None if found.damaged else found.end
 
 

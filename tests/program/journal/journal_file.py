@@ -1,5 +1,6 @@
-"""The file of a journal (docs/FORMATS.md), read and written without the program: a header, and then records, each with a
-check value that chains it to the one before."""
+"""The file of a journal of version 4 (docs/FORMATS.md), read and written without the program: a header with a check value, and
+then records, each with a check value that binds its place and chains it to the one before. The first record of a turn begins
+with a mark, and so does what is ahead of the next turn: only a mark behind the records shows damage."""
 
 import hashlib
 import struct
@@ -7,10 +8,11 @@ from typing import NamedTuple
 
 from lib.frames import HEADER
 
-LINES = b"droid_desk journal 3\n64 profiles, 100000 nodes, 64 unfinished files\n"
-RANDOM = 16
-CHECK = 16
-SEALED = 12
+LINE = b"droid_desk journal 4\n"
+LIMITS = struct.pack(">III", 64, 100_000, 64)
+ROOM = bytes(31)
+RANDOM = CHECK = 16
+MARK = 17
 LONGEST = 8 << 20
 
 
@@ -19,12 +21,17 @@ def md5(data):
 
 
 def header_size():
-    return len(LINES) + 16 + RANDOM
+    return len(LINE) + len(LIMITS) + len(ROOM) + 16 + RANDOM + CHECK
 
 
 def header_text(registry):
-    """What each journal of this registry (its bytes) begins with. 16 random bytes follow."""
-    return LINES + md5(registry)
+    """What each journal of this registry (its bytes) begins with. 16 random bytes and a check value follow."""
+    return LINE + LIMITS + ROOM + md5(registry)
+
+
+def header_of(registry, random):
+    front = header_text(registry) + random
+    return front + md5(front)
 
 
 class Record(NamedTuple):
@@ -34,36 +41,59 @@ class Record(NamedTuple):
     reply: bytes
 
 
-def sealed(start, front):
-    return front + md5(start + front)[: CHECK - SEALED]
+class Place(NamedTuple):
+    """A place between two records."""
+
+    at: int
+    check: bytes
+    records: int
 
 
-def checksum(request):
-    """That of its kind and its body."""
-    return md5(request[1:2] + request[HEADER.size :])
+def turn_mark(start, at):
+    return b"\1" + md5(start + struct.pack(">Q", at))
 
 
-def next_check(start, check, record):
-    front = start + check + bytes([record.first]) + record.request[: HEADER.size]
-    digest = md5(front + checksum(record.request) + record.reply)
-    return sealed(start, digest[:SEALED])
+def next_check(start, place, record):
+    front = start + place.check + struct.pack(">QQ", place.at, place.records) + bytes([record.first]) + record.request[: HEADER.size]
+    return md5(front + md5(record.request[1:2] + record.request[HEADER.size :]) + record.reply)
 
 
 def string(data):
     return struct.pack(">I", len(data)) + data
 
 
-def record_bytes(start, check, record):
-    return bytes([record.first]) + string(record.request) + string(record.reply) + next_check(start, check, record)
+def record_bytes(start, place, record):
+    front = turn_mark(start, place.at) if record.first else b"\0"
+    return front + string(record.request) + string(record.reply) + next_check(start, place, record)
 
 
-def record_at(start, check, data, place):
-    """Reads the record at a place, behind one with this check value: the record, its check value and the place behind it.
-    None: no whole record with a right check value is there."""
-    if data[place : place + 1] not in (b"\0", b"\1"):
+def first_place(header):
+    return Place(len(header), md5(header), 0)
+
+
+def behind(start, place, record):
+    return Place(place.at + len(record_bytes(start, place, record)), next_check(start, place, record), place.records + 1)
+
+
+def journal_bytes(header, records, ahead=True):
+    """A journal of these records, with the beginning of the next turn or without it."""
+    start, place, parts = md5(header), first_place(header), [header]
+    for record in records:
+        parts.append(record_bytes(start, place, record))
+        place = behind(start, place, record)
+    return b"".join(parts) + (turn_mark(start, place.at) if ahead else b"")
+
+
+def record_at(start, place, data):
+    """Reads the record at a place: the record and the place behind it. None: no right record is there."""
+    at = place.at
+    if data[at : at + 1] == b"\0":
+        first, at = False, at + 1
+    elif data[at : at + MARK] == turn_mark(start, at):
+        first, at = True, at + MARK
+    else:
         return None
-    first = data[place] == 1
-    parts, at = [], place + 1
+    parts = []
     for _ in range(2):
         if at + 4 > len(data):
             return None
@@ -74,40 +104,51 @@ def record_at(start, check, data, place):
         parts.append(data[at : at + size])
         at += size
     record = Record(first, *parts)
-    if len(record.request) < HEADER.size or at + CHECK - place > LONGEST:
+    if len(record.request) < HEADER.size or len(record.request) + len(record.reply) + 41 > LONGEST:
         return None
-    after = next_check(start, check, record)
-    if data[at : at + CHECK] != after:
-        return None
-    return record, after, at + CHECK
+    after = behind(start, place, record)
+    return (record, after) if data[at : at + CHECK] == after.check else None
 
 
 class Read(NamedTuple):
+    header: bytes
     records: list
-    # where they end
-    end: int
-    # whether a record stands behind it that was written when all before it was on the disk
+    # the places before, between and behind them
+    places: list
+    # whether the beginning of the next turn stands behind them
+    ahead: bool
+    # whether a later turn begins behind them
     damaged: bool
-    # the check value of the last of them
-    check: bytes
+
+    @property
+    def end(self):
+        """Where they end, with the beginning of the next turn, if it is there."""
+        return self.places[-1].at + (MARK if self.ahead else 0)
 
 
-def has_later(start, data, place):
-    """Whether such a record stands anywhere from a place on, behind whatever check value."""
-    for at in range(place, len(data) - CHECK):
-        check = data[at : at + CHECK]
-        if check == sealed(start, check[:SEALED]):
-            found = record_at(start, check, data, at + CHECK)
-            if found and found[0].first:
-                return True
-    return False
+def header_in(data):
+    return data[: header_size()]
 
 
 def read(data):
-    """Reads a whole journal."""
-    start = check = md5(data[: header_size()])
-    records, place = [], header_size()
-    while found := record_at(start, check, data, place):
-        record, check, place = found
+    """Reads a whole journal. None: it has no right header."""
+    header = header_in(data)
+    front, check = header[:-CHECK], header[-CHECK:]
+    if not header.startswith(LINE) or len(header) < header_size() or md5(front) != check:
+        return None
+    start, places, records = md5(header), [first_place(header)], []
+    while found := record_at(start, places[-1], data):
+        record, place = found
         records.append(record)
-    return Read(records, place, has_later(start, data, place), check)
+        places.append(place)
+    end = places[-1].at
+    damaged = any(data[at : at + MARK] == turn_mark(start, at) for at in range(end + 1, len(data)) if data[at] == 1)
+    ahead = data[end : end + MARK] == turn_mark(start, end)
+    return Read(header, records, places, ahead, damaged)
+
+
+def left_by_a_start(data):
+    """What a start leaves of a journal without damage: its whole records, and the beginning of the next turn."""
+    found = read(data)
+    end = found.places[-1].at
+    return data[:end] + turn_mark(md5(found.header), end)

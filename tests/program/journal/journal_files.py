@@ -5,8 +5,8 @@ import random
 import socket
 import unittest
 
-from journal_file import header_size, header_text, md5, next_check, read, record_bytes
-from journal_session import IN_USE, NO_FILE, OTHER_HEADER, REGISTRY, InJournal, contents, cut_off, other_reply, run_journal
+from journal_file import CHECK, LIMITS, LINE, MARK, RANDOM, header_in, header_size, header_text, journal_bytes, left_by_a_start, md5, read
+from journal_session import IN_USE, NO_FILE, OTHER_HEADER, REGISTRY, InJournal, contents, cut_off, damaged, other_reply, run_journal
 from journal_session import sample_bytes, serving, store, unopened
 from lib.connections import connect, free_port, read_exactly
 from lib.frames import ADD_FOLDER, EXPORT, HEADER, NODE, create, export_body, file, finish, folder, frame, piece, reply, status
@@ -27,29 +27,40 @@ def by_model(requests):
 
 class Starts(InJournal):
     def test_a_new_file(self):
-        """It is made, with a header of this registry and no record."""
-        self.assertEqual(run_journal(self.path), (0, b"", b""))
-        data = contents(self.path)
-        self.assertTrue(data.startswith(header_text(sample_bytes())))
-        self.assertEqual(len(data), header_size())
-        self.assertEqual(os.listdir(self.folder), ["desk.journal"])
+        """It is made, with a header of this registry and no record. A further start leaves it as it is."""
+        for _ in range(2):
+            self.assertEqual(run_journal(self.path), (0, b"", b""))
+            data = contents(self.path)
+            self.assertTrue(data.startswith(header_text(sample_bytes())))
+            self.assertEqual(data, journal_bytes(header_in(data), []))
+            self.assertEqual(read(data).records, [])
+            self.assertEqual(os.listdir(self.folder), ["desk.journal"])
 
     def test_headers_end_differently(self):
         ends = set()
         for place in range(20):
             path = f"{self.path}{place}"
             self.assertEqual(run_journal(path)[0], 0)
-            ends.add(contents(path)[-16:])
+            ends.add(header_in(contents(path))[-CHECK - RANDOM : -CHECK])
         self.assertEqual(len(ends), 20)
 
     def test_an_empty_file_and_a_begun_header(self):
         self.assertEqual(run_journal(self.path), (0, b"", b""))
         whole = contents(self.path)
-        for size in range(len(whole)):
+        for size in range(header_size() + 1):
             store(self.path, whole[:size])
             self.assertEqual(run_journal(self.path, ASKED[0]), (0, by_model(ASKED[:1]), b""))
             data = contents(self.path)
             self.assertEqual((data[:size], len(read(data).records)), (whole[:size], 1), size)
+
+    def test_a_begun_turn(self):
+        """Of the beginning of the next turn a part came to the disk: that is cut off, and written anew."""
+        self.assertEqual(run_journal(self.path, b"".join(ASKED)), (0, by_model(ASKED), b""))
+        whole = contents(self.path)
+        for count in range(MARK + 1):
+            store(self.path, whole[: len(whole) - MARK + count])
+            self.assertEqual(run_journal(self.path), (0, b"", cut_off(count % MARK, self.path)))
+            self.assertEqual(contents(self.path), whole)
 
     def test_records(self):
         """Each accepted command has one record with its reply. Refusals, questions and repeats have none."""
@@ -58,7 +69,7 @@ class Starts(InJournal):
         found = read(contents(self.path))
         self.assertEqual([record.request for record in found.records], ASKED)
         self.assertEqual(b"".join(record.reply for record in found.records), by_model(ASKED))
-        self.assertEqual((found.end, found.damaged), (len(contents(self.path)), False))
+        self.assertEqual((found.ahead, found.end, found.damaged), (True, len(contents(self.path)), False))
 
     def test_one_after_the_other(self):
         """Each request by a process of its own: their replies are those of one service."""
@@ -91,13 +102,14 @@ class Starts(InJournal):
         self.assertEqual((code, written, faults(said)), (4, by_model(ASKED[:1]), b"fault: BadVersion\n"))
 
     def test_a_repeat_that_is_no_longer_cached(self):
-        """The service caches 256 replies, and which ones depends on repeats, that are not in the journal. A command that came
-        again when its reply was not cached has two records; a start reads both, also where it has the reply cached."""
+        """The service caches 256 replies. A command that comes again has no further record, however many came since."""
         asked = [create(1)] + [folder(number, b"%d" % number) for number in range(2, 4)]
         asked += asked[:2] + [folder(number, b"%d" % number) for number in range(4, 258)] + asked[2:3]
         self.assertEqual(run_journal(self.path, b"".join(asked)), (0, by_model(asked), b""))
-        self.assertEqual(len(read(contents(self.path)).records), 258)
+        self.assertEqual(len(read(contents(self.path)).records), 257)
+        before = contents(self.path)
         self.assertEqual(run_journal(self.path, b"".join(asked)), (0, by_model(asked), b""))
+        self.assertEqual(contents(self.path), before)
 
     def test_many_turns(self):
         """More frames than one turn has, in one stream."""
@@ -107,12 +119,11 @@ class Starts(InJournal):
         self.assertEqual([record.request for record in records], asked)
         self.assertTrue(records[0].first)
         self.assertEqual(run_journal(self.path, b"".join(asked)), (0, by_model(asked), b""))
-        self.assertEqual(read(contents(self.path)).records[: len(asked)], records)
-
+        self.assertEqual(read(contents(self.path)).records, records)
 
     def test_sixteen_in_a_turn(self):
-        """Of frames that come at once, sixteen are handled in a turn. The first record of each turn says that all before it was on
-        the disk."""
+        """Of frames that come at once, sixteen are handled in a turn. The first record of each turn begins with a mark: all before
+        it was on the disk."""
         for count in (0, 1, 15, 16, 17, 100):
             path = f"{self.path}{count}"
             asked = ([create(1)] + [folder(number, b"%d" % number, version=1 + number % 2) for number in range(2, 101)])[:count]
@@ -139,20 +150,26 @@ class LongBodies(InJournal):
     def test_records(self):
         found = read(self.whole)
         self.assertEqual([record.request for record in found.records], self.asked)
-        self.assertEqual((found.end, found.damaged), (len(self.whole), False))
+        self.assertEqual((found.ahead, found.end, found.damaged), (True, len(self.whole), False))
         self.assertEqual(run_journal(self.path, self.asked[-1]), (0, by_model(self.asked)[-len(found.records[-1].reply) :], b""))
 
     def test_a_changed_byte(self):
-        """One at both ends of each eighth. The record is the last one, so that a start takes it for one that was cut off."""
-        kept = read(self.whole[:-1]).end
-        body = self.whole.index(self.asked[-1], kept) + HEADER.size
+        """One at both ends of each eighth of the last record's body. The mark behind it shows the damage. Without the mark a start
+        takes it for one that was cut off."""
+        body = self.whole.index(self.asked[-1], read(self.whole).places[-2].at) + HEADER.size
         part = -(-self.SIZES[-1] // 8)
         for place in range(8):
             for at in (body + place * part, min(body + (place + 1) * part, body + self.SIZES[-1]) - 1):
                 changed = self.whole[:at] + bytes([self.whole[at] ^ 1]) + self.whole[at + 1 :]
                 store(self.path, changed)
-                self.assertEqual(run_journal(self.path), (0, b"", cut_off(len(changed) - kept, self.path)))
-                self.assertEqual((contents(self.path), contents(self.path + ".torn")), (changed[:kept], changed[kept:]))
+                count = len(self.asked) - 1
+                self.ends(run_journal(self.path), 3, f"Journal at {count + 1}", damaged(count))
+                self.assertEqual(contents(self.path), changed)
+                torn = changed[:-MARK]
+                kept = read(torn).end
+                store(self.path, torn)
+                self.assertEqual(run_journal(self.path), (0, b"", cut_off(len(torn) - kept, self.path)))
+                self.assertEqual((contents(self.path), contents(self.path + ".torn")), (left_by_a_start(torn), torn[kept:]))
                 os.remove(self.path + ".torn")
 
 
@@ -171,9 +188,22 @@ class Refused(InJournal):
         self.assertEqual(contents(self.path), before)
 
     def test_no_journal(self):
-        for data in (b"x", b"droid_desk journal 2\n64 profiles, 100000 nodes, 64 unfinished files\n" + bytes(32), sample_bytes(), bytes(100), header_text(sample_bytes())[:-1] + b"x"):
+        for version in (b"2", b"3", b"5"):
+            store(self.path, b"droid_desk journal " + version + b"\n64 profiles, 100000 nodes, 64 unfinished files\n" + bytes(32))
+            self.refuses(3, "Journal at 0", OTHER_HEADER)
+        for data in (b"x", sample_bytes(), bytes(200), header_text(sample_bytes())[:-1] + b"x"):
             store(self.path, data)
             self.refuses(3, "Journal at 0", OTHER_HEADER)
+
+    def test_other_limits(self):
+        """A header with a right check value, of a service with other limits, or with limits that this program does not know."""
+        front = header_text(sample_bytes()) + bytes(RANDOM)
+        for at in (len(LINE) + 3, len(LINE) + 7, len(LINE) + 11, len(LINE) + len(LIMITS), len(front) - RANDOM - 17):
+            changed = front[:at] + bytes([front[at] + 1]) + front[at + 1 :]
+            store(self.path, changed + md5(changed))
+            self.refuses(3, "Journal at 0", OTHER_HEADER)
+        store(self.path, front + md5(front))
+        self.assertEqual(run_journal(self.path, ASKED[0]), (0, by_model(ASKED[:1]), b""))
 
     def test_two_processes(self):
         with serving(self.path, "--forever", killed=True):
@@ -220,15 +250,9 @@ class Refused(InJournal):
     def test_a_reply_that_was_changed(self):
         """The check value is right, and the record names a reply that no service gives."""
         self.assertEqual(run_journal(self.path, b"".join(ASKED[:3]))[0], 0)
-        data = contents(self.path)
-        records = read(data).records
-        records[1] = records[1]._replace(reply=reply(NODE, 2, 9))
-        start = check = md5(data[: header_size()])
-        made = data[: header_size()]
-        for record in records:
-            made += record_bytes(start, check, record)
-            check = next_check(start, check, record)
-        store(self.path, made)
+        found = read(contents(self.path))
+        found.records[1] = found.records[1]._replace(reply=reply(NODE, 2, 9))
+        store(self.path, journal_bytes(found.header, found.records))
         self.refuses(3, "Journal at 2", other_reply(2))
 
 

@@ -6,7 +6,7 @@ import signal
 import subprocess
 import unittest
 
-from journal_file import header_size, read
+from journal_file import MARK, header_size, read
 from journal_session import REGISTRY, UNWRITTEN, InJournal, contents, printed, run_journal
 from lib.connections import SECONDS, connect, free_port, read_frame
 from lib.frames import MADE, NODE, create, folder
@@ -39,6 +39,19 @@ class Full(InJournal):
             records = read(data).records if size >= header_size() else []
             kept = b"".join(record.reply for record in records)
             self.assertTrue(replies.startswith(kept) and kept.startswith(written), size)
+            self.assertEqual(run_journal(path, b"".join(asked))[:2], (0, replies))
+
+    def test_the_last_mark(self):
+        """It does not fit behind the last turn: all of that was answered, and the next start has it."""
+        asked = [create(1)] + [folder(number, b"%d" % number) for number in range(2, 9)]
+        replies = answer(service_of_the_sample(), b"".join(asked))[0]
+        self.assertEqual(run_journal(self.path, b"".join(asked)), (0, replies, b""))
+        size = len(contents(self.path))
+        for lacking in range(MARK + 1):
+            path = f"{self.path}{lacking}"
+            found = run_journal(path, b"".join(asked), before=limited(size - lacking))
+            self.assertEqual(found, (4, replies, printed("Journal", UNWRITTEN, path)) if lacking else (0, replies, b""))
+            self.assertEqual(b"".join(it.reply for it in read(contents(path)).records), replies)
             self.assertEqual(run_journal(path, b"".join(asked))[:2], (0, replies))
 
     def test_serve(self):

@@ -11,7 +11,7 @@ import threading
 import time
 import unittest
 
-from journal_file import read, record_bytes
+from journal_file import Place, read, record_bytes
 from journal_session import InJournal, contents, serving, store
 from lib.connections import connect, read_exactly
 from lib.frames import EXPORT, HEADER, REFUSED, abandon, create, cut, export_body, file, finish, folder, frame, piece
@@ -190,7 +190,7 @@ class Kills(InJournal):
     def rubbish(self, data):
         """Bytes that are no record behind these: any, zeros, an older record, or the front of one."""
         records = read(data).records
-        older = record_bytes(b"\0" * 16, b"\0" * 16, self.chance.choice(records))
+        older = record_bytes(bytes(16), Place(0, bytes(16), 0), self.chance.choice(records))
         kinds = (self.chance.randbytes(self.chance.randrange(1, 300)), bytes(self.chance.randrange(1, 5_000)), older, older[: len(older) // 2])
         return self.chance.choice(kinds)
 

@@ -11,8 +11,8 @@ import time
 import unittest
 
 from journal_compact import compact
-from journal_file import header_size, md5, next_check, read, record_bytes
-from journal_session import OTHER_HEADER, REGISTRY, UNWRITTEN, InJournal, contents, damaged, not_beside, printed, run_journal, sample_bytes
+from journal_file import MARK, header_in, header_size, md5, read, turn_mark
+from journal_session import OTHER_HEADER, REGISTRY, UNWRITTEN, InJournal, contents, cut_off, damaged, not_beside, printed, run_journal, sample_bytes
 from journal_session import serving, store, unopened, without_notes
 from lib.connections import SECONDS, connect, listen, read_exactly, read_frame
 from lib.frames import FINISHED, MADE, NODE, create, cut, export, file, finish, folder, piece
@@ -151,14 +151,15 @@ class Folders(InJournal):
 
 class Modes(InJournal):
     def test_of_what_is_cut_off(self):
-        """Who may not read the journal may not read what is cut off of it."""
+        """Only its owner may read what is cut off, whoever may read the journal, which keeps its mode."""
         self.assertEqual(run_journal(self.path, create(1))[0], 0)
         whole = contents(self.path)
         for mode in (0o600, 0o640, 0o644):
             store(self.path, whole + bytes(9))
             os.chmod(self.path, mode)
             self.assertEqual(run_journal(self.path, before=lambda: os.umask(0))[0], 0)
-            self.assertEqual(stat.S_IMODE(os.stat(self.path + ".torn").st_mode), mode)
+            self.assertEqual(stat.S_IMODE(os.stat(self.path + ".torn").st_mode), 0o600)
+            self.assertEqual(stat.S_IMODE(os.stat(self.path).st_mode), mode)
             os.remove(self.path + ".torn")
 
 
@@ -231,8 +232,8 @@ class Registries(InJournal):
 
     def test_a_journal_of_another_version(self):
         data = bytearray(contents_after(self, create(1)))
-        self.assertEqual(data[:20], b"droid_desk journal 3")
-        for version in (b"2", b"4"):
+        self.assertEqual(data[:20], b"droid_desk journal 4")
+        for version in (b"2", b"3", b"5"):
             data[19:20] = version
             store(self.path, bytes(data))
             for found in (run_journal(self.path, create(1)), compact(self.path)):
@@ -248,20 +249,21 @@ def contents_after(test, *asked):
 
 class FarBehind(InJournal):
     def test_damage(self):
-        """Far behind a part of the first record stands one of a later turn, and a hole between them. It is found."""
-        data = contents_after(self, create(1)) and contents_after(self, folder(2, b"in")) and contents_after(self, folder(3, b"out"))
-        start = md5(data[: header_size()])
-        first, second, third = read(data).records
-        check = next_check(start, start, first)
-        check = next_check(start, check, second)
-        self.assertTrue(third.first)
+        """Far behind a part of the first record stands the beginning of a later turn, and a hole between them. It is found, and not
+        at any other offset."""
+        start = md5(header_in(contents_after(self, create(1))))
         with open(self.path, "r+b") as stored:
             stored.truncate(header_size() + 30)
             stored.seek(FAR)
-            stored.write(check + record_bytes(start, check, third))
+            stored.write(turn_mark(start, FAR))
         size = os.path.getsize(self.path)
         self.ends(run_journal(self.path, create(1)), 3, "Journal at 1", damaged(0))
         self.assertEqual((os.path.getsize(self.path), os.listdir(self.folder)), (size, ["desk.journal"]))
+        with open(self.path, "r+b") as stored:
+            stored.seek(FAR + 1)
+            stored.write(turn_mark(start, FAR))
+        said = run_journal(self.path, create(1))
+        self.assertEqual(said, (0, replies_to([create(1)]), cut_off(size + 1 - header_size() - MARK, self.path)))
 
 
 if __name__ == "__main__":

@@ -3,16 +3,15 @@ the smaller journal of the model (smaller_file.py), which computes the checksum 
 
 import unittest
 
-from journal_compact import compact, made_small, smaller_of
-from journal_file import Record, header_text, md5
+from journal_compact import compact, is_smaller_of, made_small
+from journal_file import Record, header_of, journal_bytes, md5, read
 from journal_session import InJournal, contents, sample_bytes, store
 from lib.frames import ABANDON, ABANDONED, PIECE, TAKEN, frame, numbers, reply
-from smaller_file import journal_bytes
 
 CLIENT = 7
 # the first file of the first profile
 FILE = numbers(1, 1)
-ABANDONS_IT = Record(True, frame(ABANDON, CLIENT, 1_000, FILE, 2), frame(ABANDONED, CLIENT, 1_000, b"", 2))
+ABANDONS_IT = Record(False, frame(ABANDON, CLIENT, 1_000, FILE, 2), frame(ABANDONED, CLIENT, 1_000, b"", 2))
 
 # how many bytes pieces have: around the blocks of a hash, and far from them
 SIZES = [0, 1, 37, 38, 2_000, 46, 47, 500, 3, 101, 102, 64, 63, 1_100, 5, 5, 119, 120]
@@ -26,21 +25,22 @@ LARGE = [3_000_000, 2_500_001, 4_100_000, 10, 3_999_999, 1_000_000, 2_000_000, 4
 def piece_record(number, size):
     """The record of a piece of this size. The checksum of a request has the bytes behind its header."""
     request = frame(PIECE, CLIENT, number, FILE + bytes([number % 251]) * size, 2)
-    return Record(True, request, reply(TAKEN, number, 1, client=CLIENT, version=2))
+    return Record(False, request, reply(TAKEN, number, 1, client=CLIENT, version=2))
 
 
 class Pieces(InJournal):
     def compacted(self, sizes, ends):
-        """A journal of pieces of these sizes, and then, if it ends, the end of their file: its bytes, and those that `compact`
-        makes of them."""
+        """A journal of pieces of these sizes, and then, if it ends, the end of their file: its records, and those that
+        `compact` makes of them."""
         records = [piece_record(number, size) for number, size in enumerate(sizes)]
         records += [ABANDONS_IT] if ends else []
-        old = journal_bytes(header_text(sample_bytes()) + md5(b"random"), records)
+        old = journal_bytes(header_of(sample_bytes(), md5(b"random")), records)
         store(self.path, old)
-        new = smaller_of(old)
-        self.assertEqual(compact(self.path), (0, b"", made_small(self.path, old, new)), sizes)
-        self.assertTrue(contents(self.path) == new, sizes)
-        return old, new
+        found = compact(self.path)
+        new = contents(self.path)
+        self.assertTrue(is_smaller_of(new, old), sizes)
+        self.assertEqual(found, (0, b"", made_small(self.path, old, new)), sizes)
+        return records, read(new).records
 
     def become_bare(self, sizes):
         old, new = self.compacted(sizes, True)

@@ -9,7 +9,7 @@ import unittest
 from concurrent.futures import ThreadPoolExecutor
 
 from cases_as_frames import cases_of_scripts, frames_of
-from journal_file import header_size, read
+from journal_file import md5, read, turn_mark
 from journal_session import InJournal, contents, store
 from lib.connections import SECONDS
 from lib.frames import HEADER
@@ -42,7 +42,8 @@ class Session:
         self.sent, self.due = whole_frames(sent), whole_frames(due)
         self.found = run(options, path, sent)
         self.data = contents(path)
-        self.records = read(self.data).records
+        self.read = read(self.data)
+        self.records = self.read.records
 
     def places(self):
         """For each record the place of its frame in the session."""
@@ -54,7 +55,7 @@ class Session:
 
     def end_of(self, count):
         """Where the first `count` records end."""
-        return header_size() + sum(25 + len(it.request) + len(it.reply) for it in self.records[:count])
+        return self.read.places[count].at
 
     def turn_behind(self, count):
         """The bytes of the records behind the first `count`, up to the end of the turn."""
@@ -67,8 +68,11 @@ class Session:
 def left_by(session, count, chance):
     """What a crash behind `count` records may leave; or these records in a journal that was made smaller."""
     front, behind = session.data[: session.end_of(count)], session.turn_behind(count)
-    if chance < 0.3:
-        return smaller(front[: header_size()], session.records[:count])
+    if chance < 0.25:
+        return smaller(session.read.header, session.records[:count])
+    if chance < 0.35:
+        # all of it was on the disk
+        return front + turn_mark(md5(session.read.header), len(front))
     if chance < 0.5:
         # the first bytes of what was written last did not come to the disk, and those behind did
         return front + bytes(min(len(behind), 40)) + behind[40:]

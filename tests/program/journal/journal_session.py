@@ -11,7 +11,10 @@ from lib.program import PROGRAM, SAMPLE, Serve
 # The sentence behind each `fault: Journal`, of the journal at a path.
 IN_USE = "{0}: another droid_desk has this journal open: stop it first"
 NO_FILE = "{0}: this is a folder, a link or a device: name a file, or a path where nothing is yet"
-OTHER_HEADER = "{0}: not a journal of this registry and this version of droid_desk: name the registry of its first start, or a new file"
+OTHER_HEADER = (
+    "{0}: not a journal of this registry and this version of droid_desk, or damaged at its beginning: "
+    "name the registry of its first start, restore a copy, or name a new file"
+)
 UNREAD = "{0}: could not be read: check the disk"
 UNWRITTEN = "{0}: could not be written, so nothing more is answered: is the disk full? Make room, and start again"
 NO_ROOM_BESIDE = "{0}.new: could not be written: is the disk full? {0} is as it was"
@@ -34,7 +37,7 @@ def other_reply(record):
 
 
 def damaged(records):
-    return f"{{0}}: damaged after record {records}, and whole records follow: restore a copy of the file"
+    return f"{{0}}: damaged after record {records}: restore a copy of the file"
 
 
 def printed(fault, sentence, path):

@@ -4,7 +4,7 @@ journal, and goes on with it."""
 import random
 import unittest
 
-from journal_file import header_size, md5, next_check, read, record_bytes
+from journal_file import header_size, journal_bytes, read
 from journal_session import InJournal, contents, cut_off, damaged, other_reply, run_journal, store
 from lib.frames import EXPORT, HEADER, NODE, REFUSED, TAKEN, abandon, create, cut, export_body, file, finish, folder, frame, piece, reply, status
 from model_frames import answer, service_of_the_sample
@@ -55,9 +55,8 @@ class Smaller(AskedByModel):
         """Writes a journal of these requests, and makes it smaller by the model: its records before."""
         path = path or self.path
         self.asks(asked, path)
-        data = contents(path)
-        found = read(data)
-        store(path, smaller(data[: header_size()], found.records))
+        found = read(contents(path))
+        store(path, smaller(found.header, found.records))
         return found.records
 
     def records(self):
@@ -132,21 +131,13 @@ class Smaller(AskedByModel):
         store(self.path, bytes(changed))
         self.ends(run_journal(self.path, ASKED[0]), 3, "Journal at 1", damaged(0))
 
-    def rewritten(self, records):
-        """Writes these records, with right check values, behind the header."""
-        data = contents(self.path)[: header_size()]
-        start = check = md5(data)
-        for it in records:
-            data += record_bytes(start, check, it)
-            check = next_check(start, check, it)
-        store(self.path, data)
-
     def test_a_reply_that_was_changed(self):
         """The reply of a bare piece, and that of a whole request behind it, as no service gives it."""
         self.make(ASKED)
         records = self.records()
         for place, other in ((2, reply(TAKEN, 3, 2)), (3, reply(NODE, 4, 7))):
-            self.rewritten([it._replace(reply=other) if at == place else it for at, it in enumerate(records)])
+            changed = [it._replace(reply=other) if at == place else it for at, it in enumerate(records)]
+            store(self.path, journal_bytes(read(contents(self.path)).header, changed))
             self.ends(run_journal(self.path, ASKED[0]), 3, f"Journal at {place + 1}", other_reply(place + 1))
 
     def test_a_bare_frame_of_a_client(self):

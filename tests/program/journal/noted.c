@@ -1,6 +1,8 @@
 // For LD_PRELOAD: notes in the file CALLS each call on FOLDER and its files, in order, a line for each: what it does, and the
 // file's name (`.` is the folder); `answer` where bytes go to standard output or to a socket. Reads of other files are not noted.
-// The call of the number FAILS, from 1, fails as on a broken disk, or, with INTERRUPTED, as by a signal. All behind it succeed.
+// Where the beginning of a turn is written ahead of it, that is a `mark` and no `write`.
+// The call of the number FAILS, from 1 and without marks, or the mark of the number FAILS_MARK fails as on a broken disk, or, with
+// INTERRUPTED, as by a signal. All behind it succeed.
 #define _GNU_SOURCE
 #include <dlfcn.h>
 #include <errno.h>
@@ -15,7 +17,10 @@
 #include <sys/uio.h>
 #include <unistd.h>
 
-static long calls;
+// the bytes of the beginning of a turn
+#define MARK 17
+
+static long calls, marks;
 
 static const char *text(const char *name) {
     const char *found = getenv(name);
@@ -45,7 +50,8 @@ static const char *name_in(const char *path) {
 static int fails(const char *what, const char *name, const char *more) {
     if (!name) return 0;
     note(what, name, more);
-    if (++calls != atol(text("FAILS"))) return 0;
+    int is_mark = strcmp(what, "mark") == 0;
+    if (is_mark ? ++marks != atol(text("FAILS_MARK")) : ++calls != atol(text("FAILS"))) return 0;
     errno = *text("INTERRUPTED") ? EINTR : EIO;
     return 1;
 }
@@ -101,7 +107,7 @@ ssize_t pread64(int fd, void *bytes, size_t count, off64_t place) {
 }
 
 ssize_t write(int fd, const void *bytes, size_t count) {
-    if (fails_at("write", fd, "")) return -1;
+    if (fails_at(count == MARK && *(const char *)bytes == 1 ? "mark" : "write", fd, "")) return -1;
     note_answer(fd);
     return ((ssize_t(*)(int, const void *, size_t))real("write"))(fd, bytes, count);
 }

@@ -1,9 +1,10 @@
 """A journal that was made smaller (docs/FORMATS.md), written without the program: a command that came again is left out, and
-the pieces and the Finish of a file that was finished or abandoned have no bytes of that file."""
+the pieces and the Finish of a file that was finished or abandoned have no bytes of that file. No record begins a turn: the mark at
+the end says of all of them that they are on the disk."""
 
 import struct
 
-from journal_file import Record, md5, record_bytes
+from journal_file import Record, journal_bytes, md5
 from lib import frames
 from lib.frames import ABANDON, FINISH, HEADER, PIECE
 
@@ -41,17 +42,7 @@ def first_records(records):
 def shortened(records):
     kept = first_records(records)
     ended = ended_files(kept)
-    return [Record(True, smaller_request(it.request, it.reply, ended), it.reply) for it in kept]
-
-
-def journal_bytes(header, records):
-    """A whole journal of these records."""
-    start = check = md5(header)
-    data = header
-    for it in records:
-        data += record_bytes(start, check, it)
-        check = data[-16:]
-    return data
+    return [Record(False, smaller_request(it.request, it.reply, ended), it.reply) for it in kept]
 
 
 def smaller(header, records):

@@ -1,6 +1,6 @@
 //! How the service answers a request: a kept reply again, and a new request by its kind.
 
-ghost use Rattle.std.specs.Prelude.{◌≡◌, ◌≢◌, ◌<◌, ◌^◌, ℕ, true, false, None, Some, IsTrue};
+ghost use Rattle.std.specs.Prelude.{◌≡◌, ◌≢◌, ◌<◌, ◌^◌, ◌&&◌, not, ℕ, true, false, None, Some, IsTrue};
 ghost use Rattle.droid_core_requests.specs.Answering.{AnswersIn};
 ghost use Rattle.droid_core_requests.specs.Changes.{again, answered, is_row_of, stamped};
 ghost use Rattle.droid_core.specs.Handled.{IsHandled};
@@ -31,19 +31,41 @@ use droid_core_requests::{
 use droid_frame::{Refusal, Reply, Request};
 use droid_store::Entry;
 
+/// What came of a request: its reply, and whether it added an entry to the history.
+#[derive(Drop)]
+pub struct Outcome {
+    /// The reply.
+    pub reply: Reply,
+    /// Whether the request is a new command that was accepted. A repeated command is not new, however old it is.
+    pub is_new: bool,
+}
+
 /// Answers the request of a frame. Looks for a kept reply under its number, first in the cache and then in the store, and
 /// judges the request if there is none.
-pub fn answer(service: &mut Service, stamp: Stamp, request: Request) -> Reply
+pub fn answer(service: &mut Service, stamp: Stamp, request: Request) -> Outcome
     requires small { stamp.number < 2 ^ 63 }
     requires version { IsVersion stamp.version }
-    ensures answers { IsHandled stamp request service.old service.new result }
+    ensures answers { IsHandled stamp request service.old service.new result.reply result.is_new }
 {
     if let Some(row) = service.recent.find(stamp.client, stamp.number) {
-        return answer_again(service.holdings.alloc, row, stamp);
+        let reply = answer_again(service.holdings.alloc, row, stamp);
+        return Outcome {
+            reply,
+            is_new: false,
+        };
     }
     match service.holdings.store.reply_of(stamp.client, stamp.number) {
-        Err(fault) => Reply::Refused(Refusal::from(fault)),
-        Ok(Some(row)) => answer_kept(service, stamp, row),
+        Err(fault) => Outcome {
+            reply: Reply::Refused(Refusal::from(fault)),
+            is_new: false,
+        },
+        Ok(Some(row)) => {
+            let reply = answer_kept(service, stamp, row);
+            Outcome {
+                reply,
+                is_new: false,
+            }
+        }
         Ok(None) => answer_new(service, stamp, request),
     }
 }
@@ -52,7 +74,7 @@ pub fn answer(service: &mut Service, stamp: Stamp, request: Request) -> Reply
 /// the reply is the same: another version or mark is refused as such, and only a Finished takes memory to be read.
 fn answer_kept(service: &mut Service, stamp: Stamp, row: Entry) -> Reply
     requires found { reply_for stamp.client stamp.number service.old.holdings.store ≡ Some row }
-    ensures answers { (request : RequestValue) → IsHandled stamp request service.old service.new result }
+    ensures answers { (request : RequestValue) → IsHandled stamp request service.old service.new result false }
     ensures reused { is_row_of row stamp ≡ false → result ≡ Refused NumberReused }
     ensures exact { (kept : ReplyValue) → SpellsReply row.version row.kind row.body kept → row.kind ≢ 132 → result ≡ again row stamp kept }
 {
@@ -61,11 +83,11 @@ fn answer_kept(service: &mut Service, stamp: Stamp, row: Entry) -> Reply
 }
 
 /// Answers a request under a new number by its verdict, and caches the reply to an accepted command.
-fn answer_new(service: &mut Service, stamp: Stamp, request: Request) -> Reply
+fn answer_new(service: &mut Service, stamp: Stamp, request: Request) -> Outcome
     requires new { reply_for stamp.client stamp.number service.old.holdings.store ≡ None }
     requires small { stamp.number < 2 ^ 63 }
     requires version { IsVersion stamp.version }
-    ensures answers { IsHandled stamp request service.old service.new result }
+    ensures answers { IsHandled stamp request service.old service.new result.reply result.is_new }
 {
     let commands = asks_command(&request);
     let outcome = apply(&mut service.holdings, &mut service.last, stamp, request);
@@ -77,7 +99,8 @@ fn answer_new(service: &mut Service, stamp: Stamp, request: Request) -> Reply
         commands,
         &reply,
     );
-    reply
+    let is_new = is_accepted(commands, &reply);
+    Outcome { reply, is_new }
 }
 
 /// Caches the reply to an accepted command, and forgets the text of the last export, which the command has made out of date.
@@ -122,6 +145,13 @@ fn refuses(reply: &Reply) -> bool
     ensures { result ≡ is_refused reply.now }
 {
     matches!(reply, Reply::Refused(_))
+}
+
+/// Whether a request is a command that was accepted.
+fn is_accepted(commands: bool, reply: &Reply) -> bool
+    ensures { result ≡ (commands && not (is_refused reply.now)) }
+{
+    commands && !refuses(reply)
 }
 
 /// Judges a request under a new number, and carries out an accepted command. Keeps the text of an export that leaves

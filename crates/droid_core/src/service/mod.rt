@@ -4,6 +4,7 @@ ghost use Rattle.std.specs.Prelude.{◌≡◌, ◌≢◌, ◌≤◌, ℕ, [], No
 ghost use Rattle.std.specs.List.{AllByRecursion};
 ghost use Rattle.std.specs.NonZero.{non_zero_usize_get};
 ghost use Rattle.droid_core.specs.Cached.{KeepsText, cache_size_of, cached_in, caches};
+ghost use Rattle.droid_core.specs.Handled.{is_added};
 ghost use Rattle.droid_core.specs.KeptBytes.{IsAtMost, kept_bytes_of, most_bytes_of, piece_size_of};
 ghost use Rattle.droid_core.specs.Running.{Runs};
 ghost use Rattle.droid_core.specs.Standing.{Stand, StandsFor, limits_of, registry_of};
@@ -21,6 +22,7 @@ ghost use Rattle.droid_core_spec.specs.Histories.{History, Handles, command, kep
 ghost use Rattle.droid_core_requests.specs.Identified.{IsOf};
 ghost use Rattle.droid_core_spec.specs.Setting.{Setting};
 
+pub use answers::Outcome;
 use answers::answer;
 use droid_core_requests::{Holdings, KeptText, Limits, Stamp, UnfinishedFiles};
 use droid_frame::{BodyFault, Frame, Refusal, Reply, mark, request_of};
@@ -138,26 +140,31 @@ impl Service {
             → IsTrue (is_followed from max result) → KeepsText profile filter self.new }
     {
         let mark = mark(frame.kind, frame.body.as_slice());
-        self.handle_marked(frame, mark)
+        let handled = self.handle_marked(frame, mark);
+        handled.reply
     }
 
-    /// The same as [`Service::handle`], for who has computed the mark of the request before.
-    pub fn handle_marked(&mut self, frame: Frame, mark: [u8; 16]) -> Reply
+    /// Does what [`Service::handle`] does, with the mark of the request, and also returns whether the request is a new
+    /// command that was accepted.
+    pub fn handle_marked(&mut self, frame: Frame, mark: [u8; 16]) -> Outcome
         requires mark { mark ≡ mark_of frame.kind frame.body }
         requires bytes { IsBytes frame.body }
         ensures handles { (setting : Setting) (history : History) → StandsFor setting self.old history →
-            Handles setting history frame result (StandsFor setting self.new) }
-        ensures no_store { (setting : Setting) (history : History) → StandsFor setting self.old history → result ≢ Refused refusals.Store }
-        ensures spelled { HasReplySpelling frame.version result }
-        ensures other_version { is_version frame.version ≡ false → result ≡ Refused refusals.Malformed }
+            Handles setting history frame result.reply (StandsFor setting self.new) }
+        ensures no_store { (setting : Setting) (history : History) → StandsFor setting self.old history → result.reply ≢ Refused refusals.Store }
+        ensures spelled { HasReplySpelling frame.version result.reply }
+        ensures other_version { is_version frame.version ≡ false → result.reply ≡ Refused refusals.Malformed }
         ensures limits { limits_of self.new ≡ limits_of self.old }
         ensures registry { registry_of self.new ≡ registry_of self.old }
         ensures cache { cache_size_of self.new ≡ cache_size_of self.old }
 
+        // Nothing else adds an entry to the history: no repeat does, no query, and no refusal.
+        ensures is_new { (setting : Setting) (history : History) → StandsFor setting self.old history → result.is_new ≡ is_added setting history frame result.reply }
+
         // The part that follows needs no new export: the text is kept if this part leaves something of it unread.
         ensures text { (setting : Setting) (history : History) (profile from max : ℕ) (filter : Filter) → StandsFor setting self.old history
             → command frame ≡ Some (requests.Export profile from max filter) → kept history frame.client frame.number ≡ None
-            → IsTrue (is_followed from max result) → KeepsText profile filter self.new }
+            → IsTrue (is_followed from max result.reply) → KeepsText profile filter self.new }
     {
         let stamp = Stamp {
             client: frame.client,
@@ -167,8 +174,14 @@ impl Service {
         };
         match request_of(self.holdings.alloc, frame) {
             Ok(request) => answer(self, stamp, request),
-            Err(BodyFault::Malformed) => Reply::Refused(Refusal::Malformed),
-            Err(BodyFault::Memory) => Reply::Refused(Refusal::Memory),
+            Err(BodyFault::Malformed) => Outcome {
+                reply: Reply::Refused(Refusal::Malformed),
+                is_new: false,
+            },
+            Err(BodyFault::Memory) => Outcome {
+                reply: Reply::Refused(Refusal::Memory),
+                is_new: false,
+            },
         }
     }
 

@@ -1,4 +1,4 @@
-use Rattle.std.proofs.Common.{◌≡◌, ◌∙◌, ℕ, Err, ap, sym, inl, inr}
+use Rattle.std.proofs.Common.{◌≡◌, Err, ap, inl, inr}
 use Rattle.droid_wire.specs.with_journal.service.journal.declared.journal_fault.Fault.TheVariants as faults
 use Rattle.droid_desk_service.proofs.journal.open_small.Goals as goal
 

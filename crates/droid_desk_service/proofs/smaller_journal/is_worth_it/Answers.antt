@@ -1,4 +1,4 @@
-use Rattle.std.proofs.Common.{◌≡◌, List, ℕ, sym, subst}
+use Rattle.std.proofs.Common.{List, ℕ, sym, subst}
 use Rattle.std.proofs.lemmas.Result.{IfOk-weaker}
 use Rattle.droid_desk_service.specs.Journals.{IsHeaderOf}
 use Rattle.droid_desk_service.proofs.smaller_journal.is_worth_it.Goals as goal

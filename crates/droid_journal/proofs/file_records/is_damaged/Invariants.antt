@@ -6,5 +6,5 @@ abbrev pub invariant-loop : goal.invariant-loop
 invariant-loop g l = record {
   window : length l.buffer ≡ 16777216;
   above : l.from ≤ l.at;
-  none : (s : List ℕ) → g.F.LogFile.has l.file s → NoneBelow l.start s l.from l.at;
+  none : (s : List ℕ) → g.F.LogFile.has l.file s → NoneBelow l.key s l.from l.at;
 }

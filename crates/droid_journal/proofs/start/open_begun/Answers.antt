@@ -9,5 +9,5 @@ returns-clause-opened g c = λ s here.
     let made = c.in-Ok.ensures.made s here begun in (
       [],
       Begun c.args.count begun refl,
-      λ setting st. (ready_begun g.F.LogFile.has g.F.LogFile.kept (g.M.Machine.stands setting) c.args.header.now c.make_header.new.file _ made.0 made.1 st c.start_of-start.ensures c.start_of-start.ensures refl, tt),
+      λ setting st. (ready_begun g.F.LogFile.has g.F.LogFile.kept (g.M.Machine.stands setting) c.args.header.now c.make_header.new.file _ made.0 made.1 st c.key_of.ensures c.first_place.ensures refl, tt),
     )

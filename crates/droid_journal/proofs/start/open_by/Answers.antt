@@ -1,5 +1,6 @@
 use Rattle.std.proofs.Common.{◌≡◌, Err, ap}
 use Rattle.droid_journal.specs.declared.journal_fault.Fault.TheVariants as faults
+use Rattle.droid_journal.proofs.Openings.{no_begun}
 use Rattle.droid_journal.proofs.start.open_by.Goals as goal
 
 pub open_whole-requires-clause-begins : goal.open_whole-requires-clause-begins
@@ -31,3 +32,6 @@ returns-in-Err-clause-other_header g c = λ reported s here.
 
 pub returns-in-Whole-clause-other_header : goal.returns-in-Whole-clause-other_header
 returns-in-Whole-clause-other_header g c = λ reported s here. absurd (c.open_whole.ensures.others reported)
+
+pub returns-in-Ok-open_begun-clause-stays : goal.returns-in-Ok-open_begun-clause-stays
+returns-in-Ok-open_begun-clause-stays g c = λ s here its form fits whole. absurd (no_begun c.args.header.now s its c.in-Part.count (rw c.in-Part.is at (c.in-Ok.ensures.begins s here)) whole)

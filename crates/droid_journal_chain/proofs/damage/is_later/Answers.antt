@@ -1,46 +1,14 @@
-use Rattle.std.proofs.Common.{rules, ◌≡◌, ◌∙◌, ℕ, List, get_or, take, drop, Some, None, sym, ap₂, subst, arith}
-use Rattle.std.specs.Prelude.{IsTrue}
-use Rattle.droid_journal_chain.specs.Records.{made, sealed}
-use Rattle.droid_journal_chain.specs.Reading.{record_at}
-use Rattle.droid_journal_chain.proofs.RecordLaws.{Answer, later_byte, later_found, later_first, later_none, later_sealed, later_short}
+use Rattle.droid_journal_chain.proofs.RecordLaws.{before_later, later_before, later_mark, mark_later}
 use Rattle.droid_journal_chain.proofs.damage.is_later.Goals as goal
 
-pub returns-then-bytes-le-CHECK : goal.returns-then-bytes-le-CHECK
-returns-then-bytes-le-CHECK c = (λ is. absurd cc, λ later. absurd (later_short c.args.start.now c.args.bytes.now (omega arith) later))
-
-pub returns-then-bytes-ne1 : goal.returns-then-bytes-ne1
-returns-then-bytes-ne1 c = (
-  λ is. absurd cc,
-  λ later. absurd (let byte : get_or c.args.bytes.now 16 0 ≡ 1 = later_byte c.args.start.now c.args.bytes.now later in omega arith),
+pub returns-in-Before : goal.returns-in-Before
+returns-in-Before c = (
+  λ is. later_before c.args.key c.args.at c.args.bytes.now c.in-Before.is (c.is_later_before.ensures.0 is),
+  λ later. c.is_later_before.ensures.1 (before_later c.args.key c.args.at c.args.bytes.now c.in-Before.is later),
 )
 
-pub returns-then-not-is_sealed : goal.returns-then-not-is_sealed
-returns-then-not-is_sealed c = (
-  λ is. absurd cc,
-  λ later.
-      let was = later_sealed c.args.start.now c.args.bytes.now later in
-      let shown : IsTrue c.is_sealed.result = c.is_sealed.ensures.1 (subst (λ (t : List ℕ). t ≡ sealed c.args.start.now (take 12 t)) (sym c.split_at.ensures.front) was) in
-      absurd cc,
+pub returns-in-Present : goal.returns-in-Present
+returns-in-Present c = (
+  λ is. later_mark c.args.key c.args.at c.args.bytes.now c.in-Present.is (c.is_mark.ensures.0 is),
+  λ later. c.is_mark.ensures.1 (mark_later c.args.key c.args.at c.args.bytes.now c.in-Present.is later),
 )
-
-pub returns-in-Some : goal.returns-in-Some
-returns-in-Some c =
-    let bytes = c.args.bytes.now in
-    let x : Answer = (made c.in-Some.found.first c.in-Some.found.request.now c.in-Some.found.reply.now, c.in-Some.found.check, c.in-Some.found.rest.now) in
-    let read : record_at c.args.start.now (take 16 bytes) (drop 16 bytes) ≡ Some x =
-    ap₂ (λ front behind. record_at c.args.start.now front behind) (sym c.split_at.ensures.front) (sym c.split_at.ensures.back) ∙ c.in-Some.ensures.read in
-    let shown : IsTrue c.is_sealed.result = search rules in
-    let is_sealed : take 16 bytes ≡ sealed c.args.start.now (take 12 (take 16 bytes)) =
-    subst (λ (t : List ℕ). t ≡ sealed c.args.start.now (take 12 t)) c.split_at.ensures.front (c.is_sealed.ensures.0 shown) in (
-      λ first. later_found c.args.start.now bytes x (λ i. omega (arith, c.type_inv.bytes i)) (omega arith) is_sealed read first,
-      λ later. later_first c.args.start.now bytes x read later,
-    )
-
-pub returns-in-None : goal.returns-in-None
-returns-in-None c =
-    let bytes = c.args.bytes.now in
-    let read : record_at c.args.start.now (take 16 bytes) (drop 16 bytes) ≡ None =
-    ap₂ (λ front behind. record_at c.args.start.now front behind) (sym c.split_at.ensures.front) (sym c.split_at.ensures.back) ∙ c.in-None.ensures.read in (
-      λ is. absurd cc,
-      λ later. absurd (later_none c.args.start.now bytes read later),
-    )

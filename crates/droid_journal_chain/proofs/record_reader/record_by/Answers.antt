@@ -1,22 +1,42 @@
-use Rattle.std.proofs.Common.{Option, Some, None, arith}
-use Rattle.std.specs.Prelude.{IfNone, IfSome}
-use Rattle.droid_journal_chain.specs.Chains.{BeginsNoRecord, BeginsWith}
-use Rattle.droid_journal_chain.specs.Reading.{Gives, record_at}
+use Rattle.std.proofs.Common.{◌≡◌, ◌+◌, ◌≤◌, ℕ, List, Some, length, sym, arith}
+use Rattle.droid_journal_chain.specs.Records.{made, place_after, record_bytes}
+use Rattle.droid_journal_chain.specs.Reading.{record_at}
+use Rattle.droid_journal_chain.specs.declared.key.Key.{Key}
+use Rattle.droid_journal_chain.specs.declared.place.Place.{Place}
 use Rattle.droid_journal_chain.proofs.Bytes.{IsBytes}
-use Rattle.droid_journal_chain.proofs.RecordLaws.{Answer, begins_none, record_takes}
+use Rattle.droid_journal_chain.proofs.Chains.{place_same}
+use Rattle.droid_journal_chain.proofs.RecordLaws.{Answer, begins_none, read_size, record_takes}
 use Rattle.droid_journal_chain.proofs.record_reader.record_by.Goals as goal
 
-found : {X : Type 0} (view : X → Answer) (r : Option X) (start check bytes : _) → IsBytes bytes → Gives view r (record_at start check bytes)
-    → IfSome r (λ x. BeginsWith start check bytes (view x).0 (view x).1 (view x).2)
-found view (Some x) start check bytes small gave = record_takes start check bytes (view x) small gave
-found view None start check bytes small gave = tt
+-- the sizes of what was read
+sizes : (key : Key) (place : Place) (bytes : List ℕ) (x : Answer) → IsBytes bytes → record_at key place bytes ≡ Some x
+    → (length bytes ≡ length (record_bytes key place x.0) + length x.2) × (1 ≤ length (record_bytes key place x.0))
+sizes key place bytes x small read = let taken = record_takes key place bytes x small read in read_size key place bytes x.0 x.2 taken.begins.parts
 
-none : {X : Type 0} (view : X → Answer) (r : Option X) (start check bytes : _) → Gives view r (record_at start check bytes) → IfNone r (BeginsNoRecord start check bytes)
-none view (Some x) start check bytes gave = tt
-none view None start check bytes gave = begins_none start check bytes gave
+pub returns-in_default-clause-none : goal.returns-in_default-clause-none
+returns-in_default-clause-none c = begins_none c.args.key c.args.place c.args.bytes.now c.in_default.ensures.read
+
+pub overflow_sub-size : goal.overflow_sub-size
+overflow_sub-size c =
+    let read = c.in-Some.read in
+    let x : Answer = (made read.first read.request.now read.reply.now, read.check, read.rest.now) in
+    let size = sizes c.args.key c.args.place c.args.bytes.now x (λ i. omega (arith, c.type_inv.bytes i)) c.in-Some.ensures.read in
+    omega (arith, size.0)
+
+pub overflow_add-after-2 : goal.overflow_add-after-2
+overflow_add-after-2 c =
+    let read = c.in-Some.read in
+    let x : Answer = (made read.first read.request.now read.reply.now, read.check, read.rest.now) in
+    let size = sizes c.args.key c.args.place c.args.bytes.now x (λ i. omega (arith, c.type_inv.bytes i)) c.in-Some.ensures.read in
+    record { fits = omega (arith, size.0, size.1, c.requires.records) }
 
 pub returns-clause-found : goal.returns-clause-found
-returns-clause-found c = found _ c.read_record.result c.args.start.now c.args.check.now c.args.bytes.now (λ i. omega (arith, c.type_inv.bytes i)) c.read_record.ensures.read
-
-pub returns-clause-none : goal.returns-clause-none
-returns-clause-none c = none _ c.read_record.result c.args.start.now c.args.check.now c.args.bytes.now c.read_record.ensures.read
+returns-clause-found c =
+    let key = c.args.key in
+    let place = c.args.place in
+    let bytes = c.args.bytes.now in
+    let read = c.in-Some.read in
+    let x : Answer = (made read.first read.request.now read.reply.now, read.check, read.rest.now) in
+    let taken = record_takes key place bytes x (λ i. omega (arith, c.type_inv.bytes i)) c.in-Some.ensures.read in
+    let size = read_size key place bytes x.0 x.2 taken.begins.parts in
+    record { parts = taken.begins.parts; fits = taken.begins.fits; after_is = place_same _ (place_after key place x.0) (omega (arith, size.0)) taken.check_is (omega arith) }

@@ -1,9 +1,8 @@
-use Rattle.droid_journal_chain.proofs.RecordLaws.{length-record}
-use Rattle.droid_journal_rewriting.proofs.Sizes.{finish_size, other_size, piece_size, total_size, unfinished_size}
+use Rattle.droid_journal_rewriting.proofs.Sizes.{finish_size, other_size, piece_size, record_size, total_size, unfinished_size}
 use Rattle.droid_journal_rewriting.proofs.laws.a_smaller_journal_is_small.Goals as goal
 
 pub returns-clause-record : goal.returns-clause-record
-returns-clause-record c = length-record
+returns-clause-record c = record_size
 
 pub returns-clause-total : goal.returns-clause-total
 returns-clause-total c = total_size

@@ -1,5 +1,5 @@
 use Rattle.std.proofs.Common.{◌≡◌, List, [], refl, subst}
-use Rattle.droid_journal_chain.specs.Chains.{journal_bytes}
+use Rattle.droid_journal_chain.specs.Chains.{marked_bytes}
 use Rattle.droid_journal_chain.specs.Records.{AllFit, Record}
 use Rattle.droid_journal_rewriting.specs.Numbers.{has_number}
 use Rattle.droid_journal_rewriting.specs.Shortening.{has_ended, once, shortened, smaller_by}
@@ -9,19 +9,19 @@ use Rattle.droid_journal_rewriting.proofs.new_file.rewrite_by.Goals as goal
 
 pub returns-in-Ok-write_anew-clause-rewritten : goal.returns-in-Ok-write_anew-clause-rewritten
 returns-in-Ok-write_anew-clause-rewritten g c = λ s here empty.
-    let header = c.args.header.now in
+    let new = c.args.new_header.now in
     let ended = has_number c.in-Ok.ended in
     let all = c.in-Ok-write_anew.ensures.written s ended here empty (λ file. refl) in
     let its : List Record = all.0 in
     let same : smaller_by ended its ≡ shortened its = smaller_by_same ended (has_ended (once [] its)) its (c.in-Ok.ensures.ended s its here all.1) in (
-      journal_bytes header (shortened its),
+      marked_bytes new (shortened its),
       (its, all.1, subst AllFit same all.2, refl),
-      subst (λ (xs : List Record). g.N.LogFile.has c.in-Ok-write_anew.smaller.file (journal_bytes header xs)) same all.3,
+      subst (λ (xs : List Record). g.N.LogFile.has c.in-Ok-write_anew.smaller.file (marked_bytes new xs)) same all.3,
     )
 
 pub returns-in-Ok-write_anew-clause-sizes : goal.returns-in-Ok-write_anew-clause-sizes
 returns-in-Ok-write_anew-clause-sizes g c = λ s here empty.
-    let header = c.args.header.now in
+    let new = c.args.new_header.now in
     let ended = has_number c.in-Ok.ended in
     let all = c.in-Ok-write_anew.ensures.written s ended here empty (λ file. refl) in
     let its : List Record = all.0 in
@@ -29,5 +29,5 @@ returns-in-Ok-write_anew-clause-sizes g c = λ s here empty.
       its,
       all.1,
       all.4,
-      subst (λ (xs : List Record). IsSizeOf (journal_bytes header xs) xs c.in-Ok-write_anew.smaller.after) same all.5,
+      subst (λ (xs : List Record). IsSizeOf (marked_bytes new xs) xs c.in-Ok-write_anew.smaller.after) same all.5,
     )

@@ -1,24 +1,30 @@
 use Rattle.std.proofs.Common.{◌++◌, [], refl, arith}
-use Rattle.droid_journal_rewriting.proofs.Going.{chain_long}
-use Rattle.droid_journal_rewriting.proofs.Passing.{passes_none, passes_on, stand_on}
+use Rattle.droid_journal_chain.proofs.Chains.{chain_long}
+use Rattle.droid_journal_rewriting.proofs.Passing.{at_is, passes_none, passes_on, records_is, stand_on}
 use Rattle.droid_journal_rewriting.proofs.walk.take_all.Goals as goal
 
 pub loop-init : goal.loop-init
-loop-init g c = record { window = c.requires.window; so_far = ([], passes_none g.T.Taker.took c.args.start.now c.args.taker.now c.args.from, λ s here. refl) }
+loop-init g c = record { window = c.requires.window; so_far = ([], passes_none g.T.Taker.took c.args.key c.args.taker.now c.args.from, λ s here. refl) }
 
 pub take_some-requires-clause-count : goal.take_some-requires-clause-count
 take_some-requires-clause-count g c =
     let p = c.loop.invariant.so_far in
-    omega (arith, p.1.at_is, p.1.count, chain_long c.args.start.now c.args.from.check p.0, c.requires.count)
+    omega (
+      arith,
+      at_is g.T.Taker.took c.args.key c.args.taker.now c.loop.taker c.args.from c.loop.place p.0 p.1,
+      records_is g.T.Taker.took c.args.key c.args.taker.now c.loop.taker c.args.from c.loop.place p.0 p.1,
+      chain_long c.args.key c.args.from p.0,
+      c.requires.count,
+    )
 
 pub returns-then-next-place-clause-passes : goal.returns-then-next-place-clause-passes
 returns-then-next-place-clause-passes g c =
     let p = c.loop.invariant.so_far in
     let q = c.in-Ok.ensures.passes in (
       p.0 ++ q.0,
-      passes_on g.T.Taker.took c.args.start.now c.args.taker.now c.loop.taker c.take_some.new.taker c.args.from c.loop.place c.in-Ok.next p.0 q.0 p.1 q.1,
+      passes_on g.T.Taker.took c.args.key c.args.taker.now c.loop.taker c.take_some.new.taker c.args.from c.loop.place c.in-Ok.next p.0 q.0 p.1 q.1,
       λ s here. record {
-        joined = stand_on g.T.Taker.took c.args.start.now s c.args.taker.now c.loop.taker c.args.from c.loop.place c.in-Ok.next p.0 q.0 p.1 (p.2 s here) (q.2 s here);
+        joined = stand_on g.T.Taker.took c.args.key s c.args.taker.now c.loop.taker c.args.from c.loop.place c.in-Ok.next p.0 q.0 p.1 (p.2 s here) (q.2 s here);
         ends = c.in-Ok.ensures.ends c.if-next-place.true s here;
       },
     )
@@ -31,7 +37,7 @@ loop-preserved g c =
       window = c.take_some.ensures.window;
       so_far = (
         p.0 ++ q.0,
-        passes_on g.T.Taker.took c.args.start.now c.args.taker.now c.loop.taker c.take_some.new.taker c.args.from c.loop.place c.in-Ok.next p.0 q.0 p.1 q.1,
-        λ s here. stand_on g.T.Taker.took c.args.start.now s c.args.taker.now c.loop.taker c.args.from c.loop.place c.in-Ok.next p.0 q.0 p.1 (p.2 s here) (q.2 s here),
+        passes_on g.T.Taker.took c.args.key c.args.taker.now c.loop.taker c.take_some.new.taker c.args.from c.loop.place c.in-Ok.next p.0 q.0 p.1 q.1,
+        λ s here. stand_on g.T.Taker.took c.args.key s c.args.taker.now c.loop.taker c.args.from c.loop.place c.in-Ok.next p.0 q.0 p.1 (p.2 s here) (q.2 s here),
       );
     }

@@ -1,7 +1,10 @@
 use Rattle.std.proofs.Common.{◌≡◌, ℕ, List, Some, refl, sym, ap, ◌∙◌}
+use Rattle.droid_frame.specs.types.refusal.Refusal.TheVariants.{Malformed}
+use Rattle.droid_frame.specs.types.reply.Reply.TheVariants.{Refused}
 use Rattle.droid_core_requests.specs.stamps.Stamp.{Stamp}
 use Rattle.droid_core_spec.proofs.Asked.{asked, is_asked, nothing_asked}
 use Rattle.droid_core.specs.Standing.{StandsFor}
+use Rattle.droid_core.proofs.Added.{malformed_adds}
 use Rattle.droid_core.proofs.Handling.{handles_malformed, never_store}
 use Rattle.droid_core.proofs.service.Service.handle_marked.Goals as goal
 
@@ -55,3 +58,14 @@ returns-in-Err-Memory-clause-other_version c = λ isnt.
     let spelled = (rw c.in-Err-Memory.field-0-is at c.in-Err-Memory.ensures.memory) refl in
     let is = spelled.3.version_is in
     absurd cc
+
+pub returns-in-Ok-clause-is_new : goal.returns-in-Ok-clause-is_new
+returns-in-Ok-clause-is_new c = λ setting history stands.
+    let frame = c.args.frame in
+    let stamp : List ℕ → Stamp = λ mark. record { client = frame.client; number = frame.number; version = frame.version; mark = mark } in
+    let spelled = c.in-Ok.ensures.found in
+    c.answer.ensures.answers.newness setting history frame (ap stamp c.requires.mark) (asked frame c.in-Ok.request spelled.0 spelled.1) stands
+
+pub returns-in-Err-Malformed-clause-is_new : goal.returns-in-Err-Malformed-clause-is_new
+returns-in-Err-Malformed-clause-is_new c = λ setting history stands.
+    malformed_adds setting history c.args.frame (Refused Malformed) (nothing_asked c.args.frame c.requires.bytes ((rw c.in-Err-Malformed.field-0-is at c.in-Err-Malformed.ensures.malformed).0 refl))

@@ -2,6 +2,7 @@ use Rattle.std.proofs.Common.{◌≡◌, Some, refl, subst}
 use Rattle.droid_core_requests.specs.stamps.Stamp.{Stamp}
 use Rattle.droid_store.specs.Rows.{reply_for}
 use Rattle.droid_core.specs.declared.service.Service.{Service}
+use Rattle.droid_core.proofs.Added.{repeated_adds}
 use Rattle.droid_core.proofs.Handling.{answers_again}
 use Rattle.droid_core.proofs.Recalling.{kept_in_store, not_new, with_recent}
 use Rattle.droid_core.proofs.service.answers.answer_kept.Goals as goal
@@ -24,4 +25,5 @@ returns-clause-answers c = λ request.
       cache = c.put_copy.ensures.room;
       text = λ setting history profile from max filter stands is is_new followed.
           not_new history c.args.stamp.client c.args.stamp.number c.args.row (kept_in_store history holdings.store c.args.stamp.client c.args.stamp.number c.args.row stands.holdings.replies c.requires.found) is_new;
+      newness = λ setting history frame is asks stands. repeated_adds setting holdings history frame request c.args.stamp c.args.row c.answer_again.result is asks c.requires.found stands.holdings;
     }

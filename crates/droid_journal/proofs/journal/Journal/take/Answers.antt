@@ -5,7 +5,7 @@ use Rattle.droid_journal_chain.specs.Chains.{journal_bytes}
 use Rattle.droid_journal_chain.specs.Fronts.{IsFront}
 use Rattle.droid_journal_chain.specs.Records.{made}
 use Rattle.droid_journal.specs.Machines.{extended, record_of}
-use Rattle.droid_journal.specs.Standing.{Stands}
+use Rattle.droid_journal.specs.Standing.{Stands, ahead_bytes}
 use Rattle.droid_journal.proofs.Standing.{noted, part_front, turn_more}
 use Rattle.droid_journal.proofs.journal.Journal.take.Goals as goal
 
@@ -15,6 +15,25 @@ returns-then-not-is_carried-clause-taken g c = λ setting header synced all st. 
   false,
   inr (refl, inr (λ readable. let is : c.is_carried.result ≡ true = c.is_carried.ensures.readable readable in let isnt : c.is_carried.result ≡ false = search rules in absurd cc, refl)),
   st,
+)
+
+-- the rooms are no part of what the journal stands for
+pub returns-in-Err-clause-taken : goal.returns-in-Err-clause-taken
+returns-in-Err-clause-taken g c = λ setting header synced all st. (
+  true,
+  false,
+  inr (refl, inl refl),
+  record {
+    machine = st.machine;
+    file = st.file;
+    on_disk = st.on_disk;
+    turn = st.turn;
+    key = st.key;
+    place = st.place;
+    fit = st.fit;
+    clean = st.clean;
+    begins = st.begins;
+  },
 )
 
 pub handle-handled-requires : goal.handle-handled-requires
@@ -48,10 +67,11 @@ returns-then-not-handled-clause-taken g c = λ setting header synced all st.
         file = st.file;
         on_disk = st.on_disk;
         turn = st.turn;
-        start = st.start;
-        check = st.check;
+        key = st.key;
+        place = st.place;
         fit = st.fit;
         clean = st.clean;
+        begins = st.begins;
       },
     )
 
@@ -68,7 +88,7 @@ returns-in-Ok-note-clause-taken g c = λ setting header synced all st.
     let stood_here = subst (λ (q : List ℕ). g.M.Machine.stands setting c.handle-handled.new.self (all ++ made first q reply ∷ [])) (sym request_is) stood in
     let stood_there = subst (λ (m : g.row.M.Denot). g.M.Machine.stands setting m (all ++ made first c.deref.result.now reply ∷ [])) (sym c.note.ensures.machine) stood_here in
     let after = noted g.F.LogFile.has g.F.LogFile.kept (g.M.Machine.stands setting) header old c.note.new.self synced all (made first c.deref.result.now reply) st c.in-Ok-note.ensures.fits refl
-    (c.in-Ok-note.ensures.appended (journal_bytes header all) st.file) c.note.ensures.kept stood_there c.note.ensures.start c.in-Ok-note.ensures.check c.in-Ok-note.ensures.unsynced in (
+    (c.in-Ok-note.ensures.appended (journal_bytes header all ++ ahead_bytes header all old.ahead) st.file) c.note.ensures.kept stood_there c.note.ensures.key c.in-Ok-note.ensures.place c.in-Ok-note.ensures.ahead c.in-Ok-note.ensures.unsynced in (
       first,
       true,
       inl (subst (λ (b : Bool). g.M.Machine.gives setting all frame handled.reply b) was (c.handle-handled.ensures.gives setting all st.machine)),
@@ -84,13 +104,26 @@ returns-clause-part g c = λ setting header synced all st.
     let reply : List ℕ = reply_frame frame.version frame.client frame.number handled.reply in
     let was : handled.accepted ≡ true = search rules in
     let request_is : c.deref.result.now ≡ frame_bytes frame = c.deref.ensures.value ∙ c.in-Ok.ensures in
-    let left = c.in-Err.ensures.part (journal_bytes header all) st.file in
-    let front = part_front g.F.LogFile.has g.F.LogFile.kept (g.M.Machine.stands setting) header old synced all (made first c.deref.result.now reply) left.0 st left.2 in
+    let start : List ℕ = journal_bytes header all ++ ahead_bytes header all old.ahead in
+    let left = c.in-Err-note.ensures.part start st.file in
+    let front = part_front g.F.LogFile.has g.F.LogFile.kept (g.M.Machine.stands setting) header old synced all (made first c.deref.result.now reply) left.0 st refl left.2 in
     record {
       written = all ++ record_of first frame handled.reply ∷ [];
       turn = turn_more synced all (record_of first frame handled.reply) old.unsynced st.clean refl st.turn;
-      bytes = journal_bytes header all ++ left.0;
+      bytes = start ++ left.0;
       in_file = left.1;
-      front = subst (λ (q : List ℕ). IsFront (journal_bytes header all ++ left.0) (journal_bytes header (all ++ made first q reply ∷ []))) request_is front;
-      which = inr (first, handled.reply, subst (λ (b : Bool). g.M.Machine.gives setting all frame handled.reply b) was (c.handle-handled.ensures.gives setting all st.machine), refl);
+      front = subst (λ (q : List ℕ). IsFront (start ++ left.0) (journal_bytes header (all ++ made first q reply ∷ []))) request_is front;
+      which = (first, handled.reply, subst (λ (b : Bool). g.M.Machine.gives setting all frame handled.reply b) was (c.handle-handled.ensures.gives setting all st.machine), refl);
     }
+
+pub returns-in-Ok-note-clause-unwritten : goal.returns-in-Ok-note-clause-unwritten
+returns-in-Ok-note-clause-unwritten g c = λ setting records st none.
+    let handled = c.handle-handled.result in
+    let was : handled.accepted ≡ true = search rules in
+    absurd (none handled.reply (subst (λ (b : Bool). g.M.Machine.gives setting records c.args.frame handled.reply b) was (c.handle-handled.ensures.gives setting records st)))
+
+pub returns-clause-unwritten : goal.returns-clause-unwritten
+returns-clause-unwritten g c = λ setting records st none.
+    let handled = c.handle-handled.result in
+    let was : handled.accepted ≡ true = search rules in
+    absurd (none handled.reply (subst (λ (b : Bool). g.M.Machine.gives setting records c.args.frame handled.reply b) was (c.handle-handled.ensures.gives setting records st)))

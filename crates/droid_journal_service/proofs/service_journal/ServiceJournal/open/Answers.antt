@@ -8,7 +8,7 @@ returns-in-Ok-clause-opened g c = λ setting s fresh here.
     let start : Start = record { setting = setting; base = no_base setting } in
     let stands : StandsForRecords setting (no_base setting) c.args.fresh [] = record { history = []; its = no_history setting; stands = fresh } in
     let found = c.in-Ok.ensures.opened s here in
-    let settled = c.begun.ensures.settled setting (no_base setting) c.args.header.now found.0 (c.new.ensures.settled start c.args.header.now found.0 (found.2 start stands).0) in
+    let settled = c.begun.ensures.settled setting (no_base setting) c.args.header.now found.0 (found.2 start stands).0 in
     let its = settled.machine.its in (
       found.0,
       settled.machine.history,
@@ -22,7 +22,7 @@ returns-in-Ok-clause-reopened g c = λ setting s synced all fresh here left.
     let start : Start = record { setting = setting; base = no_base setting } in
     let stands : StandsForRecords setting (no_base setting) c.args.fresh [] = record { history = []; its = no_history setting; stands = fresh } in
     let opened = c.in-Ok.ensures.reopened start s left.first left.written here stands left.fit left.front left.chance in
-    let settled = c.begun.ensures.settled setting (no_base setting) c.args.header.now opened.0 (c.new.ensures.settled start c.args.header.now opened.0 opened.1) in
+    let settled = c.begun.ensures.settled setting (no_base setting) c.args.header.now opened.0 opened.1 in
     let its = settled.machine.its in (
       settled.machine.history,
       record { base = no_base setting; first = opened.0; records = opened.0; stands = settled; on_disk = its; accepted = its },

@@ -1,5 +1,5 @@
-use Rattle.std.proofs.Common.{◌≡◌, inl, inr, ℕ, Bool, true, false, List, [], Option, Err, ap}
-use Rattle.std.specs.Prelude.{IfOk, IfSome, IsSome}
+use Rattle.std.proofs.Common.{◌≡◌, inl, inr, false, [], Err, ap}
+use Rattle.std.specs.Prelude.{IfOk, IfSome}
 use Rattle.std.proofs.lemmas.Result.{IfOk-weaker}
 use Rattle.droid_journal_smaller.specs.core.Histories.{History}
 use Rattle.droid_journal_smaller.specs.recovery.revival.BareWorlds.{Bare}
@@ -7,9 +7,8 @@ use Rattle.droid_journal_disk.specs.chain.Records.{Record}
 use Rattle.droid_journal_disk.specs.journal.declared.journal_fault.Fault.TheVariants as faults
 use Rattle.droid_journal_smaller.specs.recovery.Standing.{Recovery}
 use Rattle.droid_journal_smaller.specs.recovery.BareRecords.{LeadTo}
-use Rattle.droid_journal_service.specs.Histories.{HasBare, IsBetween}
+use Rattle.droid_journal_service.specs.Histories.{HasBare}
 use Rattle.droid_journal_service.specs.Standing.{ReadsRecords, StandsForHistory}
-use Rattle.droid_journal_service.specs.declared.service_journal.ServiceJournal.{ServiceJournal}
 use Rattle.droid_journal_service.proofs.HistoryLaws.{as_behind_nothing, as_history, bare_front, none_small, some_history}
 use Rattle.droid_journal_service.proofs.Results.{both_there, each_there, none_there, only_memory, some_there, some_weaker}
 use Rattle.droid_journal_service.proofs.SmallHistories.{found_small}

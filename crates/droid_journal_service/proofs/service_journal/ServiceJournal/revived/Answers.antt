@@ -1,12 +1,13 @@
 use Rattle.std.proofs.Common.{rules, ◌≡◌, true, false, List, sym, subst, ◌∙◌, inr}
 use Rattle.droid_journal_smaller.specs.core.Histories.{world_of}
 use Rattle.droid_journal_smaller.proofs.recovery.revival.EndedFiles.{have_ended}
-use Rattle.droid_journal_disk.specs.journal.Opening.{IsReady}
+use Rattle.droid_journal_disk.specs.chain.Records.{Record}
 use Rattle.droid_journal_smaller.specs.recovery.Standing.{Recovery}
 use Rattle.droid_journal_service.specs.Histories.{Base, Start, StandsForRecords}
 use Rattle.droid_journal_service.specs.Standing.{ReadsRecords}
 use Rattle.droid_journal_service.specs.declared.service_machine.ServiceMachine.{ServiceMachine}
 use Rattle.droid_journal_service.specs.declared.small_reader.SmallReader.{SmallReader}
+use Rattle.droid_journal_service.proofs.Exchanged.{ready_with}
 use Rattle.droid_journal_service.proofs.HistoryLaws.{no_more}
 use Rattle.droid_journal_service.proofs.service_journal.ServiceJournal.revived.Goals as goal
 
@@ -31,13 +32,8 @@ returns-clause-stands g c = λ setting bare header its history ready small.
     let start : Start = record { setting = setting; base = base } in
     let stands = c.in-Ok.ensures.stands recovery its history reads.recovers small.have (have_ended bare (world_of setting history) small.ended) in
     let machine : StandsForRecords setting base c.in-Ok.service its = record { history = history; its = no_more setting base; stands = stands } in
-    let settled = c.new-journal.ensures.settled start header its (record {
-      machine = subst (λ (m : ServiceMachine). StandsForRecords setting base m.service its) (sym c.with-nothing.ensures.new) machine;
-      file_is = ready.file_is;
-      on_disk = ready.on_disk;
-      start = c.with-nothing.ensures.start ∙ c.with-reader.ensures.start ∙ ready.start;
-      check = c.with-nothing.ensures.check ∙ c.with-reader.ensures.check ∙ ready.check;
-      count = c.with-nothing.ensures.records ∙ c.with-reader.ensures.records ∙ ready.count;
-      fit = ready.fit;
-    }) in
+    let machine_is : StandsForRecords setting base c.with-nothing.result.1.machine.service its = subst (λ (m : ServiceMachine). StandsForRecords setting base m.service its) (sym c.with-nothing.ensures.new) machine in
+    let settled = c.new-journal.ensures.settled start header its
+    (ready_with g.F.LogFile.has g.F.LogFile.kept (ReadsRecords recovery) (λ (m : ServiceMachine) (rs : List Record). StandsForRecords setting base m.service rs) header c.args.file c.args.opened c.with-nothing.result.1 its
+    (c.with-nothing.ensures.key ∙ c.with-reader.ensures.key) (c.with-nothing.ensures.place ∙ c.with-reader.ensures.place) (c.with-nothing.ensures.ahead ∙ c.with-reader.ensures.ahead) machine_is ready) in
     record { base = base; first = its; records = its; stands = settled; on_disk = no_more setting base; accepted = no_more setting base }
