@@ -12,6 +12,11 @@ from lib.program import PROGRAM
 from lib.trees import InFolder
 
 PIECE = 512
+# what `submit` prints of a CSV that no profile has: its port, the record and the column
+NO_PROFILE = (
+    "port %d: the CSV that came is not that of a profile: record %d is wrong in %s: this is a mistake in droid_desk or in the"
+    " service"
+)
 
 
 def words_of(folder, port, client, *words, piece=PIECE, quiet=True):

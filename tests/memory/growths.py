@@ -39,8 +39,8 @@ TESTS = {
     ],
     "droid_folder_tests": [
         "folders::lists::memory::each_growth_of_a_list",
-        "folders::lists::memory::each_growth_of_a_profile",
         "folders::lists::memory::each_growth_of_a_report",
+        "folders::lists::texts::each_growth_of_a_text",
         "folders::manifests::memory::each_growth_of_a_list",
         "folders::manifests::memory::each_growth_of_a_manifest",
         "folders::manifests::memory::each_growth_of_a_text",

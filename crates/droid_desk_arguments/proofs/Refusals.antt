@@ -11,7 +11,7 @@ use Rattle.clap.specs.declared.error.kind.ErrorKind.TheVariants.{OutOfMemory}
 use Rattle.clap.specs.declared.parser.matches.ArgMatches.{ArgMatches}
 use Rattle.clap.specs.declared.parser.matches.ArgMatches.TheViews.{out-ArgMatches, out-SubCommand}
 use Rattle.clap.specs.declared.parser.matches.SubCommand.{SubCommand}
-use Rattle.droid_desk_arguments.specs.Asking.{IsAsked, IsAskedBy, IsConversion, IsCount, IsMany, IsOneByOne, IsProfile, IsReport, IsSubmit, IsVerify, ReadsMany, has_no_checksums, measures_twice, names_two, reads_nothing}
+use Rattle.droid_desk_arguments.specs.Asking.{IsAsked, IsAskedBy, IsConversion, IsCount, IsMany, IsOneByOne, IsProfile, IsReport, IsSubmit, IsVerify, ReadsMany, checks_nothing, has_no_checksums, measures_twice, names_two, reads_nothing}
 use Rattle.droid_desk_arguments.specs.declared.arguments.Asked.{Asked}
 use Rattle.droid_desk_arguments.specs.declared.arguments.Asked.TheVariants.{Profile, Submit, Verify, Report, Registry, Script, Run, Serve, ServeMany, Send, Compact}
 use Rattle.droid_desk_arguments.specs.declared.registry_options.RegistryOptions.{RegistryOptions}
@@ -54,6 +54,15 @@ no_checksums rows hash manifest named there none options is =
     let one : hash ≡ options.hash = same_hash (first_of (codes "hash") rows) hash options.hash named is.hash in
     let file : manifest ≡ option_map (λ path. path.now) options.manifest = there ∙ sym is.manifest in
     let bad : true ≡ false = none ∙ (ap (λ (h : HashKind). has_no_checksums h manifest) one ∙ (ap (λ (m : Option Text). has_no_checksums options.hash m) file ∙ is.checksums)) in
+    cc
+
+-- hashes to compare where files get none
+pub checked_by_nothing : (rows : List Row) (check : Bool) (hash : HashKind) → IsFlag (one_of (codes "check") rows) check → IsHash (first_of (codes "hash") rows) hash
+    → true ≡ checks_nothing check hash → (options : SubmitOptions) → IsSubmit rows options → ⊥
+checked_by_nothing rows check hash flag named nothing options is =
+    let one : check ≡ options.check = same_flag (one_of (codes "check") rows) check options.check flag is.check in
+    let other : hash ≡ options.hash = same_hash (first_of (codes "hash") rows) hash options.hash named is.hash in
+    let bad : true ≡ false = nothing ∙ (ap (λ (b : Bool). checks_nothing b hash) one ∙ (ap (λ (h : HashKind). checks_nothing options.check h) other ∙ is.compared)) in
     cc
 
 -- formats of files that are not read, two measures, and two registries

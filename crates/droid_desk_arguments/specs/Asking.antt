@@ -47,6 +47,13 @@ pub record IsSentTo (rows : List Row) (to : Destination) : Type 0 where
   pub wait : IsNumberOr 32 60 (one_of (codes "wait") rows) to.wait
   pub timeout : IsNumberOr 32 60 (one_of (codes "timeout") rows) to.timeout
 
+-- finished files are to be read again, and no hash is there to compare
+abbrev pub checks_nothing : Bool → HashKind → Bool
+checks_nothing true hashes.Nothing = true
+checks_nothing true hashes.Md5 = false
+checks_nothing true hashes.Sha256 = false
+checks_nothing false hash = false
+
 -- the options of `submit`
 pub record IsSubmit (rows : List Row) (options : SubmitOptions) : Type 0 where
   pub folder : Some options.folder.now ≡ first_of (codes "folder") rows
@@ -56,6 +63,8 @@ pub record IsSubmit (rows : List Row) (options : SubmitOptions) : Type 0 where
   pub limit : IsNumberOr 32 65536 (one_of (codes "limit") rows) options.limit
   pub match_all : IsFlag (one_of (codes "match-all") rows) options.match_all
   pub hash : IsHash (first_of (codes "hash") rows) options.hash
+  pub check : IsFlag (one_of (codes "check") rows) options.check
+  pub compared : checks_nothing options.check options.hash ≡ false
   pub export : option_map (λ path. path.now) options.export ≡ first_of (codes "export") rows
   pub skipped : option_map (λ path. path.now) options.skipped ≡ first_of (codes "skipped") rows
   pub report : option_map (λ path. path.now) options.report ≡ first_of (codes "report") rows

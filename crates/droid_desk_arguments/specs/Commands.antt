@@ -73,7 +73,7 @@ submit_connection = with_rule (with_rule (with_rule submit_input name_option) wa
 -- what is done with each file
 abbrev pub submit_files : App
 submit_files =
-    with_rule (with_rule (with_rule (with_rule submit_connection piece_size_option) limit_option) (flag_named (codes "match-all"))) hash_option
+    with_rule (with_rule (with_rule (with_rule (with_rule submit_connection piece_size_option) limit_option) (flag_named (codes "match-all"))) hash_option) (flag_named (codes "check"))
 
 abbrev pub submit_command : App
 submit_command = with_rule (with_rule (with_rule (with_rule submit_files export_option) skipped_option) report_option) (flag_named (codes "quiet"))

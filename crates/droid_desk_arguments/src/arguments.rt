@@ -21,7 +21,7 @@ use crate::stream_help::{
     RUN_ABOUT, RUN_HELP, SEND_ABOUT, SEND_HELP, SEND_PORT_HELP, SERVE_ABOUT, SERVE_HELP,
     SERVE_PORT_HELP, VERBOSE_HELP,
 };
-use crate::submit::{SUBMIT, SubmitOptions, submit, submit_asked};
+use crate::submit::{SUBMIT, SubmitOptions, mistake_in_submit, submit, submit_asked};
 use crate::verify::{VERIFY, VerifyOptions, mistake_in_verify, verify, verify_asked};
 use clap::error::ErrorKind;
 use clap::{ArgMatches, Command, Error};
@@ -56,7 +56,8 @@ const DEFAULT_FIRST: u64 = 1;
 const VERSION: &str = "0.9.0";
 
 /// The error for an unknown hash.
-const NO_SUCH_HASH: &str = "the value of '--hash <HASH>' is none of md5, sha256 and none";
+pub(crate) const NO_SUCH_HASH: &str =
+    "the value of '--hash <HASH>' is none of md5, sha256 and none";
 
 /// The error for a list of checksums where files get no hash.
 const NO_CHECKSUMS: &str =
@@ -174,9 +175,9 @@ fn mistake_in(matches: &ArgMatches<'_>) -> &'static str {
     if let Some(verify) = matches.subcommand_matches(VERIFY) {
         return mistake_in_verify(verify);
     }
-    match matches.subcommand_name() {
-        Some(SUBMIT) => NO_SUCH_HASH,
-        _ => TWO_REGISTRIES,
+    match matches.subcommand_matches(SUBMIT) {
+        Some(submit) => mistake_in_submit(submit),
+        None => TWO_REGISTRIES,
     }
 }
 

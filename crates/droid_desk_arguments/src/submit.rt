@@ -2,18 +2,19 @@
 
 ghost use Rattle.std.specs.Prelude.{◌≡◌, codes, false};
 ghost use Rattle.clap.specs.Words.{found_of, rows_of, rule_of};
-ghost use Rattle.droid_desk_arguments.specs.Asking.{IsAskedBy, IsSentTo, IsSubmit};
+ghost use Rattle.droid_desk_arguments.specs.Asking.{IsAskedBy, IsSentTo, IsSubmit, checks_nothing};
 ghost use Rattle.droid_desk_arguments.specs.Commands.{name_option, submit_command};
 ghost use Rattle.droid_desk_options.specs.Made.{Makes};
 ghost use Rattle.droid_desk_options.specs.Values.{Reads};
 
-use crate::arguments::Asked;
+use crate::arguments::{Asked, NO_SUCH_HASH};
 use crate::profile::{DEFAULT_LIMIT, HASH, MATCH_ALL, QUIET, SKIPPED};
 use crate::profile_help::{HASH_HELP, MATCH_ALL_HELP, QUIET_HELP};
 use crate::report_options::REPORT;
 use crate::submit_help::{
-    EXPORT_HELP, NAME_HELP, PIECE_SIZE_HELP, SKIPPED_HELP, SUBMIT_ABOUT, SUBMIT_CLIENT_HELP,
-    SUBMIT_FOLDER_HELP, SUBMIT_HELP, SUBMIT_PAGE_HELP, SUBMIT_PORT_HELP, TIMEOUT_HELP, WAIT_HELP,
+    CHECK_HELP, EXPORT_HELP, NAME_HELP, PIECE_SIZE_HELP, SKIPPED_HELP, SUBMIT_ABOUT,
+    SUBMIT_CLIENT_HELP, SUBMIT_FOLDER_HELP, SUBMIT_HELP, SUBMIT_PAGE_HELP, SUBMIT_PORT_HELP,
+    TIMEOUT_HELP, WAIT_HELP,
 };
 use clap::builder::ValueParser;
 use clap::{Arg, ArgMatches, Command};
@@ -34,7 +35,13 @@ const TIMEOUT: &str = "timeout";
 
 const PIECE_SIZE: &str = "piece-size";
 
+const CHECK: &str = "check";
+
 const EXPORT: &str = "export";
+
+/// The error for hashes to compare where files get none.
+const NO_HASH_TO_COMPARE: &str =
+    "the options '--check' and '--hash none' cannot be used together: '--check' compares hashes";
 
 /// How many bytes a piece has by default.
 const DEFAULT_PIECE_SIZE: u32 = 262_144;
@@ -75,6 +82,8 @@ pub struct SubmitOptions<'a> {
     pub match_all: bool,
     /// Which hash the files get.
     pub hash: HashKind,
+    /// Whether the files that an earlier run finished are read again, and their hashes compared.
+    pub check: bool,
     /// The path of the CSV file, or `None` for no CSV.
     pub export: Option<&'a str>,
     /// The path of the file for what was skipped, or `None` for no such file.
@@ -103,6 +112,10 @@ fn submit_options<'a>(submit: &ArgMatches<'a>) -> Option<SubmitOptions<'a>>
     let match_all = flag_of(submit, MATCH_ALL);
     let hash_word = submit.get_str(HASH);
     let hash = hash_of(hash_word)?;
+    let check = flag_of(submit, CHECK);
+    if checks_nothing(check, hash) {
+        return None;
+    }
     let export = submit.get_str(EXPORT);
     let skipped = submit.get_str(SKIPPED);
     let report = submit.get_str(REPORT);
@@ -115,11 +128,32 @@ fn submit_options<'a>(submit: &ArgMatches<'a>) -> Option<SubmitOptions<'a>>
         limit,
         match_all,
         hash,
+        check,
         export,
         skipped,
         report,
         quiet,
     })
+}
+
+/// Says what is wrong with options that ask for nothing.
+pub(crate) fn mistake_in_submit(submit: &ArgMatches<'_>) -> &'static str {
+    match hash_of(submit.get_str(HASH)) {
+        Some(_) => NO_HASH_TO_COMPARE,
+        None => NO_SUCH_HASH,
+    }
+}
+
+/// Returns whether finished files are to be read again, and no hash is there to compare.
+fn checks_nothing(check: bool, hash: HashKind) -> bool
+    ensures { result ≡ checks_nothing check hash }
+{
+    match (check, hash) {
+        (true, HashKind::Nothing) => true,
+        (true, HashKind::Md5) => false,
+        (true, HashKind::Sha256) => false,
+        (false, _) => false,
+    }
 }
 
 fn destination_of(submit: &ArgMatches<'_>) -> Option<Destination>
@@ -151,6 +185,7 @@ pub(crate) fn submit<'a>(alloc: Global) -> Result<Command<'a>, AllocError>
         .option(limit(alloc))
         .option(flag(alloc, MATCH_ALL, MATCH_ALL_HELP))
         .option(named(alloc, HASH, "HASH", HASH_HELP))
+        .option(flag(alloc, CHECK, CHECK_HELP))
         .option(named(alloc, EXPORT, "FILE", EXPORT_HELP))
         .option(named(alloc, SKIPPED, "FILE", SKIPPED_HELP))
         .option(named(alloc, REPORT, "PAGE", SUBMIT_PAGE_HELP))

@@ -24,6 +24,9 @@ pub const TIMEOUT_HELP: &str =
 pub const PIECE_SIZE_HELP: &str =
     "Send files in pieces of this many bytes (1 to 4194304, default 262144)";
 
+pub const CHECK_HELP: &str =
+    "Read also the files that an earlier run finished, and compare their hashes (not with --hash none)";
+
 pub const EXPORT_HELP: &str =
     "At the end write the profile's CSV to this file, never an incomplete one";
 
@@ -38,6 +41,10 @@ The folder becomes one profile of the service. You can give the same command aga
 interruption, and over a folder in any state: what is in the profile is not sent again, finished
 files are not even read, and what was skipped is tried again. This works because the number of each
 request is made from what the request asks and from the submission's name.
+
+So a file whose bytes changed while its size and its second of modification stayed is not noticed.
+The summary counts the files that were not read (`files not read again`); --check reads them and
+compares their hashes, and sends nothing of them. With --hash none no bytes are ever compared.
 
 The profile keeps what was submitted. A folder or file that has changed since then is skipped, a
 folder with everything inside it; a folder also changes when an entry is added to it or removed from
@@ -61,14 +68,17 @@ was before. No two may have the same path, and none may lie inside DIR.
 
 Exit status:
 
-  0  the service's profile is this folder: it has exactly the folders and files of DIR
+  0  the service's profile has exactly the folders and files of DIR, each with its size and its
+     modification time, and with the hash of the bytes that this run read; --check reads all
   2  the command line is wrong
   4  the command ended early, by one of these faults:
        Folder     DIR is no folder, or can't be listed
        Socket     nobody listened on the port within --wait
        Broken     the connection broke, and could not be made again within --wait
        Stranger   a frame came that does not reply to the request
-       Reply      a reply came that does not fit the request, or a CSV that is no profile
+       Reply      a reply came that does not fit the request, or a CSV that no profile has: the record
+                  and the column are named
+       TooLong    the profile's CSV has more than 1,073,741,824 bytes
        Restarted  the service lost what it had: run the command again, and it starts anew
        Busy       64 files of other submissions are unfinished, and no place came free within --wait
        Options    the submission had another --hash, --limit or --match-all: the message names it

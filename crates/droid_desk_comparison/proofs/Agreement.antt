@@ -2,20 +2,19 @@
 use Rattle.std.proofs.Common.{◌≡◌, ◌∙◌, Bool, true, false, List, [], ◌∷◌, ◌++◌, Result, Ok, refl, ap, subst}
 use Rattle.std.specs.List.{flat_map}
 use Rattle.std.specs.Prelude.{IsPermutation, if◌then◌else◌}
-use Rattle.std.proofs.lemmas.List.Sorted.{IsPermutation-refl, IsPermutation-trans}
+use Rattle.std.proofs.lemmas.List.Sorted.{IsPermutation-trans}
 use Rattle.droid_desk_profile.specs.Csv.{joined, line, quoted}
 use Rattle.droid_desk_profile.specs.Filters.{is_file}
 use Rattle.droid_desk_profile.specs.Rows.{Row, header}
 use Rattle.droid_desk_profile.specs.Text.{chosen_rows, row_text, text}
 use Rattle.droid_fixity_forms.specs.Reports.{IsReport}
+use Rattle.droid_fixity_forms.specs.item_types.difference.Difference.{Difference}
 use Rattle.droid_fixity_forms.specs.item_types.item.Item.{Item}
 use Rattle.droid_fixity_forms.specs.Profiles.{profile_of}
-use Rattle.droid_fixity_forms.specs.list_types.fault.ListFault.{ListFault}
 use Rattle.droid_fixity_forms.specs.Listings.{IsInventory}
-use Rattle.droid_fixity_profile.specs.Comparisons.{Sees}
 use Rattle.droid_fixity_profile.specs.Exports.{Lists, item_of_record}
 use Rattle.droid_fixity_profile.specs.Exports as exports
-use Rattle.droid_fixity_profile.specs.declared.profile_check.Seen.{Seen}
+use Rattle.droid_fixity_profile.specs.Inventories as profile
 use Rattle.droid_frame.specs.types.filter.Filter.{Filter}
 use Rattle.droid_frame.specs.types.hash_kind.HashKind.{HashKind}
 use Rattle.droid_frame.specs.types.record.Record.{Record}
@@ -70,16 +69,12 @@ of_records bytes shown listed checked lists says readable found =
       found_are = subst (λ (its : List Item). IsPermutation its checked.found) (all_read (items_of false shown) ∙ same_items shown) found.same;
     }
 
-module _ (agree : (listed : Result (List Item) ListFault) (items found : List Item) (seen : Seen) → listed ≡ Ok items → IsPermutation items found → Sees listed found (Ok seen) → seen.differences.items ≡ []) where
+module _ (agree : (items listed found : List Item) (differences : List Difference) → profile.IsInventory items listed → profile.IsInventory items found → IsReport listed found differences → differences ≡ []) where
   pub no_difference : (bytes : List _) (shown : List Record) (listed : List Item) (checked : Checked) → Lists bytes (exports.items_of shown) → Says Profile bytes (Ok listed)
       → IsInventory (readable_in [] listed) checked.listed → IsInventory (readable_in [] (items_of false shown)) checked.found → IsReport checked.listed checked.found checked.differences.items → checked.differences.items ≡ []
   no_difference bytes shown listed checked lists says readable found report =
       let items = exports.items_of shown in
       let are = of_records bytes shown listed checked lists says readable found in
-      let seen : Seen = record { differences = checked.differences; listed = checked.listed; found = checked.found } in
-      let sees : Sees (profile_of lists.0) items (Ok seen) = (
-        record { items = items; are = lists.2; has = record { same = are.listed_are; in_order = readable.in_order } },
-        record { same = are.found_are; in_order = found.in_order },
-        report,
-      ) in
-      agree (profile_of lists.0) items items seen lists.2 (IsPermutation-refl items) sees
+      let first : profile.IsInventory items checked.listed = record { same = are.listed_are; in_order = readable.in_order } in
+      let second : profile.IsInventory items checked.found = record { same = are.found_are; in_order = found.in_order } in
+      agree items checked.listed checked.found checked.differences.items first second report

@@ -1,37 +1,41 @@
 -- An export that is begun again until all its parts come.
-use Rattle.std.proofs.Common.{◌≡◌, ℕ, List, [], Some, ap, subst}
+use Rattle.std.proofs.Common.{◌≡◌, ℕ, ◌+◌, ◌≤◌, List, [], ap, subst}
+use Rattle.droid_fixity_profile.specs.declared.text_fault.TextFault.TheVariants.{Memory, Wrong}
 use Rattle.droid_tree_connection.specs.Events.{Event, Fact, facts_after}
 use Rattle.droid_tree_connection.specs.Stages.{StandsOn}
 use Rattle.droid_tree_connection.specs.declared.in_flight.InFlight.{InFlight}
 use Rattle.droid_tree_connection.specs.declared.known_requests.KnownRequests.{KnownRequests}
-use Rattle.droid_tree_remote.specs.Exports.{Exports, OnlyAsks}
+use Rattle.droid_tree_remote.specs.Exports.{Disturbs, Exports}
 use Rattle.droid_tree_remote.specs.declared.sender.Sender.{Sender}
-use Rattle.droid_desk_folders.specs.ProfileComparisons.{Again, AsksParts, AtOnce, BeganBefore, More, NoMore, ReadsExport}
+use Rattle.droid_desk_folders.specs.ProfileComparisons.{Again, EndsOnce, EndsReading, HasBegun, NotYet, ReadsExport}
+use Rattle.droid_desk_folders.specs.declared.profile_comparison.ComparisonFault.{ComparisonFault}
+use Rattle.droid_desk_folders.specs.declared.profile_comparison.ComparisonFault.TheVariants.{Disturbed, NoExport, TooLong, Unchecked}
 
 module _ {C : Type 0} (does : C → Event → C → Type 0) (client : ℕ) (name : List ℕ) (profile : ℕ) (known : KnownRequests) (facts : List Fact) (old : InFlight C) where
-  pub began : old.waiting.items ≡ [] → StandsOn known facts old → BeganBefore does client name profile known facts old old
-  began none stands = record { facts_now = facts; none = none; stands = stands; reads_on = λ new csv reads. reads; asks_on = λ new asks. asks }
+  pub none_begun : old.waiting.items ≡ [] → StandsOn known facts old → HasBegun does client name profile known 0 facts old old
+  none_begun none stands = record { facts_now = facts; begun = NotYet; none = none; stands = stands }
 
-  pub began_more : (now next : InFlight C) (before : BeganBefore does client name profile known facts old now) → OnlyAsks client name profile does known before.facts_now now next
-      → BeganBefore does client name profile known facts old next
-  began_more now next before first = record {
-    facts_now = facts_after before.facts_now first.goes.events;
-    none = first.none;
-    stands = first.stands_on;
-    reads_on = λ new csv reads. before.reads_on new csv (Again first reads);
-    asks_on = λ new asks. before.asks_on new (More first asks);
-  }
+  module _ (count : ℕ) (now : InFlight C) (before : HasBegun does client name profile known count facts old now) where
+    pub one_more_begun : (next : InFlight C) → Disturbs client name profile does known before.facts_now now next → HasBegun does client name profile known (count + 1) facts old next
+    one_more_begun next disturbs = record {
+      facts_now = facts_after before.facts_now disturbs.asks.goes.events;
+      begun = Again before.begun disturbs;
+      none = disturbs.asks.none;
+      stands = disturbs.asks.stands_on;
+    }
 
-  pub all_read : (now new : InFlight C) (csv : List ℕ) (before : BeganBefore does client name profile known facts old now)
-      → Exports client name profile does known before.facts_now now new (Some []) (Some csv) → ReadsExport does client name profile known facts old new csv
-  all_read now new csv before exports = before.reads_on new csv (AtOnce exports)
+    pub all_read : (new : InFlight C) (csv : List ℕ) → Exports client name profile does known before.facts_now now new [] csv → ReadsExport does client name profile known facts old new csv
+    all_read new csv exports = record { count = count; facts_now = before.facts_now; now = now; begun = before.begun; exports = exports }
 
-  pub some_asked : (now new : InFlight C) (before : BeganBefore does client name profile known facts old now) → OnlyAsks client name profile does known before.facts_now now new
-      → AsksParts does client name profile known facts old new
-  some_asked now new before first = before.asks_on new (More first NoMore)
+    pub once_ended : (fault : ComparisonFault) (new : InFlight C) → EndsOnce does client name profile known fault before.facts_now now new → EndsReading does client name profile known fault facts old new
+    once_ended (NoExport fault) new ends = record { count = count; facts_now = before.facts_now; now = now; begun = before.begun; ends = ends }
+    once_ended (TooLong total) new ends = record { count = count; facts_now = before.facts_now; now = now; begun = before.begun; ends = ends }
+    once_ended (Unchecked Memory) new ends = record { count = count; facts_now = before.facts_now; now = now; begun = before.begun; ends = ends }
+    once_ended (Unchecked (Wrong number column)) new ends = absurd ends
+    once_ended Disturbed new ends = absurd ends
 
-  pub none_asked : (now : InFlight C) → BeganBefore does client name profile known facts old now → AsksParts does client name profile known facts old now
-  none_asked now before = before.asks_on now NoMore
+    pub all_disturbed : 100 ≤ count → EndsReading does client name profile known Disturbed facts old now
+    all_disturbed many = (count, before.facts_now, many, before.begun)
 
 -- a sender of one client and name asks the same
 module _ {C : Type 0} (one other : Sender C) (same : one ≡ record other { in_flight = one.in_flight }) where

@@ -1,5 +1,5 @@
 -- A tree that is counted, submitted, and compared with its profile (this project's own).
-use Rattle.std.specs.Prelude.{◌≡◌, ℕ, ◌+◌, ◌≤◌, true}
+use Rattle.std.specs.Prelude.{◌≡◌, ℕ, ◌+◌, ◌≤◌, true, length}
 use Rattle.droid_tree.specs.Counts.{CountsTooMany, CountsTree}
 use Rattle.droid_tree.specs.Heard.{Heard}
 use Rattle.droid_tree.specs.Observation.{Observation}
@@ -14,7 +14,7 @@ use Rattle.droid_tree_remote.specs.declared.sender.Sender.{Sender}
 use Rattle.droid_tree_submission.specs.declared.tree_submission.Options.{Options}
 use Rattle.droid_tree_submission.specs.declared.tree_submission.Submitted.{Submitted}
 use Rattle.droid_tree_upload.specs.declared.upload.Upload.{Upload}
-use Rattle.droid_desk_folders.specs.ProfileComparisons.{AsksParts, Compares, ReadsExport}
+use Rattle.droid_desk_folders.specs.ProfileComparisons.{Compares, EndsChecking, ReadsExport}
 use Rattle.droid_desk_report.specs.SkippedPaths.{Records}
 use Rattle.droid_desk_folders.specs.declared.checked_submission.CommandFault.{CommandFault}
 use Rattle.droid_desk_folders.specs.declared.checked_submission.CommandFault.TheVariants.{Uncounted, Unsubmitted, Uncompared}
@@ -43,7 +43,9 @@ module _ {T C W : Type 0} (observes : T → Observation → T → Type 0) (does 
     pub kept : reached.watcher.has_all ≡ true
     pub reads : Wherever reached.client.in_flight (λ known facts.
         ReadsExport does reached.client.client reached.client.name submitted.profile known facts reached.client.in_flight new.client.in_flight compared.csv.items)
-    pub compares : Compares reached.watcher.skipped.items submitted compared.csv.items compared
+    -- whatever the service sent
+    pub bounded : length compared.csv.items ≤ 1073741824
+    pub compares : Compares reached.watcher.skipped.items submitted options.hash compared.csv.items compared
 
   -- how it ends early
   pub data EndsCommand (fault : CommandFault) (old new : Upload T (Sender C) (Recorder W)) : Type 0 where
@@ -52,8 +54,8 @@ module _ {T C W : Type 0} (observes : T → Observation → T → Type 0) (does 
     -- the submission ended early
     NotSubmitted : (why : RemoteFault) → fault ≡ Unsubmitted why → (begun : Upload T (Sender C) (Recorder W)) → IsCounted old begun → EndsSubmission observes does (Records hears) options why begun new
         → EndsCommand fault old new
-    -- the tree was submitted, but the profile could not be compared with it: after that only parts of its export were asked for
+    -- the tree was submitted, but the profile could not be compared with it, for a reason that the events or the CSV show
     NotCompared : (why : ComparisonFault) (submitted : Submitted) → fault ≡ Uncompared submitted.profile why → (begun reached : Upload T (Sender C) (Recorder W)) → IsCounted old begun
         → Submits observes does (Records hears) options submitted begun reached → new ≡ record reached { client = new.client }
-        → Wherever reached.client.in_flight (λ known facts. AsksParts does reached.client.client reached.client.name submitted.profile known facts reached.client.in_flight new.client.in_flight)
+        → Wherever reached.client.in_flight (λ known facts. EndsChecking does reached.client.client reached.client.name submitted.profile known options.hash why facts reached.client.in_flight new.client.in_flight)
         → EndsCommand fault old new

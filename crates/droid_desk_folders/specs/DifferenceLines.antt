@@ -1,56 +1,64 @@
 -- Which differences between a profile and a folder are reported, and in which words (this project's own).
-use Rattle.std.specs.Prelude.{ℕ, Bool, true, false, not, List, [], ◌∷◌, ◌++◌, codes, filter}
+use Rattle.std.specs.Prelude.{ℕ, Bool, true, false, not, List, [], ◌∷◌, ◌++◌, Option, None, Some, codes}
+use Rattle.std.specs.Fmt.{decimal}
+use Rattle.std.specs.List.{list_any, slice_get}
 use Rattle.droid_desk_report.specs.Causes.{shown_text}
-use Rattle.droid_fixity.specs.Reports.{path_at}
-use Rattle.droid_fixity.specs.declared.difference.Difference.{Difference}
-use Rattle.droid_fixity.specs.declared.difference.Difference.TheVariants.{Changed, Missing, New, Moved, Touched}
-use Rattle.droid_fixity.specs.declared.item.Changes.{Changes}
-use Rattle.droid_fixity.specs.declared.item.Item.{Item}
-use Rattle.droid_fixity_profile.specs.declared.profile_check.Seen.{Seen}
 use Rattle.droid_desk_report.specs.SkippedPaths.{is_explained}
-use Rattle.droid_desk_folders.specs.declared.difference_line.DifferenceLine.{DifferenceLine}
 use Rattle.droid_desk_report.specs.outputs_types.skipped_entry.SkippedEntry.{SkippedEntry}
+use Rattle.droid_fixity_profile.specs.ProfileTexts.{name_of}
+use Rattle.droid_fixity_profile.specs.declared.known.Difference.{Difference}
+use Rattle.droid_fixity_profile.specs.declared.known.Difference.TheVariants.{Other, Missing, More}
+use Rattle.droid_fixity_profile.specs.declared.known.Known.{Known}
+use Rattle.droid_frame.specs.types.hash_kind.HashKind.{HashKind}
+use Rattle.droid_frame.specs.types.refusal.Refusal.TheVariants as refusals
+use Rattle.droid_tree.specs.declared.skip_reason.Skipped.{Skipped}
+use Rattle.droid_tree.specs.declared.skip_reason.Skipped.TheVariants as reasons
+use Rattle.droid_desk_folders.specs.declared.difference_line.DifferenceLine.{DifferenceLine}
 
--- the path that a difference is reported at: the one in the folder, if the folder has it
-abbrev pub path_reported : List Item → List Item → Difference → List ℕ
-path_reported listed found (Changed l f changes) = path_at found f
-path_reported listed found (Touched l f) = path_at found f
-path_reported listed found (Missing l) = path_at listed l
-path_reported listed found (New f) = path_at found f
-path_reported listed found (Moved l f) = path_at found f
+-- the path of what is known at a place
+abbrev pub known_path : Option Known → List ℕ
+known_path None = []
+known_path (Some one) = one.path
+
+abbrev pub path_at : List Known → ℕ → List ℕ
+path_at known place = known_path (slice_get known place)
+
+-- the path that a difference is reported at
+abbrev pub path_of : List Known → Difference → List ℕ
+path_of known (Other place column number) = path_at known place
+path_of known (Missing place) = path_at known place
+path_of known (More number path) = path
 
 -- a difference is reported unless its path, or a folder above it, was reported as skipped
-abbrev pub is_reported : List SkippedEntry → Seen → Difference → Bool
-is_reported skipped seen difference = not (is_explained skipped (path_reported seen.listed seen.found difference))
+abbrev pub is_reported : List SkippedEntry → List Known → Difference → Bool
+is_reported skipped known difference = not (is_explained skipped (path_of known difference))
 
-abbrev pub reported_in : List SkippedEntry → Seen → List Difference
-reported_in skipped seen = filter (is_reported skipped seen) seen.differences.items
+-- ---- advice
+
+-- the profile has this folder or file as it was before
+abbrev pub is_older : Skipped → Bool
+is_older (reasons.Refused refusals.NumberReused) = true
+is_older (reasons.Refused refusals.NameTaken) = true
+is_older reasons.OtherHash = true
+is_older _ = false
+
+-- another --name is suggested, under which the folder is submitted as it is now
+abbrev pub is_suggested : List SkippedEntry → Bool
+is_suggested skipped = list_any (λ entry. is_older entry.why) skipped
 
 -- ---- words
 
--- what of an entry is another: its kind, or else its length, or else its hash
-abbrev pub part_by : Bool → Bool → List ℕ
-part_by true length = codes "kind"
-part_by false true = codes "length"
-part_by false false = codes "hash"
-
-abbrev pub part_text : Changes → List ℕ
-part_text changes = part_by changes.kind changes.length
-
 -- the words before the path, and those after it
 abbrev pub words_before : Difference → List ℕ
-words_before (Missing l) = codes "not in the folder: "
-words_before (New f) = codes "not in the profile: "
-words_before _ = codes "differs: "
+words_before (Other place column number) = codes "differs: "
+words_before (Missing place) = codes "not in the profile: "
+words_before (More number path) = codes "not in the folder: "
 
-abbrev pub words_after : List Item → Difference → List ℕ
-words_after listed (Changed l f changes) = codes ": the profile has another " ++ part_text changes
-words_after listed (Touched l f) = codes ": the profile has another modification time"
-words_after listed (Missing l) = []
-words_after listed (New f) = []
-words_after listed (Moved l f) = codes ": the profile has it as " ++ shown_text (path_at listed l)
+abbrev pub words_after : HashKind → Difference → List ℕ
+words_after hash (Other place column number) = codes ": the profile has another " ++ (name_of hash column ++ (codes " (record " ++ (decimal number ++ codes ")")))
+words_after hash (Missing place) = []
+words_after hash (More number path) = []
 
 -- the line of a difference
 unfoldable pub line_text : DifferenceLine → List ℕ
-line_text line =
-    words_before line.difference ++ (shown_text (path_reported line.listed.now line.found.now line.difference) ++ (words_after line.listed.now line.difference ++ 10 ∷ []))
+line_text line = words_before line.difference.now ++ (shown_text (path_of line.known.now line.difference.now) ++ (words_after line.hash line.difference.now ++ 10 ∷ []))

@@ -1,10 +1,9 @@
 pub mod BegunOptions
-pub mod CheckFaults
 pub mod CheckedSubmissions
 pub mod DifferenceLines
+pub mod KnownNodes
 pub mod ProfileComparisons
 pub mod SkippedEntries
 pub mod SubmissionEndings
 pub mod SubmitSettings
-pub mod SubmittedItems
 pub mod Waits

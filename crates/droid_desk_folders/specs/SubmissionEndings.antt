@@ -12,12 +12,12 @@ use Rattle.droid_tree_upload.specs.declared.submission_fault.SubmissionFault.The
 use Rattle.droid_desk_report.specs.Endings.{output_fault_text, page_fault_text}
 use Rattle.droid_desk_report.specs.Faults.{walk_fault_text}
 use Rattle.droid_desk_report.specs.declared.page_fault.PageFault.{PageFault}
-use Rattle.droid_desk_folders.specs.declared.check_fault.CheckFault.{CheckFault}
-use Rattle.droid_desk_folders.specs.declared.check_fault.CheckFault.TheVariants as checking
+use Rattle.droid_fixity_profile.specs.declared.text_fault.TextFault.{TextFault}
+use Rattle.droid_fixity_profile.specs.declared.text_fault.TextFault.TheVariants as checking
 use Rattle.droid_desk_folders.specs.declared.profile_comparison.ComparisonFault.{ComparisonFault}
 use Rattle.droid_desk_folders.specs.declared.profile_comparison.ComparisonFault.TheVariants as comparing
 use Rattle.droid_desk_folders.specs.declared.submission_ending.SubmissionEnding.{SubmissionEnding}
-use Rattle.droid_desk_folders.specs.declared.submission_ending.SubmissionEnding.TheVariants.{Whole, Partly, NoFolder, NoMemory, InFolder, SameFile, NoOutput, Unwritten, NoConnection, Uncounted, Unsubmitted, OtherOptions, NoExport, Disturbed, Unchecked, NoPage}
+use Rattle.droid_desk_folders.specs.declared.submission_ending.SubmissionEnding.TheVariants.{Whole, Partly, NoFolder, NoMemory, InFolder, SameFile, NoOutput, Unwritten, NoConnection, Uncounted, Unsubmitted, OtherOptions, NoExport, TooLong, Disturbed, Unchecked, NoPage}
 
 -- the exit status
 abbrev pub status_of : SubmissionEnding → ℕ
@@ -38,6 +38,7 @@ with_page ending (Err fault) = NoPage fault
 -- the ending of a submission whose profile could not be compared
 abbrev pub uncompared : ComparisonFault → SubmissionEnding
 uncompared (comparing.NoExport fault) = NoExport fault
+uncompared (comparing.TooLong total) = TooLong total
 uncompared comparing.Disturbed = Disturbed
 uncompared (comparing.Unchecked fault) = Unchecked fault
 
@@ -88,11 +89,9 @@ submitting_text (submitting.Walking fault) = walking_text fault
 submitting_text (submitting.Sending fault) = transfer_text fault
 
 -- the name of a fault of the comparison: all but out of memory are replies that cannot be right
-abbrev pub check_text : CheckFault → List ℕ
+abbrev pub check_text : TextFault → List ℕ
 check_text checking.Memory = codes "Memory"
-check_text checking.NoProfile = codes "Reply"
-check_text checking.SamePath = codes "Reply"
-check_text checking.Moment = codes "Reply"
+check_text (checking.Wrong number column) = codes "Reply"
 
 -- the name of the fault, if the ending is one
 abbrev pub fault_text : SubmissionEnding → Option (List ℕ)
@@ -109,6 +108,7 @@ fault_text (Uncounted fault) = Some (walk_fault_text fault)
 fault_text (Unsubmitted fault) = Some (submitting_text fault)
 fault_text (OtherOptions begun) = Some (codes "Options")
 fault_text (NoExport fault) = Some (transfer_text fault)
+fault_text (TooLong total) = Some (codes "TooLong")
 fault_text Disturbed = Some (codes "Disturbed")
 fault_text (Unchecked fault) = Some (check_text fault)
 fault_text (NoPage fault) = Some (page_fault_text fault)

@@ -8,7 +8,7 @@ use Rattle.droid_tree_submission.specs.declared.tree_submission.Options.{Options
 
 -- how the tree is submitted
 abbrev pub walk_options : SubmitOptions → Options
-walk_options options = record { scan_limit = options.limit; match_all = options.match_all; hash = options.hash; piece_size = options.piece_size }
+walk_options options = record { scan_limit = options.limit; match_all = options.match_all; hash = options.hash; piece_size = options.piece_size; check = options.check }
 
 -- where to connect to, and how long to wait
 abbrev pub connection_of : Destination → Verbosity → LoopbackSettings

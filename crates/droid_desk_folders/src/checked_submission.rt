@@ -1,14 +1,15 @@
 //! Submits a tree, and compares the profile with it.
 
-ghost use Rattle.std.specs.Prelude.{◌≡◌, [], true, IfErr, IfOk, OnErr, OnOk};
+ghost use Rattle.std.specs.Prelude.{◌≡◌, ◌≤◌, [], None, true, IfErr, IfOk, OnOk, length};
 ghost use Rattle.droid_tree_connection.specs.Calls.{Wherever};
 ghost use Rattle.droid_desk_folders.specs.CheckedSubmissions.{ChecksTree, EndsCommand};
-ghost use Rattle.droid_desk_folders.specs.ProfileComparisons.{AsksParts, Compares, ReadsExport};
+ghost use Rattle.droid_desk_folders.specs.ProfileComparisons.{Compares, EndsChecking, ReadsExport};
 
 use crate::audience::Audience;
-use crate::check_fault::CheckFault;
 use crate::profile_comparison::{Compared, ComparisonFault, compare_with, read_export};
 use droid_desk_report::Recorder;
+use droid_fixity_profile::TextFault;
+use droid_frame::HashKind;
 use droid_tree::{Tree, WalkFault, count};
 use droid_tree_remote::{Connection, Options, RemoteFault, Sender, Submitted, Upload, submit};
 
@@ -51,34 +52,34 @@ pub fn submit_and_check<T: Tree, C: Connection, W: Audience>(
         Ok(submitted) => submitted,
         Err(fault) => return Err(CommandFault::Unsubmitted(fault)),
     };
-    match check_profile(upload, &submitted) {
+    let profile = submitted.profile;
+    match check_profile(upload, submitted, options.hash) {
         Ok(compared) => Ok(compared),
-        Err(fault) => Err(CommandFault::Uncompared {
-            profile: submitted.profile,
-            fault,
-        }),
+        Err(fault) => Err(CommandFault::Uncompared { profile, fault }),
     }
 }
 
 /// Reads the CSV of a profile and compares it with what was submitted.
 fn check_profile<T: Tree, C: Connection, W: Audience>(
     upload: &mut Upload<T, Sender<C>, Recorder<W>>,
-    submitted: &Submitted,
+    submitted: Submitted,
+    hash: HashKind,
 ) -> Result<Compared, ComparisonFault>
     ensures only_client { upload.new ≡ record upload.old { client = upload.new.client } }
     ensures kept { OnOk result (upload.old.watcher.has_all ≡ true) }
     ensures reads { IfOk result (λ compared. upload.old.client.in_flight.waiting.items ≡ [] → Wherever upload.old.client.in_flight (λ known facts.
-        ReadsExport C.does upload.old.client.client upload.old.client.name submitted.now.profile known facts upload.old.client.in_flight upload.new.client.in_flight compared.csv.items)) }
-    ensures asks { OnErr result (upload.old.client.in_flight.waiting.items ≡ [] → Wherever upload.old.client.in_flight (λ known facts.
-        AsksParts C.does upload.old.client.client upload.old.client.name submitted.now.profile known facts upload.old.client.in_flight upload.new.client.in_flight)) }
-    ensures compares { IfOk result (λ compared. Compares upload.old.watcher.skipped.items submitted.now compared.csv.items compared) }
+        ReadsExport C.does upload.old.client.client upload.old.client.name submitted.profile known facts upload.old.client.in_flight upload.new.client.in_flight compared.csv.items)) }
+    ensures bound { IfOk result (λ compared. length compared.csv.items ≤ 1073741824) }
+    ensures compares { IfOk result (λ compared. Compares upload.old.watcher.skipped.items submitted hash compared.csv.items compared) }
+    ensures ended { IfErr result (λ fault. upload.old.client.stopped ≡ None → upload.old.client.in_flight.waiting.items ≡ [] → Wherever upload.old.client.in_flight (λ known facts.
+        EndsChecking C.does upload.old.client.client upload.old.client.name submitted.profile known hash fault facts upload.old.client.in_flight upload.new.client.in_flight)) }
 {
     let csv = read_export(upload.alloc, &mut upload.client, submitted.profile)?;
     if !upload.watcher.has_all {
-        return Err(ComparisonFault::Unchecked(CheckFault::Memory));
+        return Err(ComparisonFault::Unchecked(TextFault::Memory));
     }
     let skipped = upload.watcher.skipped.as_slice();
-    match compare_with(upload.alloc, skipped, submitted, csv) {
+    match compare_with(upload.alloc, skipped, submitted, hash, csv) {
         Ok(compared) => Ok(compared),
         Err(fault) => Err(ComparisonFault::Unchecked(fault)),
     }

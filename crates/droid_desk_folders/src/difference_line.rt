@@ -1,22 +1,23 @@
 //! The line for a difference between the profile and the folder.
 
 ghost use Rattle.std.specs.Prelude.{◌≡◌, Some};
-ghost use Rattle.droid_fixity.specs.Reports.{path_at};
-ghost use Rattle.droid_desk_folders.specs.DifferenceLines.{line_text, part_text, path_reported, words_after, words_before};
+ghost use Rattle.droid_desk_folders.specs.DifferenceLines.{is_older, line_text, path_at, path_of, words_after, words_before};
 
 use droid_desk_report::Shown;
-use droid_fixity::{Changes, Difference, Item};
+use droid_fixity_profile::{Difference, Known, column_name};
+use droid_frame::{HashKind, Refusal};
+use droid_tree::Skipped;
 use std::fmt::{self, Display, Formatter, Write};
 
 /// A difference, in a line.
 #[derive(Clone, Copy)]
 pub(crate) struct DifferenceLine<'a> {
     /// The difference.
-    pub difference: Difference,
-    /// The items of the profile.
-    pub listed: &'a [Item],
-    /// The items of the folder.
-    pub found: &'a [Item],
+    pub difference: &'a Difference,
+    /// What is known of the folders and files that were submitted.
+    pub known: &'a [Known],
+    /// The kind of the profile's hashes, which name a column.
+    pub hash: HashKind,
 }
 
 impl Display for DifferenceLine<'_> {
@@ -25,10 +26,10 @@ impl Display for DifferenceLine<'_> {
     #[tactic(auto, unfolding(crate::specs::DifferenceLines::line_text))]
     fn fmt<W: Write>(&self, f: &mut Formatter<W>) -> fmt::Result {
         let before = words_before(self.difference);
-        let path = Shown(path_reported(self.listed, self.found, self.difference));
+        let path = Shown(path_of(self.known, self.difference));
         let after = Rest {
             difference: self.difference,
-            listed: self.listed,
+            hash: self.hash,
         };
         writeln!(f, "{before}{path}{after}")
     }
@@ -37,80 +38,65 @@ impl Display for DifferenceLine<'_> {
 /// What a line has after the path.
 #[derive(Clone, Copy)]
 struct Rest<'a> {
-    difference: Difference,
-    listed: &'a [Item],
+    difference: &'a Difference,
+    hash: HashKind,
 }
 
 impl Display for Rest<'_> {
-    ghost output = { λ rest. Some (words_after rest.listed.now rest.difference) };
+    ghost output = { λ rest. Some (words_after rest.hash rest.difference.now) };
 
     fn fmt<W: Write>(&self, f: &mut Formatter<W>) -> fmt::Result {
         match self.difference {
-            Difference::Changed { changes, .. } => {
-                write!(f, ": the profile has another {}", part_of(changes))
+            Difference::Other { column, record, .. } => {
+                let name = column_name(self.hash, *column);
+                write!(f, ": the profile has another {name} (record {record})")
             }
-            Difference::Touched { .. } => f.write_str(
-                ": the profile has another modification time",
-            ),
             Difference::Missing { .. } => f.write_str(""),
-            Difference::New { .. } => f.write_str(""),
-            Difference::Moved { listed, .. } => {
-                let path = path_at(self.listed, listed);
-                write!(f, ": the profile has it as {}", Shown(path))
-            }
+            Difference::More { .. } => f.write_str(""),
         }
     }
 }
 
 /// Returns the words before the path.
-fn words_before(difference: Difference) -> &'static str
-    ensures { result.now ≡ words_before difference }
+fn words_before(difference: &Difference) -> &'static str
+    ensures { result.now ≡ words_before difference.now }
 {
     match difference {
-        Difference::Missing { .. } => "not in the folder: ",
-        Difference::New { .. } => "not in the profile: ",
-        Difference::Changed { .. } => "differs: ",
-        Difference::Touched { .. } => "differs: ",
-        Difference::Moved { .. } => "differs: ",
+        Difference::Other { .. } => "differs: ",
+        Difference::Missing { .. } => "not in the profile: ",
+        Difference::More { .. } => "not in the folder: ",
     }
-}
-
-/// Names what of an entry differs.
-fn part_of(changes: Changes) -> &'static str
-    ensures { result.now ≡ part_text changes }
-{
-    if changes.kind {
-        return "kind";
-    }
-    if changes.length {
-        return "length";
-    }
-    "hash"
 }
 
 /// Returns the path that a difference is reported at.
-pub(crate) fn path_reported<'a>(
-    listed: &'a [Item],
-    found: &'a [Item],
-    difference: Difference,
-) -> &'a [u8]
-    ensures { result.now ≡ path_reported listed.entry.now found.entry.now difference }
+pub(crate) fn path_of<'a>(known: &'a [Known], difference: &'a Difference) -> &'a [u8]
+    ensures { result.now ≡ path_of known.now difference.now }
 {
     match difference {
-        Difference::Missing { listed: place } => path_at(listed, place),
-        Difference::Changed { found: place, .. } => path_at(found, place),
-        Difference::Touched { found: place, .. } => path_at(found, place),
-        Difference::New { found: place } => path_at(found, place),
-        Difference::Moved { found: place, .. } => path_at(found, place),
+        Difference::Other { known: place, .. } => path_at(known, *place),
+        Difference::Missing { known: place } => path_at(known, *place),
+        Difference::More { path, .. } => path.as_slice(),
     }
 }
 
-/// Returns the path of the item at this place, or an empty one.
-fn path_at(items: &[Item], place: usize) -> &[u8]
-    ensures { result.now ≡ path_at items.entry.now place }
+/// Returns the path of what is known at this place, or an empty one.
+fn path_at(known: &[Known], place: usize) -> &[u8]
+    ensures { result.now ≡ path_at known.now place }
 {
-    match items.get(place) {
-        Some(item) => item.path.as_slice(),
+    match known.get(place) {
+        Some(one) => one.path.as_str().as_bytes(),
         None => b"",
+    }
+}
+
+/// Returns whether the profile has the folder or file that was skipped as it was before.
+pub(crate) fn is_older(why: Skipped) -> bool
+    ensures { result ≡ is_older why }
+{
+    match why {
+        Skipped::Refused(Refusal::NumberReused) => true,
+        Skipped::Refused(Refusal::NameTaken) => true,
+        Skipped::OtherHash => true,
+        _ => false,
     }
 }

@@ -4,9 +4,9 @@
 
 mod audience;
 mod begun_options;
-mod check_fault;
 mod checked_submission;
 mod difference_line;
+mod known_nodes;
 pub mod laws;
 mod loopback;
 mod output_files;
@@ -17,13 +17,12 @@ mod submission_ending;
 mod submission_fault_names;
 mod submission_sentences;
 mod submit_settings;
-mod submitted_items;
 
 pub use audience::Audience;
 pub use begun_options::BegunOptions;
-pub use check_fault::CheckFault;
 pub use checked_submission::{CommandFault, submit_and_check};
 pub use droid_desk_report::{ReportEnding, report_profile};
+pub use droid_fixity_profile::TextFault;
 pub use profile_comparison::{Compared, ComparisonFault};
 pub use submission::submit_folder;
 pub use submission_ending::{OutputFile, SubmissionEnding};

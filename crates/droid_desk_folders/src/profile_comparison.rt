@@ -1,21 +1,16 @@
 //! Compares the profile of a submission with what was submitted.
 
-ghost use Rattle.std.specs.Prelude.{◌≡◌, ℕ, List, [], Ok, Some, IfOk, IfSome};
-ghost use Rattle.csv.specs.Reading.{AreRecords, default_config, strip_bom};
-ghost use Rattle.csv.specs.declared.parser.State.TheVariants as st;
-ghost use Rattle.droid_fixity_lists.specs.Profiles.{profile_of};
-ghost use Rattle.droid_fixity_profile.specs.Comparisons.{Sees};
+ghost use Rattle.std.specs.Prelude.{◌≡◌, ◌≤◌, [], None, IfErr, IfNone, IfOk, IfSome, length};
+ghost use Rattle.droid_fixity_profile.specs.TextReading.{IsFaultOf};
 ghost use Rattle.droid_tree_connection.specs.Calls.{Wherever};
-ghost use Rattle.droid_tree_remote.specs.Exports.{Exports, OnlyAsks};
-ghost use Rattle.droid_desk_folders.specs.ProfileComparisons.{AsksParts, Compares, ReadsExport, is_whole};
+ghost use Rattle.droid_tree_remote.specs.Exports.{Disturbs, Exports};
+ghost use Rattle.droid_desk_folders.specs.ProfileComparisons.{Compares, EndsOnce, EndsReading, ReadsExport, is_whole};
 
-use crate::check_fault::{CheckFault, fault_of_comparison};
-use crate::reported_differences::reported_in;
-use crate::submitted_items::items_of_nodes;
+use crate::known_nodes::{known_of_nodes, unread_in};
+use crate::reported_differences::{is_suggested, reported_in};
 use droid_desk_report::SkippedEntry;
-use droid_fixity::{Difference, Item};
-use droid_fixity_profile::{Seen, see_profile};
-use droid_frame::Noted;
+use droid_fixity_profile::{Difference, Known, TextFault, check_text};
+use droid_frame::HashKind;
 use droid_tree_remote::{Connection, DownloadFault, Sender, Submitted, TransferFault, export};
 use std::alloc::Global;
 
@@ -31,10 +26,16 @@ pub struct Compared {
     pub whole: bool,
     /// The CSV of the profile.
     pub csv: Vec<u8>,
-    /// The items of the CSV beside those that were submitted.
-    pub seen: Seen,
-    /// The differences whose paths were not reported as skipped, nor a folder above them.
-    pub reported: Vec<Difference>,
+    /// What is known of the folders and files that were submitted.
+    pub known: Vec<Known>,
+    /// How the CSV differs from that.
+    pub differences: Vec<Difference>,
+    /// Of each difference whether it is reported: neither its path nor a folder above it was reported as skipped.
+    pub reported: Vec<bool>,
+    /// How many files are in the profile and were not read in this run.
+    pub unread: usize,
+    /// Whether another name for the submission is suggested.
+    pub is_suggested: bool,
 }
 
 /// Why the profile could not be compared.
@@ -42,10 +43,12 @@ pub struct Compared {
 pub enum ComparisonFault {
     /// The export could not be read.
     NoExport(TransferFault),
+    /// The export has this many bytes, more than a submission reads.
+    TooLong(u64),
     /// Other requests came between the parts of the export, each time that it was begun.
     Disturbed,
     /// The CSV could not be compared.
-    Unchecked(CheckFault),
+    Unchecked(TextFault),
 }
 
 /// Reads the CSV of a profile, again from the start while other requests come between its parts.
@@ -56,13 +59,15 @@ pub(crate) fn read_export<C: Connection>(
 ) -> Result<Vec<u8>, ComparisonFault>
     ensures reads { IfOk result (λ csv. sender.old.in_flight.waiting.items ≡ [] → Wherever sender.old.in_flight (λ known facts.
         ReadsExport C.does sender.old.client sender.old.name profile known facts sender.old.in_flight sender.new.in_flight csv.items)) }
-    ensures asks { sender.old.in_flight.waiting.items ≡ [] → Wherever sender.old.in_flight (λ known facts.
-        AsksParts C.does sender.old.client sender.old.name profile known facts sender.old.in_flight sender.new.in_flight) }
+    ensures ended { IfErr result (λ fault. sender.old.stopped ≡ None → sender.old.in_flight.waiting.items ≡ [] → Wherever sender.old.in_flight (λ known facts.
+        EndsReading C.does sender.old.client sender.old.name profile known fault facts sender.old.in_flight sender.new.in_flight)) }
+    ensures bound { IfOk result (λ csv. length csv.items ≤ 1073741824) }
     ensures same { sender.new ≡ record sender.old { in_flight = sender.new.in_flight } }
 {
     for _ in 0..BEGINNINGS {
-        if let Some(csv) = read_once(alloc, sender, profile)? {
-            return Ok(csv);
+        match read_once(alloc, sender, profile)? {
+            Some(csv) => return Ok(csv),
+            None => {}
         }
     }
     Err(ComparisonFault::Disturbed)
@@ -75,17 +80,21 @@ fn read_once<C: Connection>(
     profile: u32,
 ) -> Result<Option<Vec<u8>>, ComparisonFault>
     ensures whole { IfOk result (λ text. IfSome text (λ csv. sender.old.in_flight.waiting.items ≡ [] → Wherever sender.old.in_flight (λ known facts.
-        Exports sender.old.client sender.old.name profile C.does known facts sender.old.in_flight sender.new.in_flight (Some []) (Some csv.items)))) }
-    ensures asks { sender.old.in_flight.waiting.items ≡ [] → Wherever sender.old.in_flight (λ known facts.
-        OnlyAsks sender.old.client sender.old.name profile C.does known facts sender.old.in_flight sender.new.in_flight) }
+        Exports sender.old.client sender.old.name profile C.does known facts sender.old.in_flight sender.new.in_flight [] csv.items))) }
+    ensures disturbed { IfOk result (λ text. IfNone text (sender.old.in_flight.waiting.items ≡ [] → Wherever sender.old.in_flight (λ known facts.
+        Disturbs sender.old.client sender.old.name profile C.does known facts sender.old.in_flight sender.new.in_flight))) }
+    ensures ended { IfErr result (λ fault. sender.old.stopped ≡ None → sender.old.in_flight.waiting.items ≡ [] → Wherever sender.old.in_flight (λ known facts.
+        EndsOnce C.does sender.old.client sender.old.name profile known fault facts sender.old.in_flight sender.new.in_flight)) }
+    ensures bound { IfOk result (λ text. IfSome text (λ csv. length csv.items ≤ 1073741824)) }
     ensures same { sender.new ≡ record sender.old { in_flight = sender.new.in_flight } }
 {
-    let mut text = Noted::new(Vec::new(alloc));
+    let mut text = Vec::new(alloc);
     match export(sender, profile, &mut text) {
-        Ok(true) => Ok(Some(text.stream)),
+        Ok(true) => Ok(Some(text)),
         Ok(false) => Ok(None),
         Err(DownloadFault::Sending(fault)) => Err(ComparisonFault::NoExport(fault)),
-        Err(DownloadFault::Writing(_)) => Err(ComparisonFault::Unchecked(CheckFault::Memory)),
+        Err(DownloadFault::Long(total)) => Err(ComparisonFault::TooLong(total)),
+        Err(DownloadFault::NoRoom) => Err(ComparisonFault::Unchecked(TextFault::Memory)),
     }
 }
 
@@ -93,39 +102,40 @@ fn read_once<C: Connection>(
 pub(crate) fn compare_with(
     alloc: Global,
     skipped: &[SkippedEntry],
-    submitted: &Submitted,
+    submitted: Submitted,
+    hash: HashKind,
     csv: Vec<u8>,
-) -> Result<Compared, CheckFault>
-    ensures { IfOk result (λ compared. Compares skipped.now submitted.now csv.items compared) }
+) -> Result<Compared, TextFault>
+    ensures compared { IfOk result (λ compared. Compares skipped.now submitted hash csv.items compared) }
+    ensures wrong { IfErr result (λ fault. IsFaultOf hash csv.items fault) }
 {
-    let items = items_of_nodes(alloc, submitted.nodes.as_slice())?;
-    let seen = see(alloc, items, csv.as_slice())?;
-    let reported = reported_in(alloc, skipped, &seen)?;
+    let Submitted {
+        profile,
+        whole,
+        nodes,
+    } = submitted;
+    let unread = unread_in(nodes.as_slice());
+    let known = known_of_nodes(alloc, nodes)?;
+    let differences = check_text(alloc, hash, known.as_slice(), csv.as_slice())?;
+    let reported = reported_in(alloc, skipped, known.as_slice(), differences.as_slice())?;
     Ok(Compared {
-        profile: submitted.profile,
-        whole: is_whole(submitted.whole, &seen),
+        profile,
+        whole: is_whole(whole, differences.as_slice()),
         csv,
-        seen,
+        known,
+        differences,
         reported,
+        unread,
+        is_suggested: is_suggested(skipped),
     })
 }
 
-/// Compares a CSV with items.
-fn see(alloc: Global, items: Vec<Item>, csv: &[u8]) -> Result<Seen, CheckFault>
-    ensures { IfOk result (λ seen. (records : List (List (List ℕ))) → AreRecords default_config st.StartRecord (strip_bom csv.now) records → Sees (profile_of records) items.items (Ok seen)) }
-{
-    match see_profile(alloc, items, csv) {
-        Ok(seen) => Ok(seen),
-        Err(fault) => Err(fault_of_comparison(fault)),
-    }
-}
-
 /// Returns whether the profile is the tree.
-fn is_whole(whole: bool, seen: &Seen) -> bool
-    ensures { result ≡ is_whole whole seen.now }
+fn is_whole(whole: bool, differences: &[Difference]) -> bool
+    ensures { result ≡ is_whole whole differences.now }
 {
     if !whole {
         return false;
     }
-    seen.differences.is_empty()
+    differences.is_empty()
 }

@@ -1,47 +1,54 @@
-//! Which differences between the profile and the folder are reported.
+//! Which differences between the profile and the folder are reported, and what is suggested.
 
-ghost use Rattle.std.specs.Prelude.{◌≡◌, ◌++◌, ℕ, [], ◌∷◌, List, IfOk, OnOk, filter};
-ghost use Rattle.droid_desk_folders.specs.DifferenceLines.{is_reported, reported_in};
+ghost use Rattle.std.specs.Prelude.{◌≡◌, ◌++◌, ℕ, [], ◌∷◌, List, IfOk, OnOk, map};
+ghost use Rattle.droid_desk_folders.specs.DifferenceLines.{is_reported, is_suggested};
 ghost use Rattle.droid_desk_report.specs.SkippedPaths.{has_path, is_held};
 ghost use Rattle.droid_desk_report.specs.outputs_types.skipped_entry.SkippedEntry.{SkippedEntry};
 
-use crate::difference_line::path_reported;
+use crate::difference_line::{is_older, path_of};
 use droid_desk_report::{SkippedEntry, SkippedPaths, holds_above, paths_of};
-use droid_fixity::Difference;
-use droid_fixity_profile::Seen;
+use droid_fixity_profile::{Difference, Known};
 use std::alloc::{AllocError, Global};
 
-/// Returns the differences whose paths were not reported as skipped, nor a folder above them.
+/// Returns of each difference whether it is reported: unless its path, or a folder above it, was reported as skipped.
 pub(crate) fn reported_in(
     alloc: Global,
     skipped: &[SkippedEntry],
-    seen: &Seen,
-) -> Result<Vec<Difference>, AllocError>
-    ensures { IfOk result (λ reported. reported.items ≡ reported_in skipped.now seen.now) }
+    known: &[Known],
+    differences: &[Difference],
+) -> Result<Vec<bool>, AllocError>
+    ensures { IfOk result (λ reported. reported.items ≡ map (is_reported skipped.now known.now) differences.now) }
 {
     let paths = paths_of(alloc, skipped)?;
     let mut reported = Vec::new(alloc);
-    let differences = seen.differences.as_slice();
     for difference in differences {
-        add_unexplained(&mut reported, &paths, seen, *difference)?;
+        add_reported(&mut reported, &paths, known, difference)?;
     }
     Ok(reported)
 }
 
-/// Appends a difference if it is reported.
-fn add_unexplained(
-    reported: &mut Vec<Difference>,
+/// Appends whether a difference is reported.
+fn add_reported(
+    reported: &mut Vec<bool>,
     paths: &SkippedPaths<'_>,
-    seen: &Seen,
-    difference: Difference,
+    known: &[Known],
+    difference: &Difference,
 ) -> Result<(), AllocError>
     ensures { OnOk result ((skipped : List SkippedEntry) → ((path : List ℕ) → is_held paths.now path ≡ has_path skipped path) →
-        reported.new.items ≡ reported.old.items ++ filter (is_reported skipped seen.now) (difference ∷ [])) }
+        reported.new.items ≡ reported.old.items ++ is_reported skipped known.now difference.now ∷ []) }
 {
-    let path = path_reported(seen.listed.as_slice(), seen.found.as_slice(), difference);
-    if holds_above(paths, path) {
-        return Ok(());
-    }
-    reported.push(difference)?;
+    let path = path_of(known, difference);
+    reported.push(!holds_above(paths, path))?;
     Ok(())
+}
+
+/// Returns whether another --name is suggested: the profile has a folder or file that was skipped as it was before.
+pub(crate) fn is_suggested(skipped: &[SkippedEntry]) -> bool
+    ensures { result ≡ is_suggested skipped.now }
+{
+    let mut suggested = false;
+    for entry in skipped {
+        suggested = suggested || is_older(entry.why);
+    }
+    suggested
 }

@@ -22,6 +22,10 @@ use std::fs::{File, Files};
 use std::net::{Net, TcpListener, TcpStream};
 use std::time::Clock;
 
+/// What to do where the profile has a folder or file as it was before.
+const ANOTHER_NAME: &str =
+    "a file differs: give another --name to submit the folder as it is now, as a new profile";
+
 /// A sender over connections to a port of this machine.
 type PortSender<'a, R> = Sender<Streams<Loopback<'a, R>, Noted<TcpStream>>>;
 
@@ -123,6 +127,7 @@ where
         Ok(compared) => {
             let ending = end_compared(rt, &watcher, options, absolute, &compared);
             watcher.watcher.end();
+            print_unread(rt, options, &compared);
             ending
         }
         Err(CommandFault::Uncounted(fault)) => SubmissionEnding::Uncounted(fault),
@@ -161,7 +166,7 @@ where
 {
     watcher.watcher.clear();
     print_profile(rt, compared.profile);
-    print_differences(rt, compared);
+    print_differences(rt, options, compared);
     if let Err(ending) = write_skipped(rt, options.skipped, watcher.skipped.as_slice()) {
         return ending;
     }
@@ -195,15 +200,44 @@ fn print_profile<R: Print>(rt: &R, profile: u32) {
     let _ = println!(rt; "profile {profile}");
 }
 
-/// Prints a line for each difference that was not reported as skipped.
-fn print_differences<R: Eprint>(rt: &R, compared: &Compared) {
-    for difference in compared.reported.as_slice() {
+/// Prints a line for each difference that is reported.
+fn print_differences<R: Eprint>(rt: &R, options: SubmitOptions<'_>, compared: &Compared) {
+    for place in 0..compared.differences.len() {
+        print_difference(rt, options, compared, place);
+    }
+}
+
+/// Prints a line for the difference at this place, if it is reported.
+fn print_difference<R: Eprint>(
+    rt: &R,
+    options: SubmitOptions<'_>,
+    compared: &Compared,
+    place: usize,
+) {
+    let Some(reported) = compared.reported.get(place) else {
+        return;
+    };
+    let Some(difference) = compared.differences.get(place) else {
+        return;
+    };
+    if *reported {
         let line = DifferenceLine {
-            difference: *difference,
-            listed: compared.seen.listed.as_slice(),
-            found: compared.seen.found.as_slice(),
+            difference,
+            known: compared.known.as_slice(),
+            hash: options.hash,
         };
         let _ = eprint!(rt; "{line}");
+    }
+}
+
+/// Prints how many files were not read, and what to do where the profile has the folder as it was before.
+fn print_unread<R: Eprint>(rt: &R, options: SubmitOptions<'_>, compared: &Compared) {
+    if options.quiet {
+        return;
+    }
+    let _ = eprintln!(rt; "files not read again: {}", compared.unread);
+    if compared.is_suggested {
+        let _ = eprintln!(rt; "{ANOTHER_NAME}");
     }
 }
 

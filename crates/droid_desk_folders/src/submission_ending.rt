@@ -4,10 +4,10 @@ ghost use Rattle.std.specs.Prelude.{◌≡◌, option_map};
 ghost use Rattle.droid_desk_folders.specs.SubmissionEndings.{ending_of, fault_text, status_of, uncompared, with_page};
 
 use crate::begun_options::BegunOptions;
-use crate::check_fault::CheckFault;
 use crate::profile_comparison::ComparisonFault;
 use crate::submission_fault_names::{check_name, submitting_name, transfer_name};
 use droid_desk_report::{PageFault, output_fault_name, walk_fault_name};
+use droid_fixity_profile::TextFault;
 use droid_tree::WalkFault;
 use droid_tree_disk::OutputFault;
 use droid_tree_remote::{RemoteFault, TransferFault};
@@ -53,10 +53,12 @@ pub enum SubmissionEnding {
     OtherOptions(BegunOptions),
     /// The export could not be read.
     NoExport(TransferFault),
+    /// The export has this many bytes, more than a submission reads.
+    TooLong(u64),
     /// Other requests came between the parts of the export, each time that it was begun.
     Disturbed,
     /// The profile could not be compared with the folder.
-    Unchecked(CheckFault),
+    Unchecked(TextFault),
     /// Everything was written but the page.
     NoPage(PageFault),
 }
@@ -89,6 +91,7 @@ impl SubmissionEnding {
     {
         match fault {
             ComparisonFault::NoExport(fault) => SubmissionEnding::NoExport(fault),
+            ComparisonFault::TooLong(total) => SubmissionEnding::TooLong(total),
             ComparisonFault::Disturbed => SubmissionEnding::Disturbed,
             ComparisonFault::Unchecked(fault) => SubmissionEnding::Unchecked(fault),
         }
@@ -112,6 +115,7 @@ impl SubmissionEnding {
             | SubmissionEnding::Unsubmitted(_)
             | SubmissionEnding::OtherOptions(_)
             | SubmissionEnding::NoExport(_)
+            | SubmissionEnding::TooLong(_)
             | SubmissionEnding::Disturbed
             | SubmissionEnding::Unchecked(_)
             | SubmissionEnding::NoPage(_) => 4,
@@ -134,6 +138,7 @@ impl SubmissionEnding {
             SubmissionEnding::Unsubmitted(fault) => Some(submitting_name(fault)),
             SubmissionEnding::OtherOptions(_) => Some("Options"),
             SubmissionEnding::NoExport(fault) => Some(transfer_name(fault)),
+            SubmissionEnding::TooLong(_) => Some("TooLong"),
             SubmissionEnding::Disturbed => Some("Disturbed"),
             SubmissionEnding::Unchecked(fault) => Some(check_name(fault)),
             SubmissionEnding::NoPage(fault) => Some(fault.name()),

@@ -3,7 +3,7 @@
 ghost use Rattle.std.specs.Prelude.{◌≡◌};
 ghost use Rattle.droid_desk_folders.specs.SubmissionEndings.{check_text, refusal_text, submitting_text, transfer_text, walking_text};
 
-use crate::check_fault::CheckFault;
+use droid_fixity_profile::TextFault;
 use droid_frame::{Limit, Refusal};
 use droid_tree_remote::{RemoteFault, SubmissionFault, TransferFault};
 
@@ -75,11 +75,11 @@ pub(crate) fn refusal_name(refusal: Refusal) -> &'static str
 }
 
 /// Names a fault of the comparison.
-pub(crate) fn check_name(fault: CheckFault) -> &'static str
+pub(crate) fn check_name(fault: TextFault) -> &'static str
     ensures { result.now ≡ check_text fault }
 {
     match fault {
-        CheckFault::Memory => "Memory",
-        CheckFault::NoProfile | CheckFault::SamePath | CheckFault::Moment => "Reply",
+        TextFault::Memory => "Memory",
+        TextFault::Wrong { .. } => "Reply",
     }
 }

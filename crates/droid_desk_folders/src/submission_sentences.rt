@@ -1,14 +1,14 @@
 //! Sentences that say how a submission ended, and what to do.
 
 use crate::begun_options::BegunOptions;
-use crate::check_fault::CheckFault;
 use crate::submission_ending::{OutputFile, SubmissionEnding};
 use droid_desk_arguments::SubmitOptions;
 use droid_desk_report::{NO_MEMORY, Shown, print_no_folder, print_no_output, print_no_page};
+use droid_fixity_profile::{TextFault, column_name};
 use droid_frame::{Limit, Refusal};
 use droid_tree::WalkFault;
 use droid_tree_disk::OutputFault;
-use droid_tree_remote::{RemoteFault, SubmissionFault, TransferFault};
+use droid_tree_remote::{EXPORT_LIMIT, RemoteFault, SubmissionFault, TransferFault};
 use std::fs::Files;
 use std::io::{self, ErrorKind};
 
@@ -58,9 +58,12 @@ impl SubmissionEnding {
                 port,
                 "other clients sent requests between the parts of the CSV, a hundred times: run the same command again later",
             ),
-            SubmissionEnding::Unchecked(CheckFault::Memory) => eprintln!(rt; "{NO_MEMORY}"),
-            SubmissionEnding::Unchecked(fault) => {
-                eprintln!(rt; "port {port}: {}: {MISTAKE}", check_sentence(fault))
+            SubmissionEnding::TooLong(total) => print_too_long(rt, port, total),
+            SubmissionEnding::Unchecked(TextFault::Wrong { record, column }) => {
+                let name = column_name(options.hash, column);
+                eprintln!(rt;
+                    "port {port}: the CSV that came is not that of a profile: record {record} is wrong in {name}: {MISTAKE}"
+                )
             }
             _ => eprintln!(rt; "{NO_MEMORY}"),
         }
@@ -210,6 +213,13 @@ fn print_busy<R: Eprint>(rt: &R, options: SubmitOptions<'_>) -> io::Result<()> {
     )
 }
 
+/// Says that the profile's CSV is too long.
+fn print_too_long<R: Eprint>(rt: &R, port: u16, total: u64) -> io::Result<()> {
+    eprintln!(rt;
+        "port {port}: the profile's CSV has {total} bytes, more than the {EXPORT_LIMIT} that submit reads: submit its subfolders one by one"
+    )
+}
+
 /// Prints a sentence about the service on a port.
 fn print_port<R: Eprint>(rt: &R, port: u16, sentence: &str) -> io::Result<()> {
     eprintln!(rt; "port {port}: {sentence}")
@@ -232,15 +242,5 @@ fn refusal_sentence(refusal: Refusal) -> &'static str {
         Refusal::Memory => "the service is out of memory: run the same command again to resume",
         _ =>
             "the service refused a request that it must take: this is a mistake in droid_desk or in the service",
-    }
-}
-
-fn check_sentence(fault: CheckFault) -> &'static str {
-    match fault {
-        CheckFault::Memory => "out of memory",
-        CheckFault::NoProfile => "the CSV that came is not that of a profile",
-        CheckFault::SamePath => "the profile has two entries of one path",
-        CheckFault::Moment =>
-            "the profile has an entry with a modification time that the service must refuse",
     }
 }

@@ -20,6 +20,7 @@ pub(crate) fn walk_options(options: SubmitOptions<'_>) -> Options
         match_all: options.match_all,
         hash: options.hash,
         piece_size: options.piece_size,
+        check: options.check,
     }
 }
 

@@ -1,5 +1,5 @@
 -- Counting formats, one after the other.
-use Rattle.std.proofs.Common.{◌≡◌, ℕ, zero, suc, ◌+◌, ◌<◌, ◌≤◌, Bool, true, false, cond, List, [], ◌∷◌, ◌++◌, Option, Some, unwrap_or, length, take, get_or, String, bytes_eq, count_by, refl, sym, ap, subst, ◌∙◌, zero-add, arith}
+use Rattle.std.proofs.Common.{◌≡◌, ℕ, zero, suc, ◌+◌, ◌<◌, ◌≤◌, max, if◌then◌else◌, Bool, true, false, cond, List, [], ◌∷◌, ◌++◌, Option, None, Some, is_some, unwrap_or, length, take, get_or, String, bytes_eq, count_by, refl, sym, ap, subst, ◌∙◌, zero-add, arith}
 use Rattle.std.specs.BTreeMap.{BTreeMap, get_by_text}
 use Rattle.std.specs.Map.{update}
 use Rattle.std.proofs.lemmas.Bool.Decides.{nat_tests}
@@ -51,3 +51,8 @@ module _ {Y : Type 0} (before after : BTreeMap (String Y) ℕ) (puid : List ℕ)
 
   pub counted_once : CountsFormats (puid ∷ []) before after
   counted_once format = at_format format (bytes_eq puid format) refl
+
+-- a format more, where fewer than 4,096 were there
+pub one_more_few : {V : Type 0} (before between after : ℕ) (old : Option V) → between ≡ before → after ≡ between + (if is_some old then 0 else 1) → between < 4096 → after ≤ max 4096 before
+one_more_few before between after None same is few = omega (arith, same, is, few)
+one_more_few before between after (Some v) same is few = omega (arith, same, is, few)

@@ -11,9 +11,9 @@ count_line name count = name ++ (codes ": " ++ (decimal count ++ 10 ∷ []))
 unfoldable pub format_line : FormatCount → List ℕ
 format_line format = codes "format " ++ count_line format.puid format.count
 
--- the formats, or that there was no memory to count them
+-- the formats, or that not all could be counted
 unfoldable pub formats_text : Option (List FormatCount) → List ℕ
-formats_text None = codes "formats: there was no memory to count them" ++ 10 ∷ []
+formats_text None = codes "formats: too many to count, or no memory to count them" ++ 10 ∷ []
 formats_text (Some reported) = flat_map format_line reported
 
 -- how many of the skipped entries are symbolic links, unless none is

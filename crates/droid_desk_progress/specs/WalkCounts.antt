@@ -1,6 +1,6 @@
 -- How a walk is counted (this project's own).
-use Rattle.std.specs.Prelude.{◌≡◌, ℕ, ◌+◌, Bool, true, false, List, [], String, count_by, unwrap_or, bytes_eq, ◌==◌, if◌then◌else◌}
-use Rattle.std.specs.BTreeMap.{BTreeMap, get_by_text}
+use Rattle.std.specs.Prelude.{◌≡◌, ℕ, ◌+◌, ◌≤◌, max, Bool, true, false, List, [], String, count_by, unwrap_or, bytes_eq, ◌==◌, if◌then◌else◌}
+use Rattle.std.specs.BTreeMap.{BTreeMap, btree_map_len, get_by_text}
 use Rattle.droid_frame.specs.types.method.Method.{Method}
 use Rattle.droid_frame.specs.types.method.Method.TheVariants.{Unidentified, Signature, Extension}
 use Rattle.droid_frame.specs.types.reply.Reply.{Reply}
@@ -86,7 +86,12 @@ CountsFormats puids before after = (format : List ℕ) → count_in after format
 abbrev pub KeepsFormats : List (List ℕ) → Totals → Totals → Type 0
 KeepsFormats puids before after = after.has_all_formats ≡ true → (before.has_all_formats ≡ true) × CountsFormats puids before.formats after.formats
 
+-- there are no more formats than a registry has, whatever was heard
+abbrev pub HasFew : {Y : Type 0} → BTreeMap (String Y) ℕ → BTreeMap (String Y) ℕ → Type 0
+HasFew before after = btree_map_len after ≤ max 4096 (btree_map_len before)
+
 -- what was heard is counted
 pub record Hears (before : Totals) (heard : Heard) (after : Totals) : Type 0 where
   pub counts : after.counts ≡ after_heard heard before.counts
   pub formats : KeepsFormats (puids_in heard) before after
+  pub few : HasFew before.formats after.formats

@@ -31,7 +31,7 @@ impl Display for CountLine<'_> {
 pub(crate) struct Table<'a> {
     /// The numbers.
     pub counts: Counts,
-    /// The most frequent formats. `None` if there was no memory to count them.
+    /// The most frequent formats. `None` if not all could be counted.
     pub formats: Option<&'a [FormatCount]>,
 }
 
@@ -74,7 +74,7 @@ impl Display for Table<'_> {
     }
 }
 
-/// The most frequent formats, or that there was no memory to count them.
+/// The most frequent formats, or that not all could be counted.
 #[derive(Clone, Copy)]
 struct Formats<'a>(Option<&'a [FormatCount]>);
 
@@ -85,7 +85,7 @@ impl Display for Formats<'_> {
     fn fmt<W: Write>(&self, f: &mut Formatter<W>) -> fmt::Result {
         match self.0 {
             Some(reported) => write_formats(f, reported),
-            None => writeln!(f, "formats: there was no memory to count them"),
+            None => writeln!(f, "formats: too many to count, or no memory to count them"),
         }
     }
 }

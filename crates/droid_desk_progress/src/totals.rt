@@ -1,12 +1,15 @@
 //! Counts entries and formats of a walk.
 
 ghost use Rattle.std.specs.Prelude.{◌≡◌, [], ◌∷◌, OnOk};
-ghost use Rattle.droid_desk_progress.specs.WalkCounts.{after_found, puids_of, CountsFormats, KeepsFormats};
+ghost use Rattle.droid_desk_progress.specs.WalkCounts.{after_found, puids_of, CountsFormats, HasFew, KeepsFormats};
 
 use crate::counts::Counts;
 use droid_frame::{Reply, Text, Texts};
 use std::alloc::{AllocError, Global};
 use std::collections::BTreeMap;
+
+/// How many formats are counted at most: a registry has no more.
+const FORMATS_LIMIT: usize = 4_096;
 
 /// The totals of a walk.
 #[derive(Drop)]
@@ -16,7 +19,7 @@ pub(crate) struct Totals {
     pub counts: Counts,
     /// How many files have each format.
     pub formats: BTreeMap<String, u64>,
-    /// Whether all formats were counted. False after memory ran out.
+    /// Whether all formats were counted. False after memory ran out, and if there are too many.
     pub has_all_formats: bool,
 }
 
@@ -35,6 +38,7 @@ impl Totals {
     pub fn count_found(&mut self, found: &Reply)
         ensures counts { self.new.counts ≡ after_found found.now self.old.counts }
         ensures formats { KeepsFormats (puids_of found.now) self.old self.new }
+        ensures few { HasFew self.old.formats self.new.formats }
     {
         self.counts.count_found(found);
         let Reply::Finished { puids, .. } = found else {
@@ -46,13 +50,14 @@ impl Totals {
     }
 }
 
-/// Counts each of these formats once. If memory runs out, only some are counted.
+/// Counts each of these formats once. If memory runs out, or there are too many, only some are counted.
 fn count_formats(
     alloc: Global,
     formats: &mut BTreeMap<String, u64>,
     puids: &Texts,
 ) -> Result<(), AllocError>
-    ensures { OnOk result (CountsFormats puids.now formats.old formats.new) }
+    ensures counts { OnOk result (CountsFormats puids.now formats.old formats.new) }
+    ensures few { HasFew formats.old formats.new }
 {
     for puid in puids.as_slice() {
         count_format(alloc, formats, puid)?;
@@ -60,17 +65,21 @@ fn count_formats(
     Ok(())
 }
 
-/// Counts a format once.
+/// Counts a format once. Fails if it is new, and there is no memory for it or enough formats are there.
 fn count_format(
     alloc: Global,
     formats: &mut BTreeMap<String, u64>,
     puid: &Text,
 ) -> Result<(), AllocError>
-    ensures { OnOk result (CountsFormats (puid.now ∷ []) formats.old formats.new) }
+    ensures counts { OnOk result (CountsFormats (puid.now ∷ []) formats.old formats.new) }
+    ensures few { HasFew formats.old formats.new }
 {
     if let Some(count) = formats.get_mut(puid.as_str()) {
         *count = count.saturating_add(1);
         return Ok(());
+    }
+    if formats.len() >= FORMATS_LIMIT {
+        return Err(AllocError);
     }
     let puid = puid.try_clone(alloc)?.into_string();
     formats.insert(puid, 1)?;

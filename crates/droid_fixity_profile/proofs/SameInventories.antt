@@ -9,7 +9,7 @@ use Rattle.std.proofs.lemmas.Cmp.{nat_list_cmp_total, tied_itself}
 use Rattle.std.proofs.lemmas.List.Sorted.{Contains-permutation, IsPermutation-sym}
 use Rattle.droid_fixity.specs.Inventories.{AreInOrder, IsBefore}
 use Rattle.droid_fixity.specs.declared.item.Item.{Item}
-use Rattle.droid_fixity_profile.specs.Comparisons.{IsInventory}
+use Rattle.droid_fixity_profile.specs.Inventories.{IsInventory}
 
 abbrev paths : List Item → List (List ℕ)
 paths items = map (λ item. item.path) items
@@ -68,8 +68,8 @@ same_lists (x ∷ xs) (y ∷ ys) first second into back =
 
 -- ---- inventories
 
-pub same_inventory : (items others one other : List Item) → IsPermutation items others → IsInventory items one → IsInventory others other → one ≡ other
-same_inventory items others one other same is also =
+pub same_inventory : (items one other : List Item) → IsInventory items one → IsInventory items other → one ≡ other
+same_inventory items one other is also =
     same_lists one other is.in_order also.in_order
-    (λ z there. permuted others other also.same z (permuted items others same z (permuted one items (IsPermutation-sym items one is.same) z there)))
-    (λ z there. permuted items one is.same z (permuted others items (IsPermutation-sym items others same) z (permuted other others (IsPermutation-sym others other also.same) z there)))
+    (λ z there. permuted items other also.same z (permuted one items (IsPermutation-sym items one is.same) z there))
+    (λ z there. permuted items one is.same z (permuted other items (IsPermutation-sym items other also.same) z there))

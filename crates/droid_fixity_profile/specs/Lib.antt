@@ -1,4 +1,14 @@
-pub mod Agreement
-pub mod Comparisons
+pub mod Comparing
+pub mod Differences
+pub mod EntryMaps
+pub mod EntryReading
 pub mod Exports
+pub mod FormatMaps
+pub mod Inventories
 pub mod Nodes
+pub mod ProfileRows
+pub mod ProfileTexts
+pub mod RowReading
+pub mod RowTests
+pub mod Spelling
+pub mod TextReading

@@ -1,9 +1,6 @@
 -- Part after part of an export.
-use Rattle.std.proofs.Common.{◌≡◌, ℕ, ◌+◌, Option, List, [], ◌∷◌, ◌++◌, length, take, drop, inl, inr, refl, sym, ap, subst, ◌∙◌, length-append, append-nil, append_assoc, arith}
-use Rattle.std.specs.Io.KnownBytes.{Appends}
-use Rattle.std.proofs.KnownBytes.{Appends-nil, Appends-trans}
+use Rattle.std.proofs.Common.{◌≡◌, ◌≢◌, ℕ, ◌+◌, ◌*◌, ◌<◌, ◌≤◌, min, List, [], ◌∷◌, ◌++◌, length, inl, inr, refl, sym, ap, subst, ◌∙◌, length-append, append-nil, append_assoc, arith}
 use Rattle.std.proofs.lemmas.Grind.{flat_map-append}
-use Rattle.std.proofs.lemmas.List.{take-append-drop}
 use Rattle.droid_frame.specs.types.frame.Frame.{Frame}
 use Rattle.droid_frame.specs.types.reply.Reply.{Reply}
 use Rattle.droid_frame.specs.types.reply.Reply.TheVariants as replies
@@ -18,9 +15,9 @@ use Rattle.droid_tree_connection.specs.TransferFaults.{Explains}
 use Rattle.droid_tree_connection.specs.declared.transfer_fault.TransferFault.{TransferFault}
 use Rattle.droid_tree_connection.specs.declared.transfer_fault.TransferFault.TheVariants as transfers
 use Rattle.droid_tree_connection.proofs.Going.{answered_after, answered_before, explains_after, goes_in, goes_none, goes_on, nothing_in}
-use Rattle.droid_tree_remote.specs.Exports.{ArePartsOf, Downloads, EndsAsking, EndsExport, ExplainsEnd, ExplainsReply, ExplainsUnwritten, Exports, ExportsFront, IsPartFrame, OnlyAsks, joined, part_frame}
+use Rattle.droid_tree_remote.specs.Exports.{ArePartsOf, AreOfTwo, Disturbs, Downloads, EndsAsking, EndsExport, ExplainsEnd, ExplainsReply, ExplainsRoom, Exports, ExportsFront, IsPartFrame, OnlyAsks, export_limit, joined, part_frame, part_length}
 use Rattle.droid_tree_remote.specs.declared.remote_fault.DownloadFault.{DownloadFault}
-use Rattle.droid_tree_remote.specs.declared.remote_fault.DownloadFault.TheVariants.{Sending, Writing}
+use Rattle.droid_tree_remote.specs.declared.remote_fault.DownloadFault.TheVariants.{Long, NoRoom, Sending}
 use Rattle.droid_tree_remote.proofs.Pausing.{stands_later}
 
 joined_more : (parts : List (List ℕ)) (part : List ℕ) → joined (parts ++ part ∷ []) ≡ joined parts ++ part
@@ -87,6 +84,12 @@ module _ (client : ℕ) (name : List ℕ) (profile : ℕ) where
       stands_on = stands_later known facts first.goes.events second.goes.events new second.stands_on;
     }
 
+    -- of parts that have bytes the first came
+    first_came : (facts : List Fact) (events : List Event) (as_of total : ℕ) (parts : List (List ℕ)) → ArePartsOf client name profile known facts events as_of total 0 parts → 0 < length (joined parts)
+        → (bytes : List ℕ) × IsAnswered known facts events (part_frame client name profile 0) (replies.Part as_of total bytes)
+    first_came facts events as_of total [] are some = absurd (omega (arith, some))
+    first_came facts events as_of total (part ∷ parts) are some = (part, are.0)
+
     -- ---- why no part came
 
     -- no reply came
@@ -149,105 +152,137 @@ module _ (client : ℕ) (name : List ℕ) (profile : ℕ) where
     ends_waits facts from reply fault old new none waits why =
         record { asks = asks_waits facts from reply old new none waits; explained = end_by_reply facts waits.goes.events from reply waits.answered fault why }
 
-    -- a part came and was not written
+    -- the first part came, and there was no room for the text
+    pub ends_unroomed : (facts : List Fact) (as_of total : ℕ) (bytes : List ℕ) (fault : DownloadFault) (old new : InFlight C) → old.waiting.items ≡ [] → Waits does known (part_frame client name profile 0) (replies.Part as_of total bytes) facts old new
+        → ExplainsRoom total fault → EndsAny fault facts old new
+    ends_unroomed facts as_of total bytes (Sending fault) old new none waits why = absurd why
+    ends_unroomed facts as_of total bytes (Long announced) old new none waits why = (
+      asks_waits facts 0 (replies.Part as_of total bytes) old new none waits,
+      record {
+        as_of = as_of;
+        bytes = bytes;
+        answered = subst (λ (n : ℕ). IsAnswered known facts waits.goes.events (part_frame client name profile 0) (replies.Part as_of n bytes)) (sym why.0) waits.answered;
+        over = subst (λ (n : ℕ). export_limit < n) (sym why.0) why.1;
+      },
+    )
+    ends_unroomed facts as_of total bytes NoRoom old new none waits why = asks_waits facts 0 (replies.Part as_of total bytes) old new none waits
+
+    -- no memory was left for a part
     pub ends_unwritten : (facts : List Fact) (from : ℕ) (reply : Reply) (fault : DownloadFault) (old new : InFlight C) → old.waiting.items ≡ [] → Waits does known (part_frame client name profile from) reply facts old new
-        → ExplainsUnwritten from reply fault → EndsAny fault facts old new
-    ends_unwritten facts from reply (Writing why) old new none waits written = asks_waits facts from reply old new none waits
-    ends_unwritten facts from reply (Sending transfers.Stranger) old new none waits written = ends_waits facts from reply transfers.Stranger old new none waits written
-    ends_unwritten facts from reply (Sending transfers.Memory) old new none waits written = absurd written
-    ends_unwritten facts from reply (Sending transfers.Broken) old new none waits written = absurd written
-    ends_unwritten facts from reply (Sending transfers.Restarted) old new none waits written = absurd written
-    ends_unwritten facts from reply (Sending (transfers.Refused refusal)) old new none waits written = absurd written
-    ends_unwritten facts from reply (Sending transfers.Busy) old new none waits written = absurd written
+        → fault ≡ NoRoom → EndsAny fault facts old new
+    ends_unwritten facts from reply fault old new none waits is = subst (λ (f : DownloadFault). EndsAny f facts old new) (sym is) (asks_waits facts from reply old new none waits)
 
     -- other parts were asked for before
     pub ends_on : (facts : List Fact) (fault : TransferFault) (old now new : InFlight C) (first : Asks facts old now) → Ends fault (facts_after facts first.goes.events) now new → Ends fault facts old new
     ends_on facts fault old now new first ends =
         record { asks = asks_on facts old now new first ends.asks; explained = end_later facts first.goes.events ends.asks.goes.events fault ends.explained }
 
-    pub ends_any_on : (facts : List Fact) (fault : DownloadFault) (old now new : InFlight C) (first : Asks facts old now) → EndsAny fault (facts_after facts first.goes.events) now new → EndsAny fault facts old new
-    ends_any_on facts (Sending fault) old now new first ends = ends_on facts fault old now new first ends
-    ends_any_on facts (Writing why) old now new first ends = asks_on facts old now new first ends
+    pub unwritten_on : (facts : List Fact) (from : ℕ) (reply : Reply) (fault : DownloadFault) (old now new : InFlight C) (first : Asks facts old now) → Waits does known (part_frame client name profile from) reply (facts_after facts first.goes.events) now new
+        → fault ≡ NoRoom → EndsAny fault facts old new
+    unwritten_on facts from reply fault old now new first waits is =
+        subst (λ (f : DownloadFault). EndsAny f facts old new) (sym is) (asks_on facts old now new first (asks_waits (facts_after facts first.goes.events) from reply now new first.none waits))
 
-    abbrev Front : List Fact → ℕ → ℕ → ℕ → InFlight C → InFlight C → Option (List ℕ) → Option (List ℕ) → Type 0
-    Front facts as_of total from old new written written_after = ExportsFront client name profile does as_of total from known facts old new written written_after
+    abbrev Front : List Fact → ℕ → ℕ → ℕ → InFlight C → InFlight C → List ℕ → List ℕ → Type 0
+    Front facts as_of total from old new text text_after = ExportsFront client name profile does as_of total from known facts old new text text_after
 
     -- nothing came yet
-    abbrev pub front_none : (facts : List Fact) (as_of total : ℕ) (old : InFlight C) (written : Option (List ℕ)) → old.waiting.items ≡ [] → StandsOn known facts old → Front facts as_of total 0 old old written written
-    front_none facts as_of total old written none stands = record { parts = []; counted = refl; asks = asks_none facts old none stands; came = tt; wrote = Appends-nil written }
+    abbrev pub front_none : (facts : List Fact) (as_of total : ℕ) (old : InFlight C) (text : List ℕ) → total ≤ export_limit → old.waiting.items ≡ [] → StandsOn known facts old → Front facts as_of total 0 old old text text
+    front_none facts as_of total old text within none stands = record { parts = []; counted = refl; within = within; asks = asks_none facts old none stands; came = tt; wrote = sym (append-nil text) }
 
-    module _ (facts : List Fact) (as_of total from : ℕ) (old now new : InFlight C) (written written_now written_after : Option (List ℕ)) (front : Front facts as_of total from old now written written_now) where
+    module _ (facts : List Fact) (as_of total from : ℕ) (old now new : InFlight C) (text text_now : List ℕ) (front : Front facts as_of total from old now text text_now) where
       abbrev then : List Fact
       then = facts_after facts front.asks.goes.events
 
-      -- another part was asked for
-      module _ (part : List ℕ) (waits : Waits does known (part_frame client name profile from) (replies.Part as_of total part) then now new) where
-        abbrev more : Asks then now new
-        more = asks_waits then from (replies.Part as_of total part) now new front.asks.none waits
+      -- another part was asked for, and appended
+      pub front_more : (text_after part : List ℕ) → Waits does known (part_frame client name profile from) (replies.Part as_of total part) then now new → (after : ℕ) → text_after ≡ text_now ++ part → after ≡ from + length part
+          → Front facts as_of total after old new text text_after
+      front_more text_after part waits after wrote place =
+          let counted = front.counted in
+          record {
+            parts = front.parts ++ part ∷ [];
+            counted = ap length (joined_more front.parts part) ∙ omega (arith, length-append (joined front.parts) part, counted, place);
+            within = front.within;
+            asks = asks_on facts old now new front.asks (asks_waits then from (replies.Part as_of total part) now new front.asks.none waits);
+            came = parts_last known facts (front.asks.goes.events ++ waits.goes.events) as_of total 0 from front.parts part (omega (arith, counted))
+                (parts_before known facts front.asks.goes.events waits.goes.events as_of total 0 front.parts front.came)
+                (answered_after known facts front.asks.goes.events waits.goes.events (part_frame client name profile from) (replies.Part as_of total part) waits.answered);
+            wrote = wrote
+                ∙ (ap (λ (l : List ℕ). l ++ part) front.wrote ∙ (append_assoc text (joined front.parts) part ∙ ap (λ (l : List ℕ). text ++ l) (sym (joined_more front.parts part))));
+          }
 
-        all_came : ArePartsOf client name profile known facts (front.asks.goes.events ++ waits.goes.events) as_of total 0 (front.parts ++ part ∷ [])
-        all_came =
-            let counted = front.counted in
-            parts_last known facts (front.asks.goes.events ++ waits.goes.events) as_of total 0 from front.parts part (omega (arith, counted))
-            (parts_before known facts front.asks.goes.events waits.goes.events as_of total 0 front.parts front.came)
-            (answered_after known facts front.asks.goes.events waits.goes.events (part_frame client name profile from) (replies.Part as_of total part) waits.answered)
-
-        -- it was written
-        pub front_more : (after : ℕ) → Appends written_now written_after part → after ≡ from + length part → Front facts as_of total after old new written written_after
-        front_more after wrote place = record {
-          parts = front.parts ++ part ∷ [];
-          counted = let counted = front.counted in ap length (joined_more front.parts part) ∙ omega (arith, length-append (joined front.parts) part, counted, place);
-          asks = asks_on facts old now new front.asks more;
-          came = all_came;
-          wrote = subst (λ (l : List ℕ). Appends written written_after l) (sym (joined_more front.parts part)) (Appends-trans written written_now written_after (joined front.parts) part front.wrote wrote);
-        }
-
-        -- only its first bytes were written
-        pub front_unwritten : (count : ℕ) → Appends written_now written_after (take count part) → Downloads client name profile does known facts old new written written_after
-        front_unwritten count wrote = record {
-          asks = asks_on facts old now new front.asks more;
-          as_of = as_of;
-          total = total;
-          parts = front.parts ++ part ∷ [];
-          came = all_came;
-          bytes = joined front.parts ++ take count part;
-          rest = drop count part;
-          cut = joined_more front.parts part ∙ (ap (λ (l : List ℕ). joined front.parts ++ l) (sym (take-append-drop count part)) ∙ sym (append_assoc (joined front.parts) (take count part) (drop count part)));
-          wrote = Appends-trans written written_now written_after (joined front.parts) (take count part) front.wrote wrote;
-        }
-
-      -- no further part came
-      pub front_missed : Asks then now new → Downloads client name profile does known facts old new written written_now
+      -- no further part was appended
+      pub front_missed : Asks then now new → Downloads client name profile does known facts old new text text_now
       front_missed missed = record {
         asks = asks_on facts old now new front.asks missed;
         as_of = as_of;
         total = total;
         parts = front.parts;
         came = parts_before known facts front.asks.goes.events missed.goes.events as_of total 0 front.parts front.came;
-        bytes = joined front.parts;
-        rest = [];
-        cut = sym (append-nil (joined front.parts));
         wrote = front.wrote;
       }
 
-    -- nothing further was asked for
-    pub front_ended : (facts : List Fact) (as_of total from : ℕ) (old now : InFlight C) (written written_now : Option (List ℕ)) → Front facts as_of total from old now written written_now
-        → Downloads client name profile does known facts old now written written_now
-    front_ended facts as_of total from old now written written_now front = record {
-      asks = front.asks;
-      as_of = as_of;
-      total = total;
-      parts = front.parts;
-      came = front.came;
-      bytes = joined front.parts;
-      rest = [];
-      cut = sym (append-nil (joined front.parts));
-      wrote = front.wrote;
-    }
+      -- the next part is of another export
+      pub front_disturbed : (other_as_of other_total : ℕ) (part : List ℕ) → Waits does known (part_frame client name profile from) (replies.Part other_as_of other_total part) then now new → 0 < from
+          → ((other_as_of ≡ as_of) × (other_total ≡ total) → ⊥) → Disturbs client name profile does known facts old new
+      front_disturbed other_as_of other_total part waits some apart =
+          let counted = front.counted in
+          let asks = asks_on facts old now new front.asks (asks_waits then from (replies.Part other_as_of other_total part) now new front.asks.none waits) in
+          let first = first_came facts front.asks.goes.events as_of total front.parts front.came (omega (arith, some, counted)) in
+          record {
+            asks = asks;
+            two = record {
+              as_of = as_of;
+              total = total;
+              bytes = first.0;
+              first = answered_before known facts front.asks.goes.events waits.goes.events (part_frame client name profile 0) (replies.Part as_of total first.0) first.1;
+              from = from;
+              other_as_of = other_as_of;
+              other_total = other_total;
+              other_bytes = part;
+              other = answered_after known facts front.asks.goes.events waits.goes.events (part_frame client name profile from) (replies.Part other_as_of other_total part) waits.answered;
+              apart = apart;
+            };
+          }
 
-    pub export_done : (facts : List Fact) (as_of total from : ℕ) (old now : InFlight C) (written written_now : Option (List ℕ)) → from ≡ total → Front facts as_of total from old now written written_now
-        → Exports client name profile does known facts old now written written_now
-    export_done facts as_of total from old now written written_now all front = (as_of, total, subst (λ (n : ℕ). Front facts as_of total n old now written written_now) all front)
+    -- nothing further was asked for
+    pub front_ended : (facts : List Fact) (as_of total from : ℕ) (old now : InFlight C) (text text_now : List ℕ) → Front facts as_of total from old now text text_now → Downloads client name profile does known facts old now text text_now
+    front_ended facts as_of total from old now text text_now front = record { asks = front.asks; as_of = as_of; total = total; parts = front.parts; came = front.came; wrote = front.wrote }
+
+    pub export_done : (facts : List Fact) (as_of total from : ℕ) (old now : InFlight C) (text text_now : List ℕ) → from ≡ total → Front facts as_of total from old now text text_now
+        → Exports client name profile does known facts old now text text_now
+    export_done facts as_of total from old now text text_now all front = (as_of, total, subst (λ (n : ℕ). Front facts as_of total n old now text text_now) all front)
+
+-- ---- offsets
+
+-- each part has as many bytes as were asked for, or those up to the end: so the first parts have their number times 2^20
+pub first_at : (total count from : ℕ) → count ≡ part_length total 0 → from ≡ 0 + count → from ≡ min total ((0 + 1) * 1048576)
+first_at total count from full after = omega (arith, full, after)
+
+pub next_at : (total turn from count after : ℕ) → from ≡ min total ((turn + 1) * 1048576) → count ≡ part_length total from → after ≡ from + count → after ≡ min total ((turn + 1 + 1) * 1048576)
+next_at total turn from count after place full is = omega (arith, place, full, is)
+
+pub last_at : (total turn from : ℕ) → from ≡ min total ((turn + 1) * 1048576) → total ≤ 1073741824 → 1024 ≤ turn → from ≡ total
+last_at total turn from place within many = omega (arith, place, within, many)
+
+-- before the end something came
+pub some_came : (total turn from : ℕ) → from ≡ min total ((turn + 1) * 1048576) → from ≢ total → 0 < from
+some_came total turn from place short = omega (arith, place, short)
+
+pub part_within : (total from count : ℕ) → from ≤ total → count ≡ part_length total from → from + count ≤ total
+part_within total from count low full = omega (arith, low, full)
+
+pub place_within : (total turn from : ℕ) → from ≡ min total ((turn + 1) * 1048576) → from ≤ total
+place_within total turn from place = omega (arith, place)
+
+-- no more than 2^30 bytes were appended
+pub within_bound : (text text_now : List ℕ) (total from : ℕ) → length text_now ≡ length text + from → from ≤ total → total ≤ 1073741824 → length text_now ≤ length text + 1073741824
+within_bound text text_now total from long low within = omega (arith, long, low, within)
+
+pub same_bound : (text text_now : List ℕ) → text_now ≡ text → length text_now ≤ length text + 1073741824
+same_bound text text_now same = omega (arith, ap length same)
+
+pub long_more : (text text_now text_after part : List ℕ) (from after : ℕ) → length text_now ≡ length text + from → text_after ≡ text_now ++ part → after ≡ from + length part → length text_after ≡ length text + after
+long_more text text_now text_after part from after long wrote is = omega (arith, long, ap length wrote, length-append text_now part, is)
 
 -- another part is of the same export
 pub same_part : (as_of as_of_too total total_too : ℕ) (part : List ℕ) → (as_of_too ≡ as_of) × (total_too ≡ total) → replies.Part as_of_too total_too part ≡ replies.Part as_of total part

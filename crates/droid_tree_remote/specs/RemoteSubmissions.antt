@@ -1,5 +1,5 @@
 -- A tree that is submitted over a connection (this project's own).
-use Rattle.std.specs.Prelude.{◌≡◌, true, false, [], Option, Some}
+use Rattle.std.specs.Prelude.{◌≡◌, true, false, [], Option, None, Some}
 use Rattle.droid_tree.specs.Heard.{Heard}
 use Rattle.droid_tree.specs.Observation.{Observation}
 use Rattle.droid_tree_connection.specs.Events.{Event}
@@ -31,6 +31,7 @@ module _ {T C W : Type 0} (observes : T → Observation → T → Type 0) (does 
     pub tree : SubmitsTree (Does observes (CallsSender does) hears) options submitted old reached
     pub only_client : new ≡ record reached { client = new.client }
     pub none : new.client.in_flight.waiting.items ≡ []
+    pub going : new.client.stopped ≡ None
     pub converses : IsFresh old.client → Converses old.client.client old.client.name does true (deeds_of_tree options submitted.profile tree.visits) old.client.in_flight new.client.in_flight
 
   -- a submission ended early

@@ -88,6 +88,7 @@ fn pair_of(options: Options, match_all: bool, hash: HashKind) -> Options
         match_all,
         hash,
         piece_size: options.piece_size,
+        check: options.check,
     }
 }
 

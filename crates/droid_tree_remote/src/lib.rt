@@ -20,7 +20,7 @@ pub use droid_tree_connection::{
 };
 pub use droid_tree_submission::{Node, Options, Submitted};
 pub use droid_tree_upload::{Client, ClientFault, SubmissionFault, Upload};
-pub use remote_export::export;
+pub use remote_export::{EXPORT_LIMIT, export};
 pub use remote_fault::{DownloadFault, RemoteFault};
 pub use remote_submission::submit;
 pub use sender::Sender;

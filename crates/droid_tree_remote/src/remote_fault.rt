@@ -3,9 +3,9 @@
 ghost use Rattle.std.specs.Prelude.{◌≡◌};
 ghost use Rattle.droid_tree_remote.specs.RemoteSubmissions.{remote_fault_of};
 
-use droid_frame::WriteFault;
 use droid_tree_connection::TransferFault;
 use droid_tree_upload::SubmissionFault;
+use std::alloc::AllocError;
 use thiserror::Error;
 
 /// Why a tree was not submitted, or only in part.
@@ -29,15 +29,18 @@ pub(crate) fn remote_fault_of(stopped: Option<TransferFault>, fault: SubmissionF
     }
 }
 
-/// Why an export was not read or not written.
+/// Why an export was not read.
 #[derive(Clone, Copy, Debug, PartialEq, Eq, Error)]
 pub enum DownloadFault {
     /// A part was not received.
     #[error("the export could not be read")]
     Sending(TransferFault),
-    /// The export could not be written.
-    #[error("the export could not be written")]
-    Writing(WriteFault),
+    /// The export has this many bytes, more than `EXPORT_LIMIT`.
+    #[error("the export is too long")]
+    Long(u64),
+    /// Out of memory for the export's text.
+    #[error("out of memory for the export")]
+    NoRoom,
 }
 
 impl From<TransferFault> for DownloadFault {
@@ -50,12 +53,12 @@ impl From<TransferFault> for DownloadFault {
     }
 }
 
-impl From<WriteFault> for DownloadFault {
-    ghost use Rattle.droid_tree_remote.specs.declared.remote_fault.DownloadFault.TheVariants.{Writing};
+impl From<AllocError> for DownloadFault {
+    ghost use Rattle.droid_tree_remote.specs.declared.remote_fault.DownloadFault.TheVariants.{NoRoom};
 
-    ghost from_gives = { λ from fault. fault ≡ Writing from };
+    ghost from_gives = { λ _ fault. fault ≡ NoRoom };
 
-    fn from(fault: WriteFault) -> DownloadFault {
-        DownloadFault::Writing(fault)
+    fn from(_error: AllocError) -> DownloadFault {
+        DownloadFault::NoRoom
     }
 }

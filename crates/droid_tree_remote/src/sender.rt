@@ -49,10 +49,12 @@ impl<C: Connection> Sender<C> {
         ensures settled { OnOk result (Wherever self.old.in_flight (λ known facts. EndsAll C.does known facts self.old.in_flight self.new.in_flight)) }
         ensures same { OnOk result (self.new ≡ record self.old { in_flight = self.new.in_flight }) }
         ensures none { OnOk result (self.new.in_flight.waiting.items ≡ []) }
+        ensures going { OnOk result (self.old.stopped ≡ None) }
         ensures failed { IfErr result (λ fault. FailsToSettle C.does fault self.old self.new) }
     {
-        if let Some(fault) = self.stopped {
-            return Err(fault);
+        match self.stopped {
+            Some(fault) => return Err(fault),
+            None => {}
         }
         match self.in_flight.settle_all() {
             Ok(()) => Ok(()),

@@ -101,7 +101,7 @@ module _ {T C W : Type 0} (does : Upload T C W → Deed → Upload T C W → Typ
 
       module _ (found : Found) where
         pub folder_taken : (number : ℕ) (found_after : Found) → does old (added name (replies.Node number)) now → does now (Informed (TookFolder path)) new
-            → found_after.pending.items ≡ found.pending.items ++ record { path = path; number = number } ∷ [] → found_after.nodes.items ≡ found.nodes.items ++ folder_node path entry ∷ []
+            → found_after.pending.items ≡ found.pending.items ++ record { path = path; number = number } ∷ [] → found_after.nodes.items ≡ found.nodes.items ++ folder_node into path number entry ∷ []
             → TakesKid does into folder entry true old new found found_after
         folder_taken number found_after called informed pending nodes = record {
           kid = Subfolder entry number;
@@ -110,7 +110,7 @@ module _ {T C W : Type 0} (does : Upload T C W → Deed → Upload T C W → Typ
           taken_is = refl;
           happened = folder_over number called informed;
           pending = pending ∙ ap (λ (p : List ℕ). found.pending.items ++ record { path = p; number = number } ∷ []) is_here;
-          nodes = nodes ∙ ap (λ (p : List ℕ). found.nodes.items ++ folder_node p entry ∷ []) is_here;
+          nodes = nodes ∙ ap (λ (p : List ℕ). found.nodes.items ++ folder_node into p number entry ∷ []) is_here;
         }
 
         pub refused_folder_taken : (refusal : Refusal) → skips refusal ≡ true → does old (added name (replies.Refused refusal)) now → does now (Informed (Left path (reasons.Refused refusal))) new
@@ -145,7 +145,7 @@ module _ {T C W : Type 0} (does : Upload T C W → Deed → Upload T C W → Typ
         (first_of_kid (AFile entry came.outcome) (deeds ++ []) refl (text, is_file, came.may_come) (append-nil deeds ∙ ap (λ (p : List ℕ). deeds_of_file into p entry came.outcome) is_here))
 
     pub file_taken : (uploaded : Uploaded) (taken : Bool) (found found_after : Found) → Uploads does into path entry uploaded old new → taken ≡ is_taken_file uploaded
-        → found_after.pending.items ≡ found.pending.items → found_after.nodes.items ≡ found.nodes.items ++ nodes_of_file path entry uploaded
+        → found_after.pending.items ≡ found.pending.items → found_after.nodes.items ≡ found.nodes.items ++ nodes_of_file into path entry uploaded
         → TakesKid does into folder entry taken old new found found_after
     file_taken uploaded taken found found_after came is same nodes = record {
       kid = AFile entry came.outcome;
@@ -155,5 +155,5 @@ module _ {T C W : Type 0} (does : Upload T C W → Deed → Upload T C W → Typ
       happened = subst (λ (p : List ℕ). GoesOver does old (deeds_of_file into p entry came.outcome) new) is_here came.happened;
       pending = same ∙ sym (append-nil found.pending.items);
       nodes = nodes
-          ∙ (ap (λ (p : List ℕ). found.nodes.items ++ nodes_of_file p entry uploaded) is_here ∙ ap (λ (u : Uploaded). found.nodes.items ++ nodes_of_file here entry u) came.uploaded_is);
+          ∙ (ap (λ (p : List ℕ). found.nodes.items ++ nodes_of_file into p entry uploaded) is_here ∙ ap (λ (u : Uploaded). found.nodes.items ++ nodes_of_file into here entry u) came.uploaded_is);
     }

@@ -47,16 +47,16 @@ none_of (entry ∷ entries) is = absurd (omega (arith, zero_of (length (entry �
 -- ---- an entry
 
 module _ (into : Destination) (path : List ℕ) where
-  file_there : (entry : FolderEntry) (uploaded : Uploaded) → entry.kind ≡ kinds.File → is_taken_file uploaded ≡ true → HasNode (nodes_of_file (below path entry.name) entry uploaded) path entry
-  file_there entry (uploads.Taken hash) is_file taken =
-      let node : Node = file_node (below path entry.name) entry hash in
+  file_there : (entry : FolderEntry) (uploaded : Uploaded) → entry.kind ≡ kinds.File → is_taken_file uploaded ≡ true → HasNode (nodes_of_file into (below path entry.name) entry uploaded) path entry
+  file_there entry (uploads.Taken file) is_file taken =
+      let node : Node = file_node into (below path entry.name) entry file in
       record { node = node; is_there = Contains-push [] node; path_is = refl; kind_is = sym is_file; modified_is = refl }
-  file_there entry uploads.Differs is_file taken = absurd cc
+  file_there entry (uploads.Differs file) is_file taken = absurd cc
   file_there entry uploads.Skipped is_file taken = absurd cc
 
   kid_there : (kid : Kid) → is_taken into kid ≡ true → MayCome into kid → HasNode (nodes_of_kid into path kid) path (entry_of kid)
   kid_there (Subfolder entry number) taken may =
-      let node : Node = folder_node (below path entry.name) entry in
+      let node : Node = folder_node into (below path entry.name) number entry in
       record { node = node; is_there = Contains-push [] node; path_is = refl; kind_is = sym may.1; modified_is = refl }
   kid_there (AFile entry outcome) taken may = file_there entry (uploaded_of into entry outcome) may.1 taken
   kid_there (RefusedFolder entry refusal) taken may = absurd cc

@@ -1,11 +1,10 @@
 -- What comes of the entries of one folder when they are submitted (this project's own).
 use Rattle.std.specs.Prelude.{◌≡◌, ℕ, Bool, true, false, List, [], ◌∷◌, IsUtf8}
-use Rattle.droid_frame.specs.types.hash_value.HashValue.{HashValue}
-use Rattle.droid_frame.specs.types.hash_value.HashValue.TheVariants as hashes
 use Rattle.droid_frame.specs.types.refusal.Refusal.{Refusal}
 use Rattle.droid_frame.specs.types.reply.Reply.TheVariants as replies
 use Rattle.droid_frame.specs.types.request.Request.{Request}
 use Rattle.droid_frame.specs.types.request.Request.TheVariants.{AddFolder}
+use Rattle.droid_hash.specs.Findings.{no_finding}
 use Rattle.droid_tree.specs.Heard.{Left, TookFolder}
 use Rattle.droid_tree.specs.Kinds.{IsNoNode, reason_of_kind}
 use Rattle.droid_tree.specs.Paths.{below}
@@ -20,6 +19,7 @@ use Rattle.droid_tree_upload.specs.Faults.{skips}
 use Rattle.droid_tree_upload.specs.declared.upload.Destination.{Destination}
 use Rattle.droid_tree_upload.specs.declared.upload.Uploaded.{Uploaded}
 use Rattle.droid_tree_upload.specs.declared.upload.Uploaded.TheVariants as uploads
+use Rattle.droid_tree_upload.specs.declared.upload.UploadedFile.{UploadedFile}
 use Rattle.droid_tree_submission.specs.declared.node.Node.{Node}
 
 -- The outcome of an entry: a folder with its number in the profile; a folder that the service refused; a file with its
@@ -66,28 +66,47 @@ subfolders_of_kid path _ = []
 
 -- ---- the nodes of the profile
 
--- a folder has no length and no hash
-abbrev pub folder_node : List ℕ → FolderEntry → Node
-folder_node path entry = record { path = path; kind = kinds.Folder; modified = entry.modified; len = 0; hash = hashes.Nothing }
+module _ (into : Destination) (path : List ℕ) where
+  -- a folder has no length, and nothing is said of it
+  abbrev pub folder_node : ℕ → FolderEntry → Node
+  folder_node number entry = record {
+    number = number;
+    parent = into.folder;
+    path = path;
+    kind = kinds.Folder;
+    modified = entry.modified;
+    len = 0;
+    found = no_finding;
+    is_read = true;
+  }
 
-abbrev pub file_node : List ℕ → FolderEntry → HashValue → Node
-file_node path entry hash = record { path = path; kind = kinds.File; modified = entry.modified; len = entry.len; hash = hash }
+  abbrev pub file_node : FolderEntry → UploadedFile → Node
+  file_node entry file = record {
+    number = file.number;
+    parent = into.folder;
+    path = path;
+    kind = kinds.File;
+    modified = entry.modified;
+    len = entry.len;
+    found = file.found;
+    is_read = file.is_read;
+  }
 
--- a file that differs is in the profile, but its hash is not known
-abbrev pub nodes_of_file : List ℕ → FolderEntry → Uploaded → List Node
-nodes_of_file path entry (uploads.Taken hash) = file_node path entry hash ∷ []
-nodes_of_file path entry uploads.Differs = file_node path entry hashes.Nothing ∷ []
-nodes_of_file path entry uploads.Skipped = []
+  -- a file that differs is in the profile, with what the service said of it
+  abbrev pub nodes_of_file : FolderEntry → Uploaded → List Node
+  nodes_of_file entry (uploads.Taken file) = file_node entry file ∷ []
+  nodes_of_file entry (uploads.Differs file) = file_node entry file ∷ []
+  nodes_of_file entry uploads.Skipped = []
 
 -- the folder or file that it is in the profile
 abbrev pub nodes_of_kid : Destination → List ℕ → Kid → List Node
-nodes_of_kid into path (Subfolder entry number) = folder_node (below path entry.name) entry ∷ []
-nodes_of_kid into path (AFile entry outcome) = nodes_of_file (below path entry.name) entry (uploaded_of into entry outcome)
+nodes_of_kid into path (Subfolder entry number) = folder_node into (below path entry.name) number entry ∷ []
+nodes_of_kid into path (AFile entry outcome) = nodes_of_file into (below path entry.name) entry (uploaded_of into entry outcome)
 nodes_of_kid into path _ = []
 
 abbrev pub is_taken_file : Uploaded → Bool
-is_taken_file (uploads.Taken hash) = true
-is_taken_file uploads.Differs = false
+is_taken_file (uploads.Taken file) = true
+is_taken_file (uploads.Differs file) = false
 is_taken_file uploads.Skipped = false
 
 -- it is in the profile as it is in the tree

@@ -22,7 +22,7 @@ profile_request options = CreateProfile options.scan_limit options.match_all opt
 
 -- the entries of a folder go into this folder of the profile
 abbrev pub into_of : Options → ℕ → PendingFolder → Destination
-into_of options profile folder = record { profile = profile; folder = folder.number; piece_size = options.piece_size; hash = options.hash }
+into_of options profile folder = record { profile = profile; folder = folder.number; piece_size = options.piece_size; hash = options.hash; check = options.check }
 
 -- what is done in a folder of the tree
 abbrev pub deeds_in : Options → ℕ → Visit → List Deed

@@ -77,7 +77,7 @@ fn submit_folder<T: Tree, C: Client, W: Watcher>(
     match add_folder(upload, into.profile, into.folder, entry.modified, name)? {
         Ok(number) => {
             report_folder(upload, path.as_str());
-            add_folder_node(upload.alloc, found, path, number, entry)?;
+            add_folder_node(upload.alloc, found, into, path, number, entry)?;
             Ok(true)
         }
         Err(refusal) => {
@@ -105,6 +105,6 @@ fn submit_file<T: Tree, C: Client, W: Watcher>(
         EndsEarly (Does T.observes C.calls W.hears) (AreOfFirst into folder.path (entry.now ∷ [])) fault upload.old upload.new) }
 {
     let uploaded = upload_file(upload, into, path.as_str(), name, entry)?;
-    let taken = add_file_node(found, path, entry, uploaded)?;
+    let taken = add_file_node(found, into, path, entry, uploaded)?;
     Ok(taken)
 }

@@ -4,9 +4,10 @@ ghost use Rattle.std.specs.Prelude.{◌≡◌, ◌++◌, [], ◌∷◌, IfOk, On
 ghost use Rattle.droid_tree_submission.specs.Kids.{file_node, folder_node, is_taken_file, nodes_of_file};
 
 use crate::node::Node;
-use droid_frame::{HashValue, Text};
+use droid_frame::Text;
+use droid_hash::no_finding;
 use droid_tree::{EntryKind, FolderEntry, PendingFolder, add_pending};
-use droid_tree_upload::Uploaded;
+use droid_tree_upload::{Destination, Uploaded, UploadedFile};
 use std::alloc::{AllocError, Global};
 use std::collections::VecDeque;
 
@@ -23,19 +24,23 @@ pub(crate) struct Found {
 pub(crate) fn add_folder_node(
     alloc: Global,
     found: &mut Found,
+    into: Destination,
     path: Text,
     number: u32,
     entry: &FolderEntry,
 ) -> Result<(), AllocError>
     ensures pending { OnOk result (found.new.pending.items ≡ found.old.pending.items ++ record { path = path; number = number } ∷ []) }
-    ensures nodes { OnOk result (found.new.nodes.items ≡ found.old.nodes.items ++ folder_node path entry.now ∷ []) }
+    ensures nodes { OnOk result (found.new.nodes.items ≡ found.old.nodes.items ++ folder_node into path number entry.now ∷ []) }
 {
     let node = Node {
+        number,
+        parent: into.folder,
         path: path.try_clone(alloc)?,
         kind: EntryKind::Folder,
         modified: entry.modified,
         len: 0,
-        hash: HashValue::Nothing,
+        found: no_finding(),
+        is_read: true,
     };
     found.nodes.push(node)?;
     add_pending(&mut found.pending, path, number)?;
@@ -45,21 +50,22 @@ pub(crate) fn add_folder_node(
 /// Adds the node of a file if it is in the profile. Returns whether it is there as it is in the tree.
 pub(crate) fn add_file_node(
     found: &mut Found,
+    into: Destination,
     path: Text,
     entry: &FolderEntry,
     uploaded: Uploaded,
 ) -> Result<bool, AllocError>
     ensures taken { IfOk result (λ taken. taken ≡ is_taken_file uploaded) }
-    ensures nodes { OnOk result (found.new.nodes.items ≡ found.old.nodes.items ++ nodes_of_file path entry.now uploaded) }
+    ensures nodes { OnOk result (found.new.nodes.items ≡ found.old.nodes.items ++ nodes_of_file into path entry.now uploaded) }
     ensures pending { found.new.pending.items ≡ found.old.pending.items }
 {
     match uploaded {
-        Uploaded::Taken(hash) => {
-            push_file_node(found, path, entry, hash)?;
+        Uploaded::Taken(file) => {
+            push_file_node(found, into, path, entry, file)?;
             Ok(true)
         }
-        Uploaded::Differs => {
-            push_file_node(found, path, entry, HashValue::Nothing)?;
+        Uploaded::Differs(file) => {
+            push_file_node(found, into, path, entry, file)?;
             Ok(false)
         }
         Uploaded::Skipped => Ok(false),
@@ -69,19 +75,23 @@ pub(crate) fn add_file_node(
 /// Adds the node of a file that is in the profile.
 fn push_file_node(
     found: &mut Found,
+    into: Destination,
     path: Text,
     entry: &FolderEntry,
-    hash: HashValue,
+    file: UploadedFile,
 ) -> Result<(), AllocError>
-    ensures nodes { OnOk result (found.new.nodes.items ≡ found.old.nodes.items ++ file_node path entry.now hash ∷ []) }
+    ensures nodes { OnOk result (found.new.nodes.items ≡ found.old.nodes.items ++ file_node into path entry.now file ∷ []) }
     ensures pending { found.new.pending.items ≡ found.old.pending.items }
 {
     let node = Node {
+        number: file.number,
+        parent: into.folder,
         path,
         kind: EntryKind::File,
         modified: entry.modified,
         len: entry.len,
-        hash,
+        found: file.found,
+        is_read: file.is_read,
     };
     found.nodes.push(node)?;
     Ok(())

@@ -23,6 +23,8 @@ pub struct Options {
     pub hash: HashKind,
     /// How many bytes each piece of a file has, except the last: 1 to 4,194,304.
     pub piece_size: u32,
+    /// Whether files that are finished there are read again, and their hashes compared.
+    pub check: bool,
 }
 
 /// The result of a submission.
@@ -69,6 +71,7 @@ pub fn submit_tree<T: Tree, C: Client, W: Watcher>(
             folder: folder.number,
             piece_size: options.piece_size,
             hash: options.hash,
+            check: options.check,
         };
         let taken = visit_folder(upload, into, &folder, &mut found)?;
         whole = both(whole, taken);

@@ -141,7 +141,7 @@ module _ (into : Destination) (path : List ℕ) (entry : FolderEntry) where
   -- an addition is an outcome of the file
   deeds_of_addition : (addition : Addition) → empty_deeds path entry ++ addition_deeds into path entry addition ≡ deeds_of_file into path entry (outcome_of_addition addition)
   deeds_of_addition (NothingSent gone (Declined refusal)) = simp append_assoc
-  deeds_of_addition (NothingSent gone (Found number found)) = simp append_assoc
+  deeds_of_addition (NothingSent gone (Found number found holding)) = simp append_assoc
   deeds_of_addition (SentRest gone number first (RestWhole pieces (FinishedBy found))) = simp append_assoc
   deeds_of_addition (SentRest gone number first (RestWhole pieces (FinishedOther left))) = simp append_assoc
   deeds_of_addition (SentRest gone number first (RestPart pieces stop (AbandonedBy left))) = simp append_assoc
@@ -150,7 +150,7 @@ module _ (into : Destination) (path : List ℕ) (entry : FolderEntry) where
 
   may_of_addition : (addition : Addition) → MayAdd into path entry addition → MayComeOfFile into entry (outcome_of_addition addition)
   may_of_addition (NothingSent gone (Declined refusal)) may = may
-  may_of_addition (NothingSent gone (Found number found)) may = may
+  may_of_addition (NothingSent gone (Found number found holding)) may = may
   may_of_addition (SentRest gone number first (RestWhole pieces (FinishedBy found))) may = may
   may_of_addition (SentRest gone number first (RestWhole pieces (FinishedOther left))) may = may
   may_of_addition (SentRest gone number first (RestPart pieces stop (AbandonedBy left))) may = may
@@ -159,7 +159,7 @@ module _ (into : Destination) (path : List ℕ) (entry : FolderEntry) where
 
   uploaded_same : (addition : Addition) → uploaded_of_addition into path entry addition ≡ uploaded_of into entry (outcome_of_addition addition)
   uploaded_same (NothingSent gone (Declined refusal)) = refl
-  uploaded_same (NothingSent gone (Found number found)) = refl
+  uploaded_same (NothingSent gone (Found number found holding)) = refl
   uploaded_same (SentRest gone number first (RestWhole pieces (FinishedBy found))) = refl
   uploaded_same (SentRest gone number first (RestWhole pieces (FinishedOther left))) = refl
   uploaded_same (SentRest gone number first (RestPart pieces stop (AbandonedBy left))) = refl

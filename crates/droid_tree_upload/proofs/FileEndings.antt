@@ -82,7 +82,7 @@ module _ (profile number : ℕ) (path : List ℕ) {T C W : Type 0} (does : Uploa
       ([], (finish_failed ∷ changed_deeds profile number path are.0, (FinishedOther are.0, are.1, refl), ap (λ (l : List Deed). (before ++ finish_failed ∷ []) ++ l) (append-nil tail ∙ are.2) ∙ append_assoc before (finish_failed ∷ []) (changed_deeds profile number path are.0))))
 
   pub file_finished : (read : HashValue) (found : Reply) (uploaded : Uploaded) (old middle new : Upload T C W) → is_finished found ≡ true → does old (Called (Answered 0 (Finish profile number) found)) middle
-      → does middle (Informed (heard_of_end path read found)) new → uploaded ≡ uploaded_of_end read found → Finishes profile number path does read uploaded old new
+      → does middle (Informed (heard_of_end path read found)) new → uploaded ≡ uploaded_of_end number true read found → Finishes profile number path does read uploaded old new
   file_finished read found uploaded old middle new finished called informed is =
       record { finishing = FinishedBy found; may_finish = finished; happened = (middle, called, (new, informed, refl)); uploaded_is = is }
 

@@ -1,7 +1,9 @@
 pub mod Additions
 pub mod Behind
+pub mod CheckedFiles
 pub mod Early
 pub mod FileEndings
+pub mod HeldFiles
 pub mod Openings
 pub mod Passing
 pub mod PieceBodies

@@ -12,9 +12,9 @@ use Rattle.droid_tree.specs.declared.skip_reason.Skipped.TheVariants as reasons
 use Rattle.droid_tree_upload.specs.Calls.{Answered}
 use Rattle.droid_tree_upload.specs.Deeds.{Deed, Called, Informed}
 use Rattle.droid_tree_upload.specs.Faults.{IsAfterLastAttempt, fault_of_reply, is_countable, is_finished, is_node, is_open}
-use Rattle.droid_tree_upload.specs.FileOutcomes.{file_request, gone_deeds, hash_of_held, heard_of_end, uploaded_of_end}
+use Rattle.droid_tree_upload.specs.FileOutcomes.{file_request, gone_deeds, holding_deeds}
 use Rattle.droid_tree_upload.specs.Fronts.{AsksInVain, EndsEarly}
-use Rattle.droid_tree_upload.specs.Steps.{AfterAdd, AreOpening, AreOpenings, Declined, Found, OpensFile, OpensNode, missing_deeds, opening_deeds}
+use Rattle.droid_tree_upload.specs.Steps.{AfterAdd, AreHeld, AreOpening, AreOpenings, Declined, EndsHeld, Found, OpensFile, OpensNode, missing_deeds, opening_deeds}
 use Rattle.droid_tree_upload.specs.declared.file_opening.Opened.{Opened}
 use Rattle.droid_tree_upload.specs.declared.file_opening.Opened.TheVariants as openeds
 use Rattle.droid_tree_upload.specs.declared.submission_fault.SubmissionFault.{SubmissionFault}
@@ -26,6 +26,7 @@ use Rattle.droid_tree_upload.specs.declared.upload.Uploaded.TheVariants as uploa
 use Rattle.droid_tree_upload.proofs.Behind.{answer_alone, vain_alone}
 use Rattle.droid_tree_upload.proofs.Early.{answer_ends, just_ends, memory_ends, over_more, over_one, part_ends, vain_ends}
 use Rattle.droid_tree_upload.proofs.FileEndings.{some_finished}
+use Rattle.droid_tree_upload.proofs.HeldFiles.{some_holding}
 
 module _ (into : Destination) (path : List ℕ) (entry : FolderEntry) {T C W : Type 0} (does : Upload T C W → Deed → Upload T C W → Type 0) where
   -- ---- see_node
@@ -33,13 +34,12 @@ module _ (into : Destination) (path : List ℕ) (entry : FolderEntry) {T C W : T
     abbrev added : List Deed
     added = Called (Answered attempt (file_request into entry) (replies.Node number)) ∷ []
 
-    abbrev held : Reply → Deed
-    held found = Informed (heard_of_end path (hash_of_held into.hash entry.len) found)
-
     finish_ends : (fault : SubmissionFault) (first new : Upload T C W) → EndsEarly does (λ whole. whole ≡ added ++ Called (Answered 0 (Finish into.profile number) some_finished) ∷ []) fault first new
         → EndsEarly does (AreOpening into path entry attempt) fault first new
     finish_ends fault first new ends =
-        just_ends does (AreOpening into path entry attempt) fault (added ++ Called (Answered 0 (Finish into.profile number) some_finished) ∷ []) (held some_finished ∷ []) first new ends (Found number some_finished, refl, refl)
+        let some = some_holding into entry in
+        just_ends does (AreOpening into path entry attempt) fault (added ++ Called (Answered 0 (Finish into.profile number) some_finished) ∷ []) (holding_deeds into path entry number some_finished some.0) first new ends
+        (Found number some_finished some.0, (refl, some.1), refl)
 
     pub node_in_vain : (fault : SubmissionFault) (old new : Upload T C W) → AsksInVain does 0 (Finish into.profile number) fault old new
         → AfterAdd does into entry attempt number (EndsEarly does (AreOpening into path entry attempt) fault) old new
@@ -61,10 +61,17 @@ module _ (into : Destination) (path : List ℕ) (entry : FolderEntry) {T C W : T
         finish_ends (faults.Refused refusals.NoSuchNode) first new
         (answer_ends does added 0 (Finish into.profile number) some_finished (faults.Refused refusals.NoSuchNode) first old new (replies.Refused refusals.NoSuchNode) (over_one does first old _ was) gone refl (λ again. inr after) refl)
 
-    pub node_finished : (reply : Reply) (uploaded : Uploaded) (old middle new : Upload T C W) → does old (Called (Answered 0 (Finish into.profile number) reply)) middle → is_finished reply ≡ true → does middle (held reply) new
-        → uploaded ≡ uploaded_of_end (hash_of_held into.hash entry.len) reply → AfterAdd does into entry attempt number (OpensNode into path entry does attempt (Some (openeds.Ended uploaded))) old new
-    node_finished reply uploaded old middle new called finished informed is = λ first was.
-        record { opening = Found number reply; may_open = finished; happened = (old, was, (middle, called, (new, informed, refl))); uploaded_is = is }
+    module _ (reply : Reply) (old middle new : Upload T C W) (called : does old (Called (Answered 0 (Finish into.profile number) reply)) middle) (finished : is_finished reply ≡ true) where
+      pub node_held : (uploaded : Uploaded) → EndsHeld into path entry number reply does uploaded middle new → AfterAdd does into entry attempt number (OpensNode into path entry does attempt (Some (openeds.Ended uploaded))) old new
+      node_held uploaded held = λ first was.
+          record { opening = Found number reply held.holding; may_open = (finished, held.may_hold); happened = (old, was, (middle, called, held.happened)); uploaded_is = held.uploaded_is }
+
+      pub node_unheld : (fault : SubmissionFault) → EndsEarly does (AreHeld into path entry number reply) fault middle new
+          → AfterAdd does into entry attempt number (EndsEarly does (AreOpening into path entry attempt) fault) old new
+      node_unheld fault ends = λ first was.
+          let before : List Deed = added ++ Called (Answered 0 (Finish into.profile number) reply) ∷ [] in
+          part_ends does (AreHeld into path entry number reply) (AreOpening into path entry attempt) fault before first middle new (old, was, (middle, called, refl)) ends
+          (λ whole are. ([], (Found number reply are.0, (finished, are.1), ap (λ (l : List Deed). before ++ l) (append-nil whole ∙ are.2))))
 
     pub node_gone : (reply : Reply) (old new : Upload T C W) → does old (Called (Answered 0 (Finish into.profile number) reply)) new → reply ≡ replies.Refused refusals.NoSuchNode
         → AfterAdd does into entry attempt number (OpensNode into path entry does attempt None) old new

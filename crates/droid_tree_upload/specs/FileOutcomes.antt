@@ -10,6 +10,7 @@ use Rattle.droid_frame.specs.types.reply.Reply.{Reply}
 use Rattle.droid_frame.specs.types.reply.Reply.TheVariants as replies
 use Rattle.droid_frame.specs.types.request.Request.{Request}
 use Rattle.droid_frame.specs.types.request.Request.TheVariants.{AddFile, Finish, Abandon}
+use Rattle.droid_hash.specs.Findings.{finding_of}
 use Rattle.droid_tree.specs.Heard.{Heard, Left, Held, TookFile}
 use Rattle.droid_tree.specs.Observation.{Read, GoesOver}
 use Rattle.droid_tree.specs.Reading.{Stop, IsPastEnd, begin_of, observed_of_stop, reason_of}
@@ -24,6 +25,16 @@ use Rattle.droid_tree_upload.specs.declared.upload.Destination.{Destination}
 use Rattle.droid_tree_upload.specs.declared.upload.Upload.{Upload}
 use Rattle.droid_tree_upload.specs.declared.upload.Uploaded.{Uploaded}
 use Rattle.droid_tree_upload.specs.declared.upload.Uploaded.TheVariants as uploadeds
+use Rattle.droid_tree_upload.specs.declared.upload.UploadedFile.{UploadedFile}
+
+-- what was done with a file that was finished before
+pub data Holding : Type 0 where
+  -- it was not read; of an empty file the end was seen before
+  Kept : Holding
+  -- all of it was read again
+  ReadAgain : (pieces : List (List ℕ)) → Holding
+  -- its reading ended early
+  ReadPartly : (pieces : List (List ℕ)) (stop : Stop) → Holding
 
 -- `gone` are the numbers that the file had before, of nodes that were abandoned
 pub data FileOutcome : Type 0 where
@@ -31,8 +42,8 @@ pub data FileOutcome : Type 0 where
   UnreadFile : (stop : Stop) → FileOutcome
   -- the service refused it
   RefusedFile : (gone : List ℕ) (refusal : Refusal) → FileOutcome
-  -- it was finished before: nothing of it was read, but the end of an empty file
-  HeldFile : (gone : List ℕ) (number : ℕ) (found : Reply) → FileOutcome
+  -- it was finished before: it was kept as it is, or read again
+  HeldFile : (gone : List ℕ) (number : ℕ) (found : Reply) (holding : Holding) → FileOutcome
   -- all pieces were read, those from index `first` on sent, and the file was finished
   WholeFile : (gone : List ℕ) (number first : ℕ) (pieces : List (List ℕ)) (found : Reply) → FileOutcome
   -- its reading ended early, and it was abandoned
@@ -57,10 +68,14 @@ has_other_hash read _ = false
 abbrev pub heard_of_end : List ℕ → HashValue → Reply → Heard
 heard_of_end path read found = cond (has_other_hash read found) (Left path reasons.OtherHash) (TookFile path found)
 
-abbrev pub uploaded_of_end : HashValue → Reply → Uploaded
-uploaded_of_end read found = cond (has_other_hash read found) uploadeds.Differs (uploadeds.Taken read)
+-- a file in the profile: its number, what its Finished said, and whether all of it was read in this run
+abbrev pub file_of : ℕ → Bool → Reply → UploadedFile
+file_of number is_read found = record { number = number; found = finding_of found; is_read = is_read }
 
--- the hash of a file that was finished before: that of no bytes if it is empty, and otherwise none, since it is not read
+abbrev pub uploaded_of_end : ℕ → Bool → HashValue → Reply → Uploaded
+uploaded_of_end number is_read read found = cond (has_other_hash read found) (uploadeds.Differs (file_of number is_read found)) (uploadeds.Taken (file_of number is_read found))
+
+-- the hash of a file that was not read again: that of no bytes if it is empty, and otherwise none
 abbrev pub hash_of_held : HashKind → ℕ → HashValue
 hash_of_held kind size = cond (size == 0) (hash kind []) values.Nothing
 
@@ -84,6 +99,37 @@ module _ (into : Destination) (entry : FolderEntry) where
 abbrev pub empty_deeds : List ℕ → FolderEntry → List Deed
 empty_deeds path entry = cond (entry.len == 0) (Observed (Read path entry 0 1 []) ∷ []) []
 
+-- ---- a file that was finished before
+
+-- it is read again where that is asked for, and it has bytes
+abbrev pub is_checked : Destination → FolderEntry → Bool
+is_checked into entry = into.check && not (entry.len == 0)
+
+-- behind the index of every piece: so none is sent
+abbrev pub past_all : ℕ
+past_all = 4294967295
+
+module _ (into : Destination) (entry : FolderEntry) where
+  abbrev pub MayHold : Holding → Type 0
+  MayHold Kept = is_checked into entry ≡ false
+  MayHold (ReadAgain pieces) = (is_checked into entry ≡ true) × MayRead into.piece_size entry.len past_all (ReadAll pieces)
+  MayHold (ReadPartly pieces stop) = (is_checked into entry ≡ true) × MayRead into.piece_size entry.len past_all (ReadPart pieces stop)
+
+module _ (into : Destination) (path : List ℕ) (entry : FolderEntry) (number : ℕ) where
+  -- its pieces are read, and none is sent
+  abbrev pub checking_deeds : Reading → List Deed
+  checking_deeds reading = Informed (Held path entry.len) ∷ reading_deeds into.profile number past_all path entry reading
+
+  abbrev pub holding_deeds : Reply → Holding → List Deed
+  holding_deeds found Kept = Informed (heard_of_end path (hash_of_held into.hash entry.len) found) ∷ []
+  holding_deeds found (ReadAgain pieces) = checking_deeds (ReadAll pieces) ++ Informed (heard_of_end path (hash into.hash (joined pieces)) found) ∷ []
+  holding_deeds found (ReadPartly pieces stop) = checking_deeds (ReadPart pieces stop) ++ Informed (Left path (reason_of stop)) ∷ []
+
+abbrev pub uploaded_of_holding : Destination → FolderEntry → ℕ → Reply → Holding → Uploaded
+uploaded_of_holding into entry number found Kept = uploaded_of_end number (entry.len == 0) (hash_of_held into.hash entry.len) found
+uploaded_of_holding into entry number found (ReadAgain pieces) = uploaded_of_end number true (hash into.hash (joined pieces)) found
+uploaded_of_holding into entry number found (ReadPartly pieces stop) = uploadeds.Skipped
+
 module _ (into : Destination) (path : List ℕ) (entry : FolderEntry) where
   -- the file was added, and this was replied
   abbrev pub added_deeds : List ℕ → Reply → List Deed
@@ -99,9 +145,9 @@ module _ (into : Destination) (path : List ℕ) (entry : FolderEntry) where
   abbrev pub deeds_of_file : FileOutcome → List Deed
   deeds_of_file (UnreadFile stop) = Observed (observed_of_stop path entry 0 stop) ∷ Informed (Left path (reason_of stop)) ∷ []
   deeds_of_file (RefusedFile gone refusal) = added_deeds gone (replies.Refused refusal) ++ Informed (Left path (reasons.Refused refusal)) ∷ []
-  deeds_of_file (HeldFile gone number found) =
+  deeds_of_file (HeldFile gone number found holding) =
       added_deeds gone (replies.Node number)
-      ++ Called (Answered 0 (Finish into.profile number) found) ∷ Informed (heard_of_end path (hash_of_held into.hash entry.len) found) ∷ []
+      ++ Called (Answered 0 (Finish into.profile number) found) ∷ holding_deeds into path entry number found holding
   deeds_of_file (WholeFile gone number first pieces found) =
       begun_deeds gone number first (ReadAll pieces)
       ++ Called (Answered 0 (Finish into.profile number) found) ∷ Informed (heard_of_end path (hash into.hash (joined pieces)) found) ∷ []
@@ -123,7 +169,7 @@ module _ (into : Destination) (entry : FolderEntry) where
   abbrev pub MayComeOfFile : FileOutcome → Type 0
   MayComeOfFile (UnreadFile stop) = (entry.len ≡ 0) × IsPastEnd stop
   MayComeOfFile (RefusedFile gone refusal) = skips refusal ≡ true
-  MayComeOfFile (HeldFile gone number found) = is_finished found ≡ true
+  MayComeOfFile (HeldFile gone number found holding) = (is_finished found ≡ true) × MayHold into entry holding
   MayComeOfFile (WholeFile gone number first pieces found) = MayBegin first (ReadAll pieces) × (is_finished found ≡ true)
   MayComeOfFile (DroppedFile gone number first pieces stop left) = MayBegin first (ReadPart pieces stop) × (is_left left ≡ true)
   MayComeOfFile (ChangedPiece gone number first pieces bytes left) = MayBegin first (ReadOther pieces bytes) × (is_left left ≡ true)
@@ -133,8 +179,8 @@ module _ (into : Destination) (entry : FolderEntry) where
 -- ---- what is returned
 
 abbrev pub uploaded_of : Destination → FolderEntry → FileOutcome → Uploaded
-uploaded_of into entry (HeldFile gone number found) = uploaded_of_end (hash_of_held into.hash entry.len) found
-uploaded_of into entry (WholeFile gone number first pieces found) = uploaded_of_end (hash into.hash (joined pieces)) found
+uploaded_of into entry (HeldFile gone number found holding) = uploaded_of_holding into entry number found holding
+uploaded_of into entry (WholeFile gone number first pieces found) = uploaded_of_end number true (hash into.hash (joined pieces)) found
 uploaded_of into entry _ = uploadeds.Skipped
 
 -- the file has an outcome, and all that was done follows from it

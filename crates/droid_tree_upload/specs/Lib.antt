@@ -1,4 +1,5 @@
 pub mod Calls
+pub mod Checks
 pub mod Deeds
 pub mod Faults
 pub mod FileOutcomes

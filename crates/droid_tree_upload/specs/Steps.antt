@@ -20,7 +20,7 @@ use Rattle.droid_tree.specs.declared.skip_reason.Skipped.TheVariants as reasons
 use Rattle.droid_tree_upload.specs.Calls.{Answered, Failed, Sent}
 use Rattle.droid_tree_upload.specs.Deeds.{Deed, Observed, Called, Informed}
 use Rattle.droid_tree_upload.specs.Faults.{fault_of_client, is_countable, is_finished, is_left, skips}
-use Rattle.droid_tree_upload.specs.FileOutcomes.{FileOutcome, RefusedFile, HeldFile, WholeFile, DroppedFile, ChangedPiece, ChangedEnd, ChangedStop, changed_deeds, file_request, gone_deeds, hash_of_held, heard_of_end, uploaded_of_end}
+use Rattle.droid_tree_upload.specs.FileOutcomes.{FileOutcome, Holding, RefusedFile, HeldFile, WholeFile, DroppedFile, ChangedPiece, ChangedEnd, ChangedStop, MayHold, changed_deeds, file_request, gone_deeds, heard_of_end, holding_deeds, uploaded_of_end, uploaded_of_holding}
 use Rattle.droid_tree_upload.specs.Fronts.{EndsEarly}
 use Rattle.droid_tree_upload.specs.Pieces.{Reading, ReadAll, ReadPart, ReadOther, AreCut, MayRead, joined, piece_deeds, reading_deeds, sending_deeds}
 use Rattle.droid_tree_upload.specs.declared.client_fault.ClientFault.{ClientFault}
@@ -196,9 +196,9 @@ abbrev pub MayDrop : Dropping → Type 0
 MayDrop (AbandonedBy left) = is_left left ≡ true
 MayDrop (AbandonedOther left) = is_left left ≡ true
 
-abbrev pub uploaded_of_finishing : HashValue → Finishing → Uploaded
-uploaded_of_finishing read (FinishedBy found) = uploaded_of_end read found
-uploaded_of_finishing read (FinishedOther left) = uploadeds.Skipped
+abbrev pub uploaded_of_finishing : ℕ → HashValue → Finishing → Uploaded
+uploaded_of_finishing number read (FinishedBy found) = uploaded_of_end number true read found
+uploaded_of_finishing number read (FinishedOther left) = uploadeds.Skipped
 
 module _ (profile number : ℕ) (path : List ℕ) where
   abbrev pub finishing_deeds : HashValue → Finishing → List Deed
@@ -223,7 +223,7 @@ module _ (profile number : ℕ) (path : List ℕ) where
       pub finishing : Finishing
       pub may_finish : MayFinish finishing
       pub happened : GoesOver does old (finishing_deeds read finishing) new
-      pub uploaded_is : uploaded ≡ uploaded_of_finishing read finishing
+      pub uploaded_is : uploaded ≡ uploaded_of_finishing number read finishing
 
     pub record Drops (why : Skipped) (uploaded : Uploaded) (old new : Upload T C W) : Type 0 where
       pub dropping : Dropping
@@ -271,7 +271,7 @@ module _ (into : Destination) (path : List ℕ) (entry : FolderEntry) (number fi
   MayRest (RestOther pieces bytes left) = MayRead into.piece_size entry.len first (ReadOther pieces bytes) × (is_left left ≡ true)
 
   abbrev pub uploaded_of_rest : Rest → Uploaded
-  uploaded_of_rest (RestWhole pieces finishing) = uploaded_of_finishing (hash into.hash (joined pieces)) finishing
+  uploaded_of_rest (RestWhole pieces finishing) = uploaded_of_finishing number (hash into.hash (joined pieces)) finishing
   uploaded_of_rest _ = uploadeds.Skipped
 
   abbrev pub AreRest : List Deed → Type 0
@@ -282,6 +282,18 @@ module _ (into : Destination) (path : List ℕ) (entry : FolderEntry) (number fi
     pub may_rest : MayRest rest
     pub happened : GoesOver does old (rest_deeds rest) new
     pub uploaded_is : uploaded ≡ uploaded_of_rest rest
+
+-- ---- a file that was finished before
+
+module _ (into : Destination) (path : List ℕ) (entry : FolderEntry) (number : ℕ) (found : Reply) where
+  abbrev pub AreHeld : List Deed → Type 0
+  AreHeld whole = (holding : Holding) × MayHold into entry holding × (whole ≡ holding_deeds into path entry number found holding)
+
+  pub record EndsHeld {T C W : Type 0} (does : Upload T C W → Deed → Upload T C W → Type 0) (uploaded : Uploaded) (old new : Upload T C W) : Type 0 where
+    pub holding : Holding
+    pub may_hold : MayHold into entry holding
+    pub happened : GoesOver does old (holding_deeds into path entry number found holding) new
+    pub uploaded_is : uploaded ≡ uploaded_of_holding into entry number found holding
 
 -- ---- adding a file
 
@@ -298,18 +310,17 @@ AfterAdd {T} {C} {W} does into entry attempt number Is old new = (first : Upload
 -- how a file ended that has nothing to send: refused, or finished before
 pub data Opening : Type 0 where
   Declined : (refusal : Refusal) → Opening
-  Found : (number : ℕ) (found : Reply) → Opening
+  Found : (number : ℕ) (found : Reply) (holding : Holding) → Opening
 
-abbrev pub MayOpen : Opening → Type 0
-MayOpen (Declined refusal) = skips refusal ≡ true
-MayOpen (Found number found) = is_finished found ≡ true
+abbrev pub MayOpen : Destination → FolderEntry → Opening → Type 0
+MayOpen into entry (Declined refusal) = skips refusal ≡ true
+MayOpen into entry (Found number found holding) = (is_finished found ≡ true) × MayHold into entry holding
 
 module _ (into : Destination) (path : List ℕ) (entry : FolderEntry) where
   abbrev pub opening_deeds : ℕ → Opening → List Deed
   opening_deeds attempt (Declined refusal) = Called (Answered attempt (file_request into entry) (replies.Refused refusal)) ∷ Informed (Left path (reasons.Refused refusal)) ∷ []
-  opening_deeds attempt (Found number found) =
-      Called (Answered attempt (file_request into entry) (replies.Node number))
-      ∷ Called (Answered 0 (Finish into.profile number) found) ∷ Informed (heard_of_end path (hash_of_held into.hash entry.len) found) ∷ []
+  opening_deeds attempt (Found number found holding) =
+      Called (Answered attempt (file_request into entry) (replies.Node number)) ∷ Called (Answered 0 (Finish into.profile number) found) ∷ holding_deeds into path entry number found holding
 
   -- the service lacks the piece `first`
   abbrev pub missing_deeds : ℕ → ℕ → ℕ → List Deed
@@ -318,20 +329,20 @@ module _ (into : Destination) (path : List ℕ) (entry : FolderEntry) where
 
   abbrev pub uploaded_of_opening : Opening → Uploaded
   uploaded_of_opening (Declined refusal) = uploadeds.Skipped
-  uploaded_of_opening (Found number found) = uploaded_of_end (hash_of_held into.hash entry.len) found
+  uploaded_of_opening (Found number found holding) = uploaded_of_holding into entry number found holding
 
   -- one attempt ended with nothing to send
   abbrev pub AreOpening : ℕ → List Deed → Type 0
-  AreOpening attempt whole = (opening : Opening) × MayOpen opening × (whole ≡ opening_deeds attempt opening)
+  AreOpening attempt whole = (opening : Opening) × MayOpen into entry opening × (whole ≡ opening_deeds attempt opening)
 
   -- an attempt did, after others
   abbrev pub AreOpenings : List Deed → Type 0
-  AreOpenings whole = (gone : List ℕ) × (opening : Opening) × MayOpen opening × (whole ≡ gone_deeds into entry 0 gone ++ opening_deeds (length gone) opening)
+  AreOpenings whole = (gone : List ℕ) × (opening : Opening) × MayOpen into entry opening × (whole ≡ gone_deeds into entry 0 gone ++ opening_deeds (length gone) opening)
 
   module _ {T C W : Type 0} (does : Upload T C W → Deed → Upload T C W → Type 0) where
     pub record EndsOpening (attempt : ℕ) (uploaded : Uploaded) (old new : Upload T C W) : Type 0 where
       pub opening : Opening
-      pub may_open : MayOpen opening
+      pub may_open : MayOpen into entry opening
       pub happened : GoesOver does old (opening_deeds attempt opening) new
       pub uploaded_is : uploaded ≡ uploaded_of_opening opening
 
@@ -348,7 +359,7 @@ module _ (into : Destination) (path : List ℕ) (entry : FolderEntry) where
     pub record EndsOpenings (uploaded : Uploaded) (old new : Upload T C W) : Type 0 where
       pub gone : List ℕ
       pub opening : Opening
-      pub may_open : MayOpen opening
+      pub may_open : MayOpen into entry opening
       pub happened : GoesOver does old (gone_deeds into entry 0 gone ++ opening_deeds (length gone) opening) new
       pub uploaded_is : uploaded ≡ uploaded_of_opening opening
 
@@ -376,7 +387,7 @@ pub data Addition : Type 0 where
 
 abbrev pub outcome_of_addition : Addition → FileOutcome
 outcome_of_addition (NothingSent gone (Declined refusal)) = RefusedFile gone refusal
-outcome_of_addition (NothingSent gone (Found number found)) = HeldFile gone number found
+outcome_of_addition (NothingSent gone (Found number found holding)) = HeldFile gone number found holding
 outcome_of_addition (SentRest gone number first rest) = outcome_of gone number first rest
 
 module _ (into : Destination) (path : List ℕ) (entry : FolderEntry) where
@@ -385,7 +396,7 @@ module _ (into : Destination) (path : List ℕ) (entry : FolderEntry) where
   addition_deeds (SentRest gone number first rest) = (gone_deeds into entry 0 gone ++ missing_deeds into path entry (length gone) number first) ++ rest_deeds into path entry number first rest
 
   abbrev pub MayAdd : Addition → Type 0
-  MayAdd (NothingSent gone opening) = MayOpen opening
+  MayAdd (NothingSent gone opening) = MayOpen into entry opening
   MayAdd (SentRest gone number first rest) = MayRest into path entry number first rest
 
   abbrev pub uploaded_of_addition : Addition → Uploaded

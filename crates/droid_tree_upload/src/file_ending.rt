@@ -34,7 +34,7 @@ pub(crate) fn finish_file<T: Tree, C: Client, W: Watcher>(
     ensures ended { IfErr result (λ fault. EndsAfter (Does T.observes C.calls W.hears) IsAfterRead (AreFinishing profile number path.now read) fault upload.old upload.new) }
 {
     match finish(upload, profile, number)? {
-        Some(found) => Ok(report_end(upload, path, read, &found)),
+        Some(found) => Ok(report_end(upload, path, number, true, read, &found)),
         None => {
             let uploaded = leave_changed(upload, profile, number, path)?;
             Ok(uploaded)

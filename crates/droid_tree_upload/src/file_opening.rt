@@ -3,17 +3,17 @@
 ghost use Rattle.std.specs.Prelude.{◌≡◌, ◌≢◌, false, true, IfErr, IfNone, IfOk};
 ghost use Rattle.droid_tree_upload.specs.Deeds.{Does};
 ghost use Rattle.droid_tree_upload.specs.Faults.{fault_of_reply, is_countable, is_finished, is_open};
-ghost use Rattle.droid_tree_upload.specs.FileOutcomes.{file_request, hash_of_held};
+ghost use Rattle.droid_tree_upload.specs.FileOutcomes.{file_request};
 ghost use Rattle.droid_tree_upload.specs.Fronts.{EndsEarly};
 ghost use Rattle.droid_tree_upload.specs.Steps.{AfterAdd, AreOpening, AreOpenings, IsNodeState, OpensFile, OpensNode};
 
 use crate::client::Client;
-use crate::reports::{report_end, report_skipped};
+use crate::held_file::end_held;
+use crate::reports::report_skipped;
 use crate::submission_fault::{SubmissionFault, fault_of_refusal};
 use crate::upload::{Destination, Upload, Uploaded};
 use crate::upload_requests::{ask, node_of};
-use droid_frame::{HashKind, HashValue, Refusal, Reply, Request, Text};
-use droid_hash::RunningHash;
+use droid_frame::{Refusal, Reply, Request, Text};
 use droid_tree::{FolderEntry, Skipped, Tree, Watcher};
 
 /// How often a file is added at most.
@@ -149,7 +149,7 @@ fn see_node<T: Tree, C: Client, W: Watcher>(
     )?;
     match state_of(&reply)? {
         NodeState::Finished => {
-            let uploaded = report_end(upload, path, hash_of_held(into.hash, entry.len), &reply);
+            let uploaded = end_held(upload, into, path, entry, number, &reply)?;
             Ok(Some(Opened::Ended(uploaded)))
         }
         NodeState::Gone => {
@@ -174,15 +174,4 @@ fn state_of(reply: &Reply) -> Result<NodeState, SubmissionFault>
         Reply::Refused(refusal) => Err(fault_of_refusal(*refusal)),
         _ => Err(SubmissionFault::Reply),
     }
-}
-
-/// Returns the hash of a file that was finished before: that of no bytes if it is empty, and otherwise none, since it
-/// is not read.
-fn hash_of_held(kind: HashKind, size: u64) -> HashValue
-    ensures { result ≡ hash_of_held kind size }
-{
-    if size == 0 {
-        return RunningHash::of(kind).finish();
-    }
-    HashValue::Nothing
 }

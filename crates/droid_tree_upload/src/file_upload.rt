@@ -22,8 +22,8 @@ use droid_tree::{FolderEntry, Skipped, Tree, Watcher, begin_of};
 /// Sends one file of a folder and returns its outcome; if it was skipped, the watcher is informed why. `path` is the
 /// file's path, and `entry` the file as its folder listed it, of which `name` is the name.
 ///
-/// A file that was finished in an earlier run is not read. Of an unfinished one all bytes are read, for the hash, and
-/// the pieces from the first missing one on are sent.
+/// A file that was finished in an earlier run is read only if `into.check` asks for it, and nothing of it is sent. Of an
+/// unfinished one all bytes are read, for the hash, and the pieces from the first missing one on are sent.
 pub fn upload_file<T: Tree, C: Client, W: Watcher>(
     upload: &mut Upload<T, C, W>,
     into: Destination,

@@ -6,8 +6,9 @@ ghost use Rattle.droid_tree_upload.specs.Deeds.{Does, Informed};
 ghost use Rattle.droid_tree_upload.specs.FileOutcomes.{has_other_hash, heard_of_end, same_hash, uploaded_of_end};
 
 use crate::client::Client;
-use crate::upload::{Upload, Uploaded};
+use crate::upload::{Upload, Uploaded, UploadedFile};
 use droid_frame::{HashValue, Reply};
+use droid_hash::finding_of;
 use droid_tree::{Skipped, Tree, Watcher};
 
 /// Reports that a file was skipped.
@@ -43,22 +44,30 @@ pub(crate) fn report_bytes<T: Tree, C: Client, W: Watcher>(
     upload.watcher.took_bytes(path, count);
 }
 
-/// Reports a finished file: that it was taken, or that it has another hash than the bytes that were read.
+/// Reports a finished file: that it was taken, or that it has another hash than the bytes that were read. `is_read` says
+/// whether all of it was read in this run.
 pub(crate) fn report_end<T: Tree, C: Client, W: Watcher>(
     upload: &mut Upload<T, C, W>,
     path: &str,
+    number: u32,
+    is_read: bool,
     read: HashValue,
     found: &Reply,
 ) -> Uploaded
     ensures informed { Does T.observes C.calls W.hears upload.old (Informed (heard_of_end path.now read found.now)) upload.new }
-    ensures uploaded { result ≡ uploaded_of_end read found.now }
+    ensures uploaded { result ≡ uploaded_of_end number is_read read found.now }
 {
+    let file = UploadedFile {
+        number,
+        found: finding_of(found),
+        is_read,
+    };
     if has_other_hash(read, found) {
         report_skipped(upload, path, Skipped::OtherHash);
-        return Uploaded::Differs;
+        return Uploaded::Differs(file);
     }
     upload.watcher.took_file(path, found);
-    Uploaded::Taken(read)
+    Uploaded::Taken(file)
 }
 
 /// Returns whether a finished file has another hash than the bytes that were read. Without a hash nothing is compared.

@@ -1,6 +1,7 @@
 //! What an upload works with.
 
-use droid_frame::{HashKind, HashValue};
+use droid_frame::HashKind;
+use droid_hash::Finding;
 use std::alloc::Global;
 
 /// All that an upload works with: a tree, a client and a watcher.
@@ -27,15 +28,28 @@ pub struct Destination {
     pub piece_size: u32,
     /// The kind of the profile's hashes.
     pub hash: HashKind,
+    /// Whether a file that was finished before is read again, and its hash compared.
+    pub check: bool,
+}
+
+/// A file that is in the profile.
+#[derive(Clone, Copy, PartialEq, Eq)]
+pub struct UploadedFile {
+    /// The number of the file.
+    pub number: u32,
+    /// What the reply that finished it says.
+    pub found: Finding,
+    /// Whether all of it was read in this run.
+    pub is_read: bool,
 }
 
 /// The outcome of a file.
 #[derive(Clone, Copy, PartialEq, Eq)]
 pub enum Uploaded {
-    /// It is in the profile. This is the hash of its bytes as they were read, or `Nothing` if they were not read now.
-    Taken(HashValue),
+    /// It is in the profile.
+    Taken(UploadedFile),
     /// It is in the profile, with another hash than the bytes have that were read.
-    Differs,
+    Differs(UploadedFile),
     /// It was skipped, and the watcher knows why.
     Skipped,
 }

@@ -34,8 +34,6 @@ class Run(NamedTuple):
     # the files that were abandoned, and the first piece that any other one lacks
     gone: tuple = ()
     lacks: int = 0
-    # how many bytes the first part of the export has; the second one has one
-    part: int = 1
 
 
 def file_run(number, when=WHEN, content=b"Hello", parent=3, piece=LARGE):
@@ -54,7 +52,6 @@ RUNS = [
             (0, ADD_FOLDER, folder_body(b"data"), 6_524_419_159_346_104_331),
             (0, ADD_FOLDER, folder_body("Übersicht".encode()), 8_769_593_997_408_634_530),
             (0, EXPORT, export_body(), 0),
-            (0, EXPORT, export_body(1), 8_443_782_128_048_086_813),
         ],
     ),
     Run(
@@ -65,7 +62,6 @@ RUNS = [
             (0, EXPORT, export_body(LARGEST_PART), 1),
         ],
         words=("--limit", "1", "--match-all", "--hash", "none"),
-        part=LARGEST_PART,
     ),
     Run(
         {b"/in": (0, None), b"/in/data": (0, None)},
@@ -153,7 +149,7 @@ def answering(run):
             PIECE: lambda: refusing(CAUSES["NumberReused"]),
             FINISH: lambda: finishing(run, request.body),
             ABANDON: lambda: replying(ABANDONED),
-            EXPORT: lambda: exporting(run, request.body),
+            EXPORT: lambda: exporting(request.body),
         }[request.kind]()
         return reply(service, request)
 
@@ -165,10 +161,10 @@ def finishing(run, body):
     return refusing(CAUSES["NoSuchNode"]) if node in run.gone else refusing(CAUSES["Incomplete"], *numbers(run.lacks))
 
 
-def exporting(run, body):
-    """Sends a part of a text that is no profile."""
+def exporting(body):
+    """Sends a part of a text that is no profile. It has two parts, the second of one byte."""
     _, start = struct.unpack_from(">IQ", body)
-    return replying(PART, struct.pack(">QQ", 0, run.part + 1) + b"I" * (1 if start else run.part))
+    return replying(PART, struct.pack(">QQ", 0, LARGEST_PART + 1) + b"I" * (1 if start else LARGEST_PART))
 
 
 class Known(InFolder):

@@ -13,9 +13,9 @@ OTHER_HASH = b": its hash in the profile is another\n"
 STRANGER = "port %d: what came is not a reply to the request: is droid_desk serve listening there?"
 MISTAKE = "port %d: {}: this is a mistake in droid_desk or in the service"
 NO_FIT = MISTAKE.format("a reply came that does not fit its request")
-NO_PROFILE = MISTAKE.format("the CSV that came is not that of a profile")
-SAME_PATH = MISTAKE.format("the profile has two entries of one path")
+NO_PROFILE = MISTAKE.format("the CSV that came is not that of a profile: record {} is wrong in {}")
 DISTURBED = "port %d: other clients sent requests between the parts of the CSV, a hundred times: run the same command again later"
+TOO_LONG = "port %d: the profile's CSV has {} bytes, more than the 1073741824 that submit reads: submit its subfolders one by one"
 # the row of a file that nobody sent
 MORE = (
     b'"9","","file:/more.txt","/more.txt","more.txt","","Done","1","File","txt","1970-01-01T00:00:00","false",'
@@ -63,7 +63,7 @@ class OfFiles(Lies):
 
     def test_finished_though_no_piece_came(self):
         """Then the file is not sent; the export, which is right, shows that it is not there."""
-        paths = (b"/a.bin", b"/sub/b.txt", b"/z.bin")
+        paths = (b"/a.bin", b"/z.bin", b"/sub/b.txt")
         self.reports(finished_at_once, *(b"not in the profile: " + path for path in paths))
 
     def test_pieces_said_to_be_held(self):
@@ -108,32 +108,16 @@ class OfTheExport(Lies):
         self.shows(change, b"not in the profile: /z.bin")
 
     def test_no_rows(self):
-        paths = (b"/a.bin", b"/sub", b"/sub/b.txt", b"/z.bin")
+        paths = (b"/a.bin", b"/sub", b"/z.bin", b"/sub/b.txt")
         self.shows(lambda text: COLUMNS, *(b"not in the profile: " + path for path in paths))
-
-    def test_other_fields(self):
-        for old, new, line in (
-            (b'"513"', b'"514"', b"differs: /z.bin: the profile has another length"),
-            (b'"2017-07-14T02:40:00"', b'"2017-07-14T02:40:01"', b"differs: /sub: the profile has another modification time"),
-            (b'"2001-09-09T01:46:40"', b'"2001-09-09T01:46:39"', b"differs: /a.bin: the profile has another modification time"),
-            (b'"/a.bin","a.bin"', b'"/c.bin","c.bin"', b"differs: /a.bin: the profile has it as /c.bin"),
-        ):
-            with self.subTest(line=line):
-                self.shows(lambda text, old=old, new=new: text.replace(old, new), line)
-
-    def test_contradictions(self):
-        """A folder that is a file has a file below it; a name is not the last part of its path."""
-        for old, new in ((b'"","Folder"', b'"0","File"'), (b'"/a.bin"', b'"/c.bin"')):
-            with self.subTest(new=new):
-                self.ends(exporting(lambda text, old=old, new=new: text.replace(old, new)), "Reply", NO_PROFILE)
 
     def test_other_hash(self):
         """Of a file that was read in this run."""
         digest = next(row["MD5_HASH"] for row in walk(self.top)[0] if row["NAME"] == "b.txt").encode()
-        self.shows(lambda text: text.replace(digest, b"0" * 32), b"differs: /sub/b.txt: the profile has another hash")
+        self.shows(lambda text: text.replace(digest, b"0" * 32), b"differs: /sub/b.txt: the profile has another MD5_HASH (record 5)")
 
     def test_of_another_folder(self):
-        """Two of the three files are others, and one has another name."""
+        """It has none of the paths that were sent, and two others. The lines of what was sent come first, in its order."""
         other = self.work + b"/other"
         self.top, top = other, self.top
         self.folder(b"")
@@ -142,33 +126,68 @@ class OfTheExport(Lies):
         with Lying() as service:
             self.assertEqual(submit(self.top, service.port, 7, "--export", self.export), (0, b""))
         text, self.top = self.exported(), top
-        gone = (b"/a.bin", b"/sub", b"/z.bin")
-        moved, more = b"differs: /sub/b.txt: the profile has it as /b.txt", b"not in the folder: /c.txt"
-        self.shows(lambda _: text, b"not in the profile: /a.bin", moved, more, *(b"not in the profile: " + path for path in gone[1:]))
+        gone = (b"/a.bin", b"/sub", b"/z.bin", b"/sub/b.txt")
+        more = (b"/b.txt", b"/c.txt")
+        lines = [b"not in the profile: " + path for path in gone] + [b"not in the folder: " + path for path in more]
+        self.shows(lambda _: text, *lines)
 
     def test_no_profile(self):
         swapped, joined = (COLUMNS.replace(b'"ID","PARENT_ID"', other) for other in (b'"PARENT_ID","ID"', b'"ID,PARENT_ID"'))
-        for text in (b"", b"\n", b"ID\n", COLUMNS[1:], COLUMNS + b"1,2\n", swapped, joined, b"\xff" * 99):
-            self.ends(exporting(lambda _, text=text: text), "Reply", NO_PROFILE)
+        for text, record, column in (
+            (b"", 1, "ID"),
+            (b"\n", 1, "ID"),
+            (b"ID\n", 1, "ID"),
+            (COLUMNS[1:], 1, "ID"),
+            (COLUMNS + b"1,2\n", 2, "ID"),
+            (swapped, 1, "ID"),
+            (joined, 1, "FORMAT_NAME"),
+            (b"\xff" * 99, 1, "ID"),
+        ):
+            self.ends(exporting(lambda _, text=text: text), "Reply", NO_PROFILE.format(record, column))
 
     def test_path_twice(self):
         def change(text):
             last = text.splitlines(keepends=True)[-1]
             return text + last.replace(b'"4"', b'"5"', 1)
 
-        self.ends(exporting(change), "Reply", SAME_PATH)
+        self.ends(exporting(change), "Reply", NO_PROFILE.format(6, "FILE_PATH"))
 
     def test_parts_of_many_exports(self):
-        """The number of accepted commands grows from part to part."""
+        """The number of accepted commands grows from part to part, or the length does."""
+        total = (1 << 20) + 1
 
         def growing(service, request):
-            return replying(PART, struct.pack(">QQ", len(service.frames), 2) + b"I")(service, request)
+            start, most = struct.unpack_from(">QI", request.body, 4)
+            head = struct.pack(">QQ", len(service.frames), total)
+            return replying(PART, head + b"I" * min(most, total - start))(service, request)
 
-        self.ends(first_of(EXPORT, growing, 1_000), "Disturbed", DISTURBED)
+        def longer(service, request):
+            start, most = struct.unpack_from(">QI", request.body, 4)
+            due = total if start == 0 else total + 1
+            return replying(PART, struct.pack(">QQ", 7, due) + b"I" * min(most, due - start))(service, request)
 
-    def test_parts_without_end(self):
-        """A part without bytes before the end is no reply."""
-        self.ends(first_of(EXPORT, replying(PART, struct.pack(">QQ", 0, 1 << 60)), 1_000), "Stranger", STRANGER)
+        for lie in (growing, longer):
+            self.ends(first_of(EXPORT, lie, 1_000), "Disturbed", DISTURBED)
+
+    def test_too_long(self):
+        """The first part announces more than 2^30 bytes: no other one is asked for. It is, where that is the length."""
+
+        def announcing(total):
+            part = struct.pack(">QQ", 0, total) + b"I" * (1 << 20)
+            return first_of(EXPORT, replying(PART, part))
+
+        for total in ((1 << 30) + 1, 1 << 60, (1 << 64) - 1):
+            self.ends(announcing(total), "TooLong", TOO_LONG.format(total))
+        for total, due in (((1 << 30) + 1, 1), (1 << 30, 2)):
+            exports = self.submitted(announcing(total))[2].frames[self.REQUESTS - 1 :]
+            self.assertEqual([frame.kind for frame in exports[:due]], [EXPORT] * due)
+            self.assertEqual(len(exports) > 1, due > 1)
+
+    def test_parts_of_another_length(self):
+        """A part without bytes before the end is no reply, nor one of fewer or more than were asked for."""
+        for total, count in ((1 << 60, 0), (1 << 60, 1), (1 << 60, (1 << 20) - 1), (9, 8), (9, 10), (0, 1)):
+            part = struct.pack(">QQ", 0, total) + b"I" * count
+            self.ends(first_of(EXPORT, replying(PART, part), 1_000), "Stranger", STRANGER)
 
 
 if __name__ == "__main__":

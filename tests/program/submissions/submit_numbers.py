@@ -11,7 +11,7 @@ from lib.lying import Lying, first_of, make_profile, truth
 from lib.numbers import number_of, numbered
 from lib.program import Serve
 from lib.submissions import PIECE as PIECE_SIZE
-from lib.submissions import Proxy, WithSmallTree, submit
+from lib.submissions import NO_PROFILE, Proxy, WithSmallTree, fault, submit
 from lib.trees import walk
 
 CREATE = (0, CREATE_PROFILE, profile_body(SCAN_LIMIT, 2, MD5, 0))
@@ -143,11 +143,13 @@ class Sent(WithSmallTree):
                 self.assertEqual(self.sent(service.port, **more), self.due([CREATE, *requests, export]))
 
     def test_numbers_that_do_not_fit(self):
-        """The profile has number 65, or its entries have numbers from 131,072 on."""
+        """The profile has number 65, or its entries have numbers from 131,072 on. Numbers above 100,000 are none of a profile:
+        the CSV that has them is refused at its first row."""
         for profile, before in ((65, 0), (1, 131_071)):
             with mock.patch.multiple(model, MOST_PROFILES=100, MOST_NODES=200_000), Lying(begun_with(before)) as service:
                 service.model.profiles = {number: make_profile() for number in range(1, profile)}
-                self.assertEqual(submit(self.top, service.port, CLIENT), (0, b""))
+                due = (4, fault("Reply", NO_PROFILE % (service.port, 2, "ID"))) if before else (0, b"")
+                self.assertEqual(submit(self.top, service.port, CLIENT), due)
                 self.assertEqual(service.frames, self.due(tree_requests(self.top, profile, before)))
 
 

@@ -14,6 +14,7 @@ PIPE = b": neither a folder nor a regular file, or it can't be looked at"
 UNREAD = b": it could not be opened or read"
 CHANGED = b": changed since it was submitted"
 MISSING, READ, TAKEN = b"not in the folder: ", b"bytes read: ", b"folders and files: "
+NOT_READ = b"files not read again: "
 # lines with these fronts never come here: all files are read, or were finished before
 NEVER = (b"differs: ", b"not in the profile: ", b"fault: ", b"bytes that were there: ")
 
@@ -79,8 +80,9 @@ class Profile:
         self.entries = {}
 
     def submit(self, state):
-        """Submits a state: the skipped paths with their reasons, the missing ones, the taken ones, and the bytes read."""
-        self.skipped, self.taken, self.read = {}, set(), 0
+        """Submits a state: the skipped paths with their reasons, the missing ones, the taken ones, the bytes read, and how many
+        files were not read."""
+        self.skipped, self.taken, self.read, self.unread = {}, set(), 0, 0
         self.fails = state == FAILING
         tree, waiting = STATES[state], [b""]
         while waiting:
@@ -93,8 +95,8 @@ class Profile:
                 self.taken.add(path)
                 if tree[path][0] == "Folder":
                     waiting.append(path)
-        missing = [path for path in sorted(self.entries) if path not in self.taken and not self.is_hidden(path)]
-        return [path + reason for path, reason in self.skipped.items()], missing, self.taken, self.read
+        missing = [path for path in self.entries if path not in self.taken and not self.is_hidden(path)]
+        return [path + reason for path, reason in self.skipped.items()], missing, self.taken, self.read, self.unread
 
     def take(self, path, kind, when, content):
         """Takes an entry, or returns the reason why it is skipped. What is there has to have its kind, moment and size."""
@@ -102,7 +104,10 @@ class Profile:
             return PIPE
         if path in self.entries:
             there = self.entries[path]
-            return None if (kind, when, len(content)) == (*there[:2], len(there[2])) else CHANGED
+            if (kind, when, len(content)) != (*there[:2], len(there[2])):
+                return CHANGED
+            self.unread += kind == "File" and len(content) > 0
+            return None
         if kind == "File":
             if self.fails:
                 self.fails = False
@@ -149,7 +154,7 @@ class States(WithExport):
         failing = {"LD_PRELOAD": os.environ["PRELOAD_READS"], "PREAD_FAILS": "1"} if state == FAILING else {}
         words = ["--name", name, "--export", export]
         status, out, err = submit_and_print(self.top + PLACES[state], port, 7, *words, quiet=False, env=os.environ | failing)
-        reported = [lines(err, front) for front in (SKIPPED, MISSING, TAKEN, READ)]
+        reported = [lines(err, front) for front in (SKIPPED, MISSING, TAKEN, READ, NOT_READ)]
         others = [front + line for front in NEVER for line in lines(err, front)]
         with open(export, "rb") as text:
             rows = records(text.read())
@@ -159,8 +164,8 @@ class States(WithExport):
     @staticmethod
     def due(profile, state, number):
         """Returns what `found` has to be, by the model."""
-        skipped, missing, taken, read = profile.submit(state)
-        reported = [skipped, missing, [b"%d" % len(taken)], [b"%d" % read]]
+        skipped, missing, taken, read, unread = profile.submit(state)
+        reported = [skipped, missing, [b"%d" % len(taken)], [b"%d" % read], [b"%d" % unread]]
         return 5 if skipped or missing else 0, b"profile %d\n" % number, reported, [], profile.rows()
 
 

@@ -3,8 +3,8 @@
 
 use crate::submissions::page_service::PageService;
 use crate::submissions::page_tree::{PageTree, Unwatched, entry_of};
-use droid_frame::{HashKind, HashValue, Noted, Text};
-use droid_hash::RunningHash;
+use droid_frame::{HashKind, HashValue, Text};
+use droid_hash::{RunningHash, RunningPuids};
 use droid_tree::{FolderEntry, count, name_of, read_folder};
 use droid_tree_remote::{Sender, export, submit};
 use droid_tree_submission::{Options, submit_tree};
@@ -19,6 +19,12 @@ const MD5_OF_ABC: [u8; 16] = [
     0x90, 0x01, 0x50, 0x98, 0x3c, 0xd2, 0x4f, 0xb0, 0xd6, 0x96, 0x3f, 0x7d, 0x28, 0xe1, 0x7f, 0x72,
 ];
 
+/// The SHA-256 (FIPS 180-4) of `fmt/1` and `fmt/10`, each behind its length in eight bytes.
+const DIGEST_OF_TWO: [u8; 32] = [
+    0x57, 0xa8, 0x2b, 0xe0, 0x0e, 0x7e, 0x0a, 0x45, 0xa8, 0x59, 0xd7, 0x8b, 0xe3, 0x10, 0x30, 0xff,
+    0x93, 0xe7, 0xca, 0xfa, 0x5b, 0xdd, 0x56, 0x95, 0x8b, 0x92, 0x65, 0x3e, 0x7e, 0x78, 0xad, 0x3b,
+];
+
 /// What the service exports of the tree, by the model in tests/program/model.
 const TEXT: &str =
     "\"ID\",\"PARENT_ID\",\"URI\",\"FILE_PATH\",\"NAME\",\"METHOD\",\"STATUS\",\"SIZE\",\"TYPE\",\"EXT\",\"LAST_MODIFIED\",\"EXTENSION_MISMATCH\",\"SHA256_HASH\",\"FORMAT_COUNT\",\"PUID\",\"MIME_TYPE\",\"FORMAT_NAME\",\"FORMAT_VERSION\"\n\
@@ -30,6 +36,7 @@ const OPTIONS: Options = Options {
     match_all: false,
     hash: HashKind::Sha256,
     piece_size: 4,
+    check: false,
 };
 
 /// All that a run works with.
@@ -53,6 +60,14 @@ fn hash(rt: HostRuntime) {
     running.update(b"bc");
     let found: HashValue = running.finish();
     assert!(rt; found == HashValue::Md5(MD5_OF_ABC));
+}
+
+#[test]
+fn formats(rt: HostRuntime) {
+    let mut running = RunningPuids::new();
+    running.add(b"fmt/1");
+    running.add(b"fmt/10");
+    assert!(rt; running.finish() == HashValue::Sha256(DIGEST_OF_TWO));
 }
 
 #[test]
@@ -81,6 +96,7 @@ fn takes(upload: &mut Run, entry: &FolderEntry) -> Result<bool, SubmissionFault>
         folder: 0,
         piece_size: 65_536,
         hash: HashKind::Sha256,
+        check: false,
     };
     let uploaded = upload_file(upload, into, "/a.txt", name, entry)?;
     Ok(matches!(&uploaded, Uploaded::Taken(_)))
@@ -110,7 +126,7 @@ fn submission(rt: HostRuntime) {
 }
 
 /// Returns whether all of the tree is submitted, and what is written is one export.
-fn exports(upload: &mut Run, csv: &mut Noted<Vec<u8>>) -> bool {
+fn exports(upload: &mut Run, csv: &mut Vec<u8>) -> bool {
     let Ok(submitted) = submit(upload, OPTIONS) else {
         return false;
     };
@@ -121,8 +137,8 @@ fn exports(upload: &mut Run, csv: &mut Noted<Vec<u8>>) -> bool {
 #[test]
 fn remote(rt: HostRuntime) {
     let alloc = rt.alloc();
-    let mut csv = Noted::new(Vec::new(alloc));
+    let mut csv = Vec::new(alloc);
     let mut upload = run_over(alloc);
     let whole = exports(&mut upload, &mut csv);
-    assert!(rt; whole & (csv.stream.as_slice() == TEXT.as_bytes()));
+    assert!(rt; whole & (csv.as_slice() == TEXT.as_bytes()));
 }

@@ -12,7 +12,8 @@ returns c =
     let made_8 = c.option-8.ensures _ _ made_7 c.limit.ensures.rule c.limit.ensures.local in
     let made_9 = c.option-9.ensures _ _ made_8 c.flag.ensures.rule c.flag.ensures.local in
     let made_10 = c.option-10.ensures _ _ made_9 c.named.ensures.rule c.named.ensures.local in
-    let made_11 = c.option-11.ensures _ _ made_10 c.named-2.ensures.rule c.named-2.ensures.local in
-    let made_12 = c.option-12.ensures _ _ made_11 c.named-3.ensures.rule c.named-3.ensures.local in
-    let made_13 = c.option-13.ensures _ _ made_12 c.named-4.ensures.rule c.named-4.ensures.local in
-    c.option-14.ensures _ _ made_13 c.flag-2.ensures.rule c.flag-2.ensures.local
+    let made_11 = c.option-11.ensures _ _ made_10 c.flag-2.ensures.rule c.flag-2.ensures.local in
+    let made_12 = c.option-12.ensures _ _ made_11 c.named-2.ensures.rule c.named-2.ensures.local in
+    let made_13 = c.option-13.ensures _ _ made_12 c.named-3.ensures.rule c.named-3.ensures.local in
+    let made_14 = c.option-14.ensures _ _ made_13 c.named-4.ensures.rule c.named-4.ensures.local in
+    c.option-15.ensures _ _ made_14 c.flag-3.ensures.rule c.flag-3.ensures.local

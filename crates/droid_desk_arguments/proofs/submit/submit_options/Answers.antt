@@ -1,10 +1,10 @@
 use Rattle.std.proofs.Common.{◌∙◌, Option, codes, subst, sym}
 use Rattle.std.specs.Str.Parse.{ExplainsUnsignedError, HasUnsignedDigitsIfOk, ParsesUnsigned}
-use Rattle.clap.specs.Words.{Text, found_of}
+use Rattle.clap.specs.Words.{Text, found_of, rows_of}
 use Rattle.clap.proofs.WalkLemmas.{first_value-rows}
 use Rattle.droid_desk_options.specs.Values.{IsHash}
 use Rattle.droid_desk_options.proofs.Options.{number_or}
-use Rattle.droid_desk_arguments.proofs.Refusals.{not_found}
+use Rattle.droid_desk_arguments.proofs.Refusals.{checked_by_nothing, not_found}
 use Rattle.droid_desk_arguments.proofs.submit.submit_options.Goals as goal
 
 pub returns : goal.returns
@@ -28,6 +28,8 @@ returns c =
       limit = limit;
       match_all = c.flag_of-match_all.ensures;
       hash = hash;
+      check = c.flag_of-check.ensures;
+      compared = sym c.checks_nothing.ensures ∙ c.if-checks_nothing.false;
       export = export;
       skipped = skipped;
       report = report;
@@ -44,3 +46,10 @@ pub returns-in_err-hash : goal.returns-in_err-hash
 returns-in_err-hash c = rw c.from_residual-in_err-hash.ensures (λ options is.
     let word = c.get_str-hash_word.ensures ∙ first_value-rows (found_of c.args.submit.now) (codes "hash") in
     c.in_err-hash.ensures options.hash (subst (λ (o : Option Text). IsHash o options.hash) (sym word) is.hash))
+
+pub returns-then-checks_nothing : goal.returns-then-checks_nothing
+returns-then-checks_nothing c =
+    let found = found_of c.args.submit.now in
+    checked_by_nothing (rows_of found) _ c.in_ok-hash.hash c.flag_of-check.ensures
+    (subst (λ (o : Option Text). IsHash o c.in_ok-hash.hash) (c.get_str-hash_word.ensures ∙ first_value-rows found (codes "hash")) c.in_ok-hash.ensures)
+    (sym c.if-checks_nothing.true ∙ c.checks_nothing.ensures)

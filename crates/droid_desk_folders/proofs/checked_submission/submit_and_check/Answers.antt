@@ -24,13 +24,14 @@ returns-in-Ok-check_profile-clause-checked g c =
       only_client = c.check_profile.ensures.only_client;
       kept = c.in-Ok-check_profile.ensures.kept;
       reads = c.in-Ok-check_profile.ensures.reads submits.none;
+      bounded = c.in-Ok-check_profile.ensures.bound;
       compares = c.in-Ok-check_profile.ensures.compares;
     }
 
-pub returns-clause-ended : goal.returns-clause-ended
-returns-clause-ended g c =
+pub returns-in-Err-check_profile-clause-ended : goal.returns-in-Err-check_profile-clause-ended
+returns-in-Err-check_profile-clause-ended g c =
     let old = c.args.upload.now in
     let submits = c.in-Ok-submit.ensures.submitted in
     NotCompared c.in-Err-check_profile.fault c.in-Ok-submit.submitted refl (record old { tree = c.count.new.tree; watcher = record old.watcher { watcher = c.hear_count.new.self } }) c.submit.new.upload
     (record { counted = c.in-Ok.counted; counts = c.in-Ok.ensures.counted; within = c.in-Ok.ensures.within; expected = c.hear_count.ensures; only = refl }) submits
-    c.check_profile.ensures.only_client (c.in-Err-check_profile.ensures.asks submits.none)
+    c.check_profile.ensures.only_client (c.in-Err-check_profile.ensures.ended submits.going submits.none)

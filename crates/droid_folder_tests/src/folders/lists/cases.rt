@@ -1,9 +1,8 @@
-//! Lists beside what was found: each kind of difference, alone and beside others, and faults. The reports of the first cases
-//! are written by hand; those of the last sixty, which are random, were computed from the definition by brute force, in Python.
+//! Lists beside what was found: each kind of difference, alone and beside others, and a path that a side has twice. The
+//! reports of the first cases are written by hand; those of the last sixty, which are random, were computed from the definition
+//! by brute force, in Python.
 
-use crate::folders::lists::page::NAMES;
 use droid_fixity::{Changes, Difference, Inventory, Item, compare, same_items_have_no_difference};
-use droid_fixity_profile::{SeeFault, export_lists_its_records, see_profile};
 use droid_frame::{Blob, HashValue, NodeKind};
 use std::alloc::{AllocError, Global};
 use std::test::Fail;
@@ -206,41 +205,4 @@ fn hash_of(kind: u8, last: u8) -> HashValue {
         }
         _ => HashValue::Nothing,
     }
-}
-
-/// CSVs, each with its header or without, and their faults beside a tree that has `/a` twice. A CSV is judged first.
-#[rattlefmt::skip]
-const FAULTS: [(&str, &str, &str); 5] = [
-    (NAMES, "1,,u,/a,a,,Done,6,File,,2026-01-31T23:59:59,false,eb260e9ae827821beceeed4104f0ad89,0,,,,\n", "found /a"),
-    (NAMES, "1,,u,/b,b,,Done,6,File,,2026-01-31T23:59:59,false,eb260e9ae827821beceeed4104f0ad89,0,,,,\n2,,u,/b,b,,Done,6,File,,2026-01-31T23:59:59,false,,0,,,,\n", "listed /b"),
-    (NAMES, "1,,u,/b,b,,Done,6,File,,2026-01-31T23:59:59,false,eb260e9ae827821beceeed4104f0ad89,0,,,,\n2,,u,b,b,,Done,6,File,,2026-01-31T23:59:59,false,eb260e9ae827821beceeed4104f0ad89,0,,,,\n", "record 3: FILE_PATH is wrong"),
-    (NAMES, "1,,u,/b,b,,Done,6,File,,2026-01-31T23:59:59,false,,0,,,,\n1,,u,/c,c,,Done,6,File,,2026-01-31T23:59:59,false,,0,,,,\n", "record 3: ID contradicts another record"),
-    ("", "path,size\n/a,6\n", "the first record is not that of a profile"),
-];
-
-#[test]
-fn faults(rt: HostRuntime) -> Result<(), Fail> {
-    export_lists_its_records();
-    let alloc = rt.alloc();
-    for (header, rows, due) in &FAULTS {
-        let csv = format!(in alloc; "{header}{rows}")?;
-        let found = items(alloc, "f6911/a f7911/a")?;
-        let text = fault_text(alloc, see_profile(alloc, found, csv.as_bytes()).err())?;
-        assert!(rt; text.as_str() == *due, "{text}");
-    }
-    Ok(())
-}
-
-fn fault_text(alloc: Global, fault: Option<SeeFault>) -> Result<String, Fail> {
-    Ok(match fault {
-        Some(SeeFault::List(fault)) => format!(in alloc; "{fault}")?,
-        Some(SeeFault::ListedTwice(same)) => {
-            format!(in alloc; "listed {}", str::from_utf8(same.path.as_slice())?)?
-        }
-        Some(SeeFault::FoundTwice(same)) => {
-            format!(in alloc; "found {}", str::from_utf8(same.path.as_slice())?)?
-        }
-        Some(SeeFault::Memory) => format!(in alloc; "memory")?,
-        None => format!(in alloc; "none")?,
-    })
 }

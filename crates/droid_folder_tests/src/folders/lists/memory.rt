@@ -2,9 +2,8 @@
 //! Out of memory: a call that fails for it works when it is called again.
 
 use crate::folders::lists::cases::{is_reported, items};
-use droid_fixity::{Changes, Difference, FilePair, Inventory, file_pairs};
+use droid_fixity::{FilePair, Inventory, file_pairs};
 use droid_fixity_lists::{ListFault, read_profile};
-use droid_fixity_profile::{SeeFault, see_profile};
 use std::alloc::{AllocError, Global};
 use std::test::Fail;
 
@@ -79,36 +78,5 @@ fn is_read(alloc: Global) -> Result<bool, AllocError> {
 fn each_growth_of_a_list(rt: HostRuntime) -> Result<(), Fail> {
     let alloc = rt.alloc();
     assert!(rt; is_read(alloc).or_else(|_| is_read(alloc))?);
-    Ok(())
-}
-
-/// `/a` has another hash, and `/d` is missing.
-const HASH_AND_FOLDER: [Difference; 2] = [
-    Difference::Changed {
-        listed: 0,
-        found: 0,
-        changes: Changes {
-            kind: false,
-            length: false,
-            hash: true,
-        },
-    },
-    Difference::Missing { listed: 2 },
-];
-
-/// Returns whether a profile and two files are compared right: `/b` is the same.
-fn is_seen(alloc: Global) -> Result<bool, AllocError> {
-    let expected: &[Difference] = &HASH_AND_FOLDER;
-    match see_profile(alloc, items(alloc, "f5111/b f5213/a")?, CSV.as_bytes()) {
-        Ok(seen) => Ok(seen.differences.as_slice() == expected),
-        Err(SeeFault::Memory) => Err(AllocError),
-        Err(_) => Ok(false),
-    }
-}
-
-#[test]
-fn each_growth_of_a_profile(rt: HostRuntime) -> Result<(), Fail> {
-    let alloc = rt.alloc();
-    assert!(rt; is_seen(alloc).or_else(|_| is_seen(alloc))?);
     Ok(())
 }

@@ -1,7 +1,9 @@
 //! What differs between two inventories, by the public calls of `droid_fixity`, `droid_fixity_lists` and
-//! `droid_fixity_profile`. (How the CSV of a profile is read is tested in tests/program/folders/verify_rows.py.)
+//! `droid_fixity_profile`. (How `verify` reads the CSV of a profile is tested in
+//! tests/program/folders/verify_rows.py.)
 
 mod cases;
 mod memory;
 mod nodes;
 mod page;
+mod texts;

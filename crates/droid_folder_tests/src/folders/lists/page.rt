@@ -1,13 +1,12 @@
-//! The examples of the pages README.md of droid_fixity, droid_fixity_lists and droid_fixity_profile.
+//! The examples of the pages README.md of droid_fixity and droid_fixity_lists.
 
 use droid_fixity::{Difference, Inventory, Item, compare};
 use droid_fixity_lists::read_profile;
-use droid_fixity_profile::{item_of_node, see_profile};
 use droid_frame::{Blob, HashValue, NodeKind};
 use std::test::Fail;
 
 /// The names of the columns of a profile with MD5 hashes.
-pub(crate) const NAMES: &str =
+const NAMES: &str =
     "ID,PARENT_ID,URI,FILE_PATH,NAME,METHOD,STATUS,SIZE,TYPE,EXT,LAST_MODIFIED,EXTENSION_MISMATCH,MD5_HASH,FORMAT_COUNT,PUID,MIME_TYPE,FORMAT_NAME,FORMAT_VERSION\n";
 
 #[test]
@@ -39,26 +38,5 @@ fn example_of_lists(rt: HostRuntime) -> Result<(), Fail> {
     )?;
     let items = read_profile(alloc, csv.as_bytes())?;
     assert!(rt; items.len() == 1 && items[0].length == Some(5));
-    Ok(())
-}
-
-#[test]
-fn example_of_a_profile(rt: HostRuntime) -> Result<(), Fail> {
-    let alloc = rt.alloc();
-    let letter = item_of_node(
-        alloc,
-        "/letter.txt",
-        NodeKind::File,
-        5,
-        0,
-        HashValue::Nothing,
-    )?;
-    let mut submitted = Vec::new(alloc);
-    if let Some(letter) = letter {
-        submitted.push(letter)?;
-    }
-    let seen = see_profile(alloc, submitted, NAMES.as_bytes())?;
-    let report = &seen.differences;
-    assert!(rt; report.len() == 1 && report[0] == Difference::New { found: 0 });
     Ok(())
 }

@@ -22,7 +22,7 @@ returns-in_err-part-clause-missed g c =
     if_err_same c.from_residual-in_err-part.result fault
     (λ f. old.in_flight.waiting.items ≡ [] → Wherever old.in_flight (λ known facts. EndsAsking old.client old.name c.args.profile g.C.Connection.does f known facts old.in_flight new)) c.from_residual-in_err-part.ensures.1
     (λ none known facts stands.
-    ends_waits old.client old.name c.args.profile g.C.Connection.does known facts c.args.from c.in_ok-reply.reply fault old.in_flight new none (c.in_ok-reply.ensures.came known facts stands) (c.in_err-part.ensures.fault c.args.from))
+    ends_waits old.client old.name c.args.profile g.C.Connection.does known facts c.args.from c.in_ok-reply.reply fault old.in_flight new none (c.in_ok-reply.ensures.came known facts stands) c.in_err-part.ensures.fault)
 
 pub returns-clause-came : goal.returns-clause-came
 returns-clause-came g c = λ known facts stands.

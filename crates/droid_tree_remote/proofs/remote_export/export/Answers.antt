@@ -1,4 +1,4 @@
-use Rattle.std.proofs.Common.{◌≡◌, [], None}
+use Rattle.std.proofs.Common.{◌≡◌, [], None, arith}
 use Rattle.droid_tree_connection.specs.Calls.{Wherever}
 use Rattle.droid_tree_remote.specs.Exports.{EndsExport}
 use Rattle.droid_tree_remote.proofs.Handing.{if_err_same}
@@ -9,8 +9,9 @@ pub returns-in-Some-clause-downloads : goal.returns-in-Some-clause-downloads
 returns-in-Some-clause-downloads g c = λ none known facts stands.
     let does = g.C.Connection.does in
     let old = c.args.sender.now in
-    let written = g.O.Write.contents c.args.writer.now in
-    front_ended old.client old.name c.args.profile does known facts 0 0 0 old.in_flight old.in_flight written written (front_none old.client old.name c.args.profile does known facts 0 0 old.in_flight written none stands)
+    let text = c.args.text.now.items in
+    front_ended old.client old.name c.args.profile does known facts 0 0 0 old.in_flight old.in_flight text text
+    (front_none old.client old.name c.args.profile does known facts 0 0 old.in_flight text (omega arith) none stands)
 
 pub returns-in_err-one-clause-ended : goal.returns-in_err-one-clause-ended
 returns-in_err-one-clause-ended g c =

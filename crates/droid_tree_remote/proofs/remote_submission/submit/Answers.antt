@@ -1,4 +1,4 @@
-use Rattle.std.proofs.Common.{true, false, refl, ap}
+use Rattle.std.proofs.Common.{true, false, refl, ap, ◌∙◌}
 use Rattle.droid_tree_submission.specs.Submissions.{deeds_of_tree}
 use Rattle.droid_tree_remote.specs.RemoteSubmissions.{AtEnd, InWalk}
 use Rattle.droid_tree_remote.proofs.Conversing.{converses, ends_all, ends_nowhere, ends_unsettled, stands_client}
@@ -16,6 +16,7 @@ returns-in-Ok-settle-clause-submitted g c =
       tree = tree;
       only_client = refl;
       none = c.in-Ok-settle.ensures.none;
+      going = ap (λ s. s.stopped) c.in-Ok-settle.ensures.same ∙ c.in-Ok-settle.ensures.going;
       converses = λ fresh. converses old.client.client old.client.name true does g.T.Tree.observes g.W.Watcher.hears reached last
           (λ known facts stands. ends_all old.client.client old.client.name does known facts reached.client.in_flight last (c.in-Ok-settle.ensures.settled known facts stands))
           (deeds_of_tree c.args.options c.in-Ok.submitted.profile tree.visits) old refl refl tree.happened fresh;

@@ -1,10 +1,8 @@
-use Rattle.std.proofs.Common.{◌≡◌, arith, ap, subst, ◌∙◌}
-use Rattle.droid_frame.specs.types.hash_value.HashValue.{HashValue}
-use Rattle.droid_tree_upload.specs.Deeds.{Does, Informed}
-use Rattle.droid_tree_upload.specs.FileOutcomes.{heard_of_end, uploaded_of_end}
+use Rattle.std.proofs.Common.{◌≡◌, arith}
+use Rattle.droid_tree_upload.specs.Deeds.{Does}
 use Rattle.droid_tree_upload.specs.Fronts.{EndsEarly}
 use Rattle.droid_tree_upload.specs.Steps.{AfterAdd, AreOpening}
-use Rattle.droid_tree_upload.proofs.Openings.{node_finished, node_gone, node_in_vain, node_lacks, node_lost, node_refused}
+use Rattle.droid_tree_upload.proofs.Openings.{node_gone, node_held, node_in_vain, node_lacks, node_lost, node_refused, node_unheld}
 use Rattle.droid_tree_upload.proofs.Passing.{if_err_same}
 use Rattle.droid_tree_upload.proofs.file_opening.see_node.Goals as goal
 
@@ -27,14 +25,23 @@ returns-in_err-state_of-clause-ended g c =
     c.from_residual-in_err-state_of.ensures.1
     (node_refused c.args.into c.args.path.now c.args.entry.now does c.args.attempt c.args.number fault c.in_ok-reply.reply c.args.upload.now c.ask.new.upload c.in_ok-reply.ensures.answered said.1 said.2 said.0)
 
+pub returns-in_err-uploaded-in-Finished-clause-ended : goal.returns-in_err-uploaded-in-Finished-clause-ended
+returns-in_err-uploaded-in-Finished-clause-ended g c =
+    let does = Does g.T.Tree.observes g.C.Client.calls g.W.Watcher.hears in
+    let fault = c.in_err-uploaded-in-Finished.field-0.0 in
+    let finished = rw c.in-Finished.is at c.in_ok-state_of.ensures.state in
+    if_err_same c.from_residual-in_err-uploaded-in-Finished.result fault
+    (λ f. AfterAdd does c.args.into c.args.entry.now c.args.attempt c.args.number (EndsEarly does (AreOpening c.args.into c.args.path.now c.args.entry.now c.args.attempt) f) c.args.upload.now c.end_held.new.upload)
+    c.from_residual-in_err-uploaded-in-Finished.ensures.1
+    (node_unheld c.args.into c.args.path.now c.args.entry.now does c.args.attempt c.args.number c.in_ok-reply.reply c.args.upload.now c.ask.new.upload c.end_held.new.upload c.in_ok-reply.ensures.answered finished fault
+    c.in_err-uploaded-in-Finished.ensures.ended)
+
 pub returns-in-Finished-clause-opened : goal.returns-in-Finished-clause-opened
 returns-in-Finished-clause-opened g c =
     let does = Does g.T.Tree.observes g.C.Client.calls g.W.Watcher.hears in
-    let reply = c.in_ok-reply.reply in
     let finished = rw c.in-Finished.is at c.in_ok-state_of.ensures.state in
-    node_finished c.args.into c.args.path.now c.args.entry.now does c.args.attempt c.args.number reply c.report_end-uploaded.result c.args.upload.now c.ask.new.upload c.report_end-uploaded.new.upload c.in_ok-reply.ensures.answered finished
-    (subst (λ (h : HashValue). does c.ask.new.upload (Informed (heard_of_end c.args.path.now h reply)) c.report_end-uploaded.new.upload) c.hash_of_held.ensures c.report_end-uploaded.ensures.informed)
-    (c.report_end-uploaded.ensures.uploaded ∙ ap (λ (h : HashValue). uploaded_of_end h reply) c.hash_of_held.ensures)
+    node_held c.args.into c.args.path.now c.args.entry.now does c.args.attempt c.args.number c.in_ok-reply.reply c.args.upload.now c.ask.new.upload c.end_held.new.upload c.in_ok-reply.ensures.answered finished
+    c.in_ok-uploaded-in-Finished.uploaded c.in_ok-uploaded-in-Finished.ensures.held
 
 pub returns-then-attempt-clause-ended : goal.returns-then-attempt-clause-ended
 returns-then-attempt-clause-ended g c =
