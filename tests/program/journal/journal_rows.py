@@ -54,8 +54,8 @@ class Session:
             at += 1
 
     def end_of(self, count):
-        """Where the first `count` records end."""
-        return self.read.places[count].at
+        """Where the first `count` records end, or all, where there are fewer."""
+        return self.read.places[min(count, len(self.records))].at
 
     def turn_behind(self, count):
         """The bytes of the records behind the first `count`, up to the end of the turn."""
