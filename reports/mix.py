@@ -3,7 +3,7 @@
 import sys, os, subprocess
 src=open("/work/h/chk.py").read().split("\nif len(sys.argv) < 3")[0]
 exec(src)
-it=Map("/work/h/c_journal"); crate=sys.argv[1]
+it=Map(top()); crate=sys.argv[1]
 place=os.path.join(it.top,"crates",crate)
 lows=it.below(crate)
 have=[l for l in lows if os.path.isdir(it.home(l))]
@@ -22,4 +22,4 @@ for l in miss:
     uses=dict.fromkeys(["core","std",*[d for d in it.deps[l] if d not in it.deps],*[d for d in it.deps[l] if d in it.deps]])
     words+=["--lib",f"{l}:{','.join(uses)}={it.top}/crates/{l}/src/lib.rt"]
 words+=["--antt-project",f"{K}/rattle/logic/antt-project.json","--logic-built",f"{K}/logic_built"]
-sys.exit(subprocess.call([f"{K}/bin/rattle","check",*words,"--jobs","1",*sys.argv[2:]],cwd=place))
+sys.exit(subprocess.call([f"{K}/bin/rattle","check",*words,"--incremental",os.path.join(place,"out","inc"),"--jobs","1",*sys.argv[2:]],cwd=place))

@@ -1,20 +1,25 @@
-import os,re,time,json
-hz=os.sysconf("SC_CLK_TCK"); best={}; first={}; last={}
-while True:
-    for p in os.listdir("/proc"):
+import os,time,json
+seen={}
+T=os.sysconf('SC_CLK_TCK')
+end=time.time()+10500
+n=0
+while time.time()<end:
+    for p in os.listdir('/proc'):
         if not p.isdigit(): continue
         try:
-            c=open(f"/proc/{p}/cmdline").read().split("\0")
-            if len(c)<3 or not c[0].endswith("bin/rattle"): continue
-            cwd=os.readlink(f"/proc/{p}/cwd")
-            if not (cwd.startswith("/work/gate/") or cwd.startswith("/tmp/rt-copy")): continue
-            st=open(f"/proc/{p}/stat").read().rsplit(")",1)[1].split()
-        except OSError: continue
-        name=next((c[i+1] for i,x in enumerate(c) if x=="--crate-name"),cwd.rsplit("/",1)[1])
-        kind=c[1]
-        k=f"{kind} {name} {p}"
-        best[k]=(int(st[11])+int(st[12])+int(st[13])+int(st[14]))/hz
-        first.setdefault(k,time.time()); last[k]=time.time()
-    with open("/work/scratch/seconds.json.new","w") as f: json.dump({k:(best[k],first[k],last[k]) for k in best},f)
-    os.replace("/work/scratch/seconds.json.new","/work/scratch/seconds.json")
+            c=open(f'/proc/{p}/cmdline').read().split('\0')
+            b=os.path.basename(c[0])
+            if b not in('rattle','rattle-test','rattle-try','clang','rattle-link','rattle-seed','ld.lld'): continue
+            cwd=os.readlink(f'/proc/{p}/cwd')
+            if not cwd.startswith('/tmp/rt-copy'): continue
+            st=open(f'/proc/{p}/stat').read().rsplit(')',1)[1].split()
+            cpu=(int(st[11])+int(st[12]))/T
+            name=c[c.index('--crate-name')+1] if '--crate-name' in c else cwd.rsplit('/',1)[1]
+            verb=c[1] if len(c)>1 else ''
+            rss=int(open(f'/proc/{p}/statm').read().split()[1])*4096/1e9
+            o=seen.get(p+':'+st[19])
+            seen[p+':'+st[19]]=(b,verb,name,cpu,max(rss,o[4] if o else 0),o[5] if o else time.time(),time.time())
+        except (OSError,ValueError,IndexError): continue
+    n+=1
+    if n%10==0: json.dump(list(seen.values()),open('/work/h/samples.json','w'))
     time.sleep(1.5)

@@ -1,8 +1,8 @@
 import os,time
-W={"/work/h/c_80":-5,"/work/h/c_journal":6,"/work/h/c_sub":6,"/work/h/c_tests":4,"/work/h/c_front":-7}
+W={"/work/h/c_serv":2,"/work/h/c_fold":2,"/work/h/c_text":4,"/work/h/merge1":-4}
 try: exec(open("/work/h/share_w.py").read())
 except OSError: pass
-end=time.time()+10500
+end=time.time()+10300
 seen={}
 while time.time()<end:
     try: exec(open("/work/h/share_w.py").read())
