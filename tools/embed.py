@@ -6,7 +6,7 @@ import sys
 
 TOP = os.path.dirname(os.path.dirname(os.path.abspath(__file__)))
 SOURCE = os.path.join(TOP, "registries", "common.csv")
-WRITTEN = os.path.join(TOP, "crates", "droid_pronom_common", "src", "common.rt")
+WRITTEN = os.path.join(TOP, "crates", "droid_pronom", "src", "common.rt")
 FRONT = """//! The registry of everyday formats, which the program has in itself: registries/common.csv, written here by
 //! tools/embed.py.
 
@@ -30,7 +30,7 @@ def main():
     if sys.argv[1:] == ["--check"]:
         with open(WRITTEN, encoding="ascii") as file:
             if file.read() != text():
-                sys.exit("crates/droid_pronom_common/src/common.rt is not registries/common.csv: run tools/embed.py")
+                sys.exit("crates/droid_pronom/src/common.rt is not registries/common.csv: run tools/embed.py")
         return
     with open(WRITTEN, "w", encoding="ascii") as file:
         file.write(text())

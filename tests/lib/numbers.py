@@ -1,4 +1,4 @@
-"""The numbers of a submission's requests, by their definition (crates/droid_tree_numbers/specs/Numbers.antt). A name and
+"""The numbers of a submission's requests, by their definition (crates/droid_remote/specs/Numbers.antt). A name and
 a body are bytes; `attempt` counts how often a file was added before and found abandoned."""
 import struct
 from hashlib import sha256

@@ -20,7 +20,7 @@
 #   install.py    the manual page, the completions and what `make install` writes
 #   release.py    the released program: `make run` and `make install` without the kit, damaged releases, other machines
 #   wrong.py      which wrong bodies `make wrong` tries again after a change, with an invented kit
-#   readme.sh     the commands of README.md and of the program's page, pasted into a shell
+#   readme.sh     the commands of README.md and of the crates' pages that have some, pasted into a shell
 set -u
 top=$(cd "$(dirname "$0")/../.." && pwd)
 tests=$top/tests/program
@@ -56,7 +56,9 @@ example() {
     part sh "$tests/journal/run.sh" "$program"
     part sh "$tests/submissions/run.sh" "$program"
     part sh "$tests/readme.sh" "$program"
-    part sh "$tests/readme.sh" "$program" "$top/crates/droid_desk/README.md"
+    for page in $(grep -lx '    P=out/release/droid_desk' "$top"/crates/*/README.md); do
+        part sh "$tests/readme.sh" "$program" "$page"
+    done
 } &
 part sh "$tests/cases.sh" "$program"
 part example "$top/examples" "$program"

@@ -105,9 +105,9 @@ write_frames 1 '\005' ''
 write_frames 2 '\006' '\001'
 
 # STREAM START WRITTEN FAULT CUT [VARIABLE=NUMBER ..]
-# Each line of standard input has words PLACE:TIMES, 64 interruptions of one frame or reply that begins at START. Writes two
-# rows for it: with these interruptions all WRITTEN bytes are written; with one more at the last place the program ends by FAULT,
-# after CUT bytes, or, where that is -, after those before the place.
+# Each line of standard input has words PLACE:TIMES, interruptions of one frame or reply that begins at START. Writes two rows
+# for it: with these interruptions all WRITTEN bytes are written; with 65 at the last place the program ends by FAULT, after CUT
+# bytes, or, where that is -, after those before the place.
 interrupted() {
     stream=$1 start=$2 whole=$3 fault=$4 cut=$5
     shift 5
@@ -117,7 +117,7 @@ interrupted() {
             last=$((start + ${place%:*}))
             at=$at${at:+,}$last:${place#*:}
         done
-        more=${at%:*}:$((${at##*:} + 1))
+        more=${at%:*}:65
         [ "$cut" = - ] && due=$last || due=$cut
         echo "interrupted_64_times_at_$at 0 $whole - ${stream}_INTERRUPTED_AT=$at $*"
         echo "interrupted_65_times_at_$more 4 $due $fault ${stream}_INTERRUPTED_AT=$more $*"
@@ -157,7 +157,7 @@ write_takes_nothing 4 0 Write WRITE_WIDTH=0
 read_interrupted_64_times_within_two_frames 0 85 - READ_INTERRUPTED_AT=10:64,40:64
 read_interrupted_64_times_before_each_frame_and_the_end 0 85 - READ_INTERRUPTED_AT=0:64,$a:64,$b:64,$c:64,$d:64
 read_interrupted_64_times_over_header_and_body 0 85 - READ_INTERRUPTED_AT=10:32,20:32
-read_interrupted_65_times_over_header_and_body 4 0 Read READ_INTERRUPTED_AT=10:32,20:33
+read_interrupted_65_times_over_header_and_body 0 85 - READ_INTERRUPTED_AT=10:32,20:33
 read_interrupted_65_times_within_the_second_frame 4 22 Read READ_INTERRUPTED_AT=10:64,40:65
 read_interrupted_64_times_within_three_frames 0 85 - READ_INTERRUPTED_AT=5:64,30:64,70:64
 read_interrupted_65_times_within_the_third_frame 4 44 Read READ_INTERRUPTED_AT=5:64,30:64,70:65
@@ -166,7 +166,7 @@ read_interrupted_65_times_at_the_end 4 85 Read READ_INTERRUPTED_AT=10:64,$d:65
 written_interrupted_64_times_within_two_replies 0 85 - WRITE_INTERRUPTED_AT=5:64,30:64
 written_interrupted_64_times_before_each_reply 0 85 - WRITE_INTERRUPTED_AT=0:64,22:64,44:64,66:64
 written_interrupted_64_times_over_header_and_body 0 85 - WRITE_INTERRUPTED_AT=5:32,20:32
-written_interrupted_65_times_over_header_and_body 4 20 Write WRITE_INTERRUPTED_AT=5:32,20:33
+written_interrupted_65_times_over_header_and_body 0 85 - WRITE_INTERRUPTED_AT=5:32,20:33
 written_interrupted_65_times_within_the_second_reply 4 30 Write WRITE_INTERRUPTED_AT=5:64,30:65
 written_interrupted_64_times_within_three_replies 0 85 - WRITE_INTERRUPTED_AT=5:64,30:64,50:64
 written_interrupted_65_times_within_the_third_reply 4 50 Write WRITE_INTERRUPTED_AT=5:64,30:64,50:65

@@ -2,7 +2,6 @@
 use Rattle.std.proofs.Common.{◌≡◌, refl}
 use Rattle.droid_assembly.specs.declared.assembly.Assembly.TheInside.{Inside}
 use Rattle.droid_assembly.specs.declared.front.Front.{Front}
-use Rattle.droid_assembly.specs.declared.ring.Ring.{Ring}
 
 pub of_assembly : (fields : Inside) → fields ≡ record {
   size = fields.size;
@@ -20,6 +19,3 @@ of_assembly fields = refl
 
 pub of_front : (front : Front) → front ≡ record { first = front.first; last = front.last; hash = front.hash; width = front.width }
 of_front front = refl
-
-pub of_ring : (ring : Ring) → ring ≡ record { bytes = ring.bytes; turn = ring.turn; width = ring.width }
-of_ring ring = refl

@@ -7,7 +7,6 @@ use Rattle.std.proofs.lemmas.List.{get_or-set_same, get_or-set_other}
 use Rattle.std.proofs.lemmas.List.FromFn.{map-range_with_len_more}
 use Rattle.std.proofs.lemmas.List.Sums.{sum_by-set}
 use Rattle.droid_assembly.specs.Pieces.{Piece, bytes_at, LacksIndex, IsDue, held, bytes_held, piece_count, file_bytes}
-use Rattle.droid_assembly.specs.Rings.{ring_items}
 use Rattle.droid_assembly.specs.Fronts.{FrontKnows}
 use Rattle.droid_assembly.specs.State.{State, StandsFor, count_of, width_of, slot}
 use Rattle.droid_assembly.specs.Kept.{bytes_of, weight, pieces_from, ArePlaced, IsAlong, IsFree}
@@ -142,7 +141,7 @@ along-within size piece_size from pieces due there =
     ]
 
 -- an assembly that keeps this of the pieces stands for them
-pub along-stands : (a : State) (front : Front) (pieces : List Piece) (total count : ℕ) → IsAlong front a.waiting a.first_missing pieces total count → front.width ≡ width_of a → slot a.waiting a.first_missing ≡ None → a.first ≡ front.first.items → a.last ≡ ring_items front.last → a.running ≡ front.hash → a.hashed ≡ None → All (IsDue a.size a.piece_size) pieces → AllPairs (λ one other. one.0 ≢ other.0) pieces → a.held_count ≡ held pieces → a.settled_bytes ≡ bytes_held pieces → StandsFor a pieces
+pub along-stands : (a : State) (front : Front) (pieces : List Piece) (total count : ℕ) → IsAlong front a.waiting a.first_missing pieces total count → front.width ≡ width_of a → slot a.waiting a.first_missing ≡ None → a.first ≡ front.first.items → a.last ≡ front.last.items → a.running ≡ front.hash → a.hashed ≡ None → All (IsDue a.size a.piece_size) pieces → AllPairs (λ one other. one.0 ≢ other.0) pieces → a.held_count ≡ held pieces → a.settled_bytes ≡ bytes_held pieces → StandsFor a pieces
 along-stands a front pieces total count along width stopped first last running hashed due distinct counted weighed =
     record {
       are_due = due;

@@ -6,8 +6,8 @@ use Rattle.md5.specs.Md5.{md5, digest_bytes, hash_after, padded_message}
 use Rattle.sha2.specs.Sha256 as Sha
 use Rattle.droid_frame.specs.Fields.{IsBytes}
 use Rattle.droid_frame.specs.Hashes.{hash, IsHashValue}
-use Rattle.droid_frame.specs.types.hash_kind.HashKind.{HashKind}
-use Rattle.droid_frame.specs.types.hash_kind.HashKind.TheVariants as kinds
+use Rattle.droid_frame.specs.declared.hash_kind.HashKind.{HashKind}
+use Rattle.droid_frame.specs.declared.hash_kind.HashKind.TheVariants as kinds
 use Rattle.droid_frame.proofs.ByteLists.{IsBytes-nil, IsBytes-cons, IsBytes-append}
 
 remainder_small : (n : ℕ) → n % 256 < 256

@@ -5,7 +5,6 @@ use Rattle.std.specs.Option.{is_some}
 use Rattle.std.proofs.lemmas.List.Folds.{sum_by-replicate}
 use Rattle.std.proofs.lemmas.List.Elements.{All-nil}
 use Rattle.droid_assembly.specs.Pieces.{AreSizes, piece_count, IsDue, file_bytes}
-use Rattle.droid_assembly.specs.Rings.{ring_items}
 use Rattle.droid_assembly.specs.Fronts.{IsFront, FrontKnows}
 use Rattle.droid_assembly.specs.State.{State, Room, StandsFor}
 use Rattle.droid_assembly.specs.Kept.{weight, IsConsistent}
@@ -32,7 +31,7 @@ fresh size piece_size scan_limit front waiting reserved = record {
   first_missing = 0;
   settled_bytes = 0;
   first = front.first.items;
-  last = ring_items front.last;
+  last = front.last.items;
   running = front.hash;
   hashed = None;
   waiting = waiting;

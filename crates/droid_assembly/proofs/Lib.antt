@@ -5,7 +5,7 @@ pub mod Ends
 pub mod Fresh
 pub mod Indexes
 pub mod Past
-pub mod SeveralPieces
 pub mod Settling
+pub mod SeveralPieces
 pub mod ShowingSeveral
 pub mod Whole

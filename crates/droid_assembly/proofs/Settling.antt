@@ -6,10 +6,9 @@ use Rattle.std.specs.Bool.{⊤}
 use Rattle.std.proofs.lemmas.List.Elements.{All-push, All-from_recursion}
 use Rattle.std.proofs.lemmas.List.Quantifiers.{all_pairs_push}
 use Rattle.std.proofs.lemmas.List.Sums.{sum_by_push}
-use Rattle.droid_frame.specs.types.hash_value.HashValue.{HashValue}
-use Rattle.droid_assembly.specs.Hashing.{HoldsAll}
+use Rattle.droid_frame.specs.declared.hash_value.HashValue.{HashValue}
+use Rattle.droid_frame.specs.RunningHashes.{HoldsAll}
 use Rattle.droid_assembly.specs.Pieces.{Piece, LacksIndex, IsDue, missing, file_bytes}
-use Rattle.droid_assembly.specs.Rings.{ring_items}
 use Rattle.droid_assembly.specs.Fronts.{IsFront, FrontKnows}
 use Rattle.droid_assembly.specs.State.{State, Room, StandsFor, IsComplete, count_of, width_of, slot}
 use Rattle.droid_assembly.specs.Kept.{weight, pieces_from, IsAlong, IsFree, IsConsistent}
@@ -20,7 +19,7 @@ use Rattle.droid_assembly.proofs.Along.{along-begin, along-stands, along-within}
 -- the front keeps these fields of an assembly
 pub record IsOf (a : State) (front : Front) : Type 0 where
   pub first : a.first ≡ front.first.items
-  pub last : a.last ≡ ring_items front.last
+  pub last : a.last ≡ front.last.items
   pub hash : a.running ≡ front.hash
   pub width : front.width ≡ width_of a
 
@@ -52,7 +51,7 @@ settled a piece front waiting from reserved = record {
   first_missing = from;
   settled_bytes = a.settled_bytes + length piece.1;
   first = front.first.items;
-  last = ring_items front.last;
+  last = front.last.items;
   running = front.hash;
   hashed = a.hashed;
   waiting = waiting;

@@ -1,6 +1,6 @@
 -- The refusal sent to a client for each fault of a piece.
-use Rattle.droid_frame.specs.types.refusal.Refusal.{Refusal}
-use Rattle.droid_frame.specs.types.refusal.Refusal.TheVariants as refusals
+use Rattle.droid_frame.specs.declared.refusal.Refusal.{Refusal}
+use Rattle.droid_frame.specs.declared.refusal.Refusal.TheVariants as refusals
 use Rattle.droid_assembly.specs.declared.fault.PutFault.{PutFault}
 use Rattle.droid_assembly.specs.declared.fault.PutFault.TheVariants.{BadPiece, PieceHeld, TooFarAhead}
 

@@ -1,10 +1,9 @@
 -- The state of an assembly, as contracts see it, from its fields.
 use Rattle.std.specs.Prelude.{vec_capacity}
 use Rattle.droid_assembly.specs.State.{State}
-use Rattle.droid_assembly.specs.Rings.{ring_items}
 use Rattle.droid_assembly.specs.declared.assembly.Assembly.TheInside.{Inside}
 
--- all of the fields, except the position of the last bytes in their ring buffer
+-- all of the fields; where in its memory the buffer of the last bytes begins is not among them
 abbrev pub state_of : Inside → State
 state_of fields = record {
   size = fields.size;
@@ -14,14 +13,14 @@ state_of fields = record {
   first_missing = fields.missing;
   settled_bytes = fields.settled_bytes;
   first = fields.front.first.items;
-  last = ring_items fields.front.last;
+  last = fields.front.last.items;
   running = fields.front.hash;
   hashed = fields.hashed;
   waiting = fields.waiting.items;
   pending = fields.pending;
   reserved = record {
     first = vec_capacity fields.front.first;
-    last = vec_capacity fields.front.last.bytes;
+    last = fields.front.last.capacity;
     waiting = vec_capacity fields.waiting;
   };
 }

@@ -1,15 +1,13 @@
 -- The front of a file: the bytes before the first missing piece.
 use Rattle.std.specs.Prelude.{◌≡◌, ℕ, ◌≤◌, List, vec_len, vec_capacity}
 use Rattle.droid_assembly.specs.Pieces.{first_window, last_window}
-use Rattle.droid_assembly.specs.Hashing.{HoldsAll}
-use Rattle.droid_assembly.specs.Rings.{IsRing, ring_items}
+use Rattle.droid_frame.specs.RunningHashes.{HoldsAll}
 use Rattle.droid_assembly.specs.declared.front.Front.{Front}
-use Rattle.droid_assembly.specs.declared.running_hash.RunningHash.{RunningHash}
+use Rattle.droid_frame.specs.declared.running_hash.RunningHash.{RunningHash}
 
 -- its fields fit together; each window has memory for exactly `width` bytes
 pub record IsFront (front : Front) : Type 0 where
-  pub ring : IsRing front.last
-  pub same_width : front.last.width ≡ front.width
+  pub same_width : front.last.capacity ≡ front.width
   pub room : vec_capacity front.first ≡ front.width
   pub within : vec_len front.first ≤ front.width
 
@@ -21,4 +19,4 @@ pub record Knows (width : ℕ) (first last : List ℕ) (hash : RunningHash) (byt
 
 -- the front has the windows and the hash of these bytes
 abbrev pub FrontKnows : Front → List ℕ → Type 0
-FrontKnows front bytes = Knows front.width front.first.items (ring_items front.last) front.hash bytes
+FrontKnows front bytes = Knows front.width front.first.items front.last.items front.hash bytes

@@ -1,5 +1,6 @@
 -- For proofs: the invariants of an assembly.
-use Rattle.std.specs.Prelude.{◌≡◌, ℕ, ◌+◌, ◌<◌, ◌≤◌, List, [], length, Option, None, unwrap_or, IsSome, MatchOption, ⊤, is_some, slice_index_or, sum_by, count_by, map}
+use Rattle.std.specs.Prelude.{◌≡◌, ℕ, ◌+◌, ◌<◌, ◌≤◌, List, [], length, Option, None, unwrap_or, IsSome, MatchOption, ⊤}
+use Rattle.std.specs.Prelude.{is_some, slice_index_or, sum_by, count_by, map}
 use Rattle.std.specs.List.{range_with_len}
 use Rattle.droid_assembly.specs.Pieces.{Piece, AreSizes, IsDue, bytes_at, file_bytes}
 use Rattle.droid_assembly.specs.State.{State, StandsFor, IsComplete, count_of, width_of, slot}
@@ -25,7 +26,8 @@ pieces_from from count pieces = map (λ index. bytes_of (bytes_at pieces index))
 
 -- all pieces before index `from` are there, those after it wait in their places, and none is 16 or more past it;
 -- `total` is the number of their bytes, and `count` the number of pieces
-pub record ArePlaced (waiting : List (Option (List ℕ))) (from : ℕ) (pieces : List Piece) (total count : ℕ) : Type 0 where
+pub record ArePlaced (waiting : List (Option (List ℕ))) (from : ℕ) (pieces : List Piece) (total count : ℕ)
+    : Type 0 where
   pub no_gap : (index : ℕ) → index < from → IsSome (bytes_at pieces index)
   pub waits : (index : ℕ) → from ≤ index → index < from + 16 → slot waiting index ≡ bytes_at pieces index
   pub none_beyond : (index : ℕ) → from + 16 ≤ index → bytes_at pieces index ≡ None
@@ -33,7 +35,8 @@ pub record ArePlaced (waiting : List (Option (List ℕ))) (from : ℕ) (pieces :
   pub counted : count ≡ from + count_by is_some waiting
 
 -- the same, and the front has the bytes of the pieces before index `from`
-pub record IsAlong (front : Front) (waiting : List (Option (List ℕ))) (from : ℕ) (pieces : List Piece) (total count : ℕ) : Type 0 where
+pub record IsAlong (front : Front) (waiting : List (Option (List ℕ))) (from : ℕ) (pieces : List Piece) (total count : ℕ)
+    : Type 0 where
   pub placed : ArePlaced waiting from pieces total count
   pub knows : FrontKnows front (file_bytes from pieces)
 
@@ -53,7 +56,8 @@ pub record IsConsistent (assembly : State) (kept : Front) : Type 0 where
   pub width : kept.width ≡ width_of assembly
   pub pieces : List Piece
   pub stands : StandsFor assembly pieces
-  pub weighed : assembly.settled_bytes ≡ length (file_bytes assembly.first_missing pieces) + sum_by weight assembly.waiting
+  pub weighed : assembly.settled_bytes
+      ≡ length (file_bytes assembly.first_missing pieces) + sum_by weight assembly.waiting
   pub counted : assembly.held_count ≡ assembly.first_missing + count_by is_some assembly.waiting
   pub pending : MatchOption assembly.pending ⊤ (IsFree assembly)
   pub sealed : IsSome assembly.hashed → IsComplete assembly

@@ -1,10 +1,9 @@
 pub mod Faults
 pub mod Fields
+pub mod FrontLending
 pub mod Fronts
 pub mod Handed
-pub mod Hashing
 pub mod Kept
 pub mod Lending
 pub mod Pieces
-pub mod Rings
 pub mod State

@@ -1,6 +1,8 @@
 -- The pieces of one file: those that are there, the first that is missing, the file that they make, and its windows.
 -- The division of a file into pieces is this project's own.
-use Rattle.std.specs.Prelude.{◌≡◌, ℕ, ◌+◌, ◌-◌, ◌*◌, ◌/◌, ◌%◌, ◌^◌, ◌<◌, ◌≤◌, ◌==◌, min, List, [], ◌∷◌, length, take, drop, filter, nat_lt, Option, None, Some, unwrap_or, is_none, IsSome, sum_by, if◌then◌else◌}
+use Rattle.std.specs.Prelude.{◌≡◌, ℕ, ◌+◌, ◌-◌, ◌*◌, ◌/◌, ◌%◌, ◌^◌, ◌<◌, ◌≤◌, ◌==◌, min, List, [], ◌∷◌, length, take}
+use Rattle.std.specs.Prelude.{drop, filter, nat_lt, Option, None, Some, unwrap_or, is_none, IsSome, sum_by}
+use Rattle.std.specs.Prelude.{if◌then◌else◌}
 use Rattle.std.specs.List.{flat_map, position_or_len, range_with_len}
 
 -- a piece: its index, counted from 0, and its bytes
@@ -67,7 +69,8 @@ past index pieces = filter (λ piece. nat_lt index piece.0) pieces
 -- the first missing piece, and all bytes of the pieces after it
 abbrev pub kept_bytes : ℕ → ℕ → List Piece → ℕ
 kept_bytes scan_limit count pieces =
-    2 * min scan_limit (length (file_bytes (missing count pieces) pieces)) + bytes_held (past (missing count pieces) pieces)
+    2 * min scan_limit (length (file_bytes (missing count pieces) pieces))
+    + bytes_held (past (missing count pieces) pieces)
 
 -- the first bytes of a file, at most `scan_limit` of them
 abbrev pub first_window : ℕ → List ℕ → List ℕ

@@ -1,11 +1,13 @@
 -- The state of an assembly, as contracts see it, and the settled pieces that it stands for.
-use Rattle.std.specs.Prelude.{◌≡◌, ◌≢◌, ℕ, ◌+◌, ◌%◌, ◌<◌, ◌≤◌, min, List, length, Option, None, Some, slice_index_or, All, AllPairs}
+use Rattle.std.specs.Prelude.{◌≡◌, ◌≢◌, ℕ, ◌+◌, ◌%◌, ◌<◌, ◌≤◌, min, List, length, Option, None, Some, slice_index_or}
+use Rattle.std.specs.Prelude.{All, AllPairs}
 use Rattle.droid_frame.specs.Hashes.{hash}
-use Rattle.droid_frame.specs.types.hash_kind.HashKind.{HashKind}
-use Rattle.droid_frame.specs.types.hash_value.HashValue.{HashValue}
-use Rattle.droid_assembly.specs.Hashing.{running_kind, HoldsAll}
-use Rattle.droid_assembly.specs.Pieces.{Piece, piece_count, IsDue, bytes_at, held, bytes_held, missing, file_bytes, first_window, last_window}
-use Rattle.droid_assembly.specs.declared.running_hash.RunningHash.{RunningHash}
+use Rattle.droid_frame.specs.declared.hash_kind.HashKind.{HashKind}
+use Rattle.droid_frame.specs.declared.hash_value.HashValue.{HashValue}
+use Rattle.droid_frame.specs.RunningHashes.{running_kind, HoldsAll}
+use Rattle.droid_assembly.specs.Pieces.{Piece, piece_count, IsDue, bytes_at, held, bytes_held, missing, file_bytes}
+use Rattle.droid_assembly.specs.Pieces.{first_window, last_window}
+use Rattle.droid_frame.specs.declared.running_hash.RunningHash.{RunningHash}
 
 -- the reserved memory, in bytes for each of the two windows and in places for waiting pieces
 pub record Room : Type 0 where
@@ -76,7 +78,8 @@ pub record StandsFor (assembly : State) (pieces : List Piece) : Type 0 where
   -- its hash, kept or running, covers these bytes
   pub is_hash : IsHashOf assembly.hashed assembly.running (file_bytes assembly.first_missing pieces)
   -- its waiting pieces are those after the first missing one
-  pub waits : (index : ℕ) → assembly.first_missing ≤ index → index < assembly.first_missing + 16 → slot assembly.waiting index ≡ bytes_at pieces index
+  pub waits : (index : ℕ) → assembly.first_missing ≤ index → index < assembly.first_missing + 16
+      → slot assembly.waiting index ≡ bytes_at pieces index
   pub none_beyond : (index : ℕ) → assembly.first_missing + 16 ≤ index → bytes_at pieces index ≡ None
 
 -- the number of bytes of a pending piece

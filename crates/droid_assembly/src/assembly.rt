@@ -1,11 +1,16 @@
 //! The pieces of one unfinished file.
 
-ghost use Rattle.std.specs.Prelude.{◌≡◌, ◌+◌, ◌-◌, ◌*◌, ◌^◌, ◌<◌, ◌≤◌, ◌↔◌, ◌++◌, ◌∷◌, [], ℕ, List, length, min, IsOk, IfOk, IfErr, OnOk, OnErr, IsErrOf, IsTrue, IsSome, None, Some, option_map, MatchBool};
+ghost use Rattle.std.specs.Prelude.{◌≡◌, ◌+◌, ◌-◌, ◌*◌, ◌^◌, ◌<◌, ◌≤◌, ◌↔◌, ◌++◌, ◌∷◌, [], ℕ, List, length, min, IsOk};
+ghost use Rattle.std.specs.Prelude.{IfOk, IfErr, OnOk, OnErr, IsErrOf, IsTrue, IsSome, None, Some, option_map};
+ghost use Rattle.std.specs.Prelude.{MatchBool};
 ghost use Rattle.std.specs.Bool.{OnFalse};
-ghost use Rattle.droid_assembly.specs.Pieces.{Piece, AreSizes, IsDue, HasIndex, LacksIndex, held as held_of, missing as missing_of, kept_bytes as kept_of, file_bytes, first_window, last_window};
-ghost use Rattle.droid_assembly.specs.State.{StandsFor, IsComplete, IsOfSameFile, IsUnchanged, IsHashOf, count_of, hash_kind_of, with_pending, pending_bytes as pending_len, slot};
+ghost use Rattle.droid_assembly.specs.Pieces.{Piece, AreSizes, IsDue, HasIndex, LacksIndex, held as held_of};
+ghost use Rattle.droid_assembly.specs.Pieces.{missing as missing_of, kept_bytes as kept_of, file_bytes, first_window};
+ghost use Rattle.droid_assembly.specs.Pieces.{last_window};
+ghost use Rattle.droid_assembly.specs.State.{StandsFor, IsComplete, IsOfSameFile, IsUnchanged, IsHashOf, count_of};
+ghost use Rattle.droid_assembly.specs.State.{hash_kind_of, with_pending, pending_bytes as pending_len, slot};
 ghost use Rattle.droid_assembly.specs.Kept.{pieces_from};
-ghost use Rattle.droid_assembly.specs.Hashing.{running_kind};
+ghost use Rattle.droid_frame.specs.RunningHashes.{running_kind};
 ghost use Rattle.droid_frame.specs.Hashes.{hash, IsHashValue};
 ghost use Rattle.std.specs.Borrow.{sem};
 
@@ -119,11 +124,13 @@ impl Assembly {
         ensures too_far_ahead { (pieces : List Piece) → StandsFor self.old pieces
             → let missing = missing_of (count_of self.old) pieces in
             (IsErrOf result (PutFault.TooFarAhead missing bytes)
-            ↔ (IsDue self.old.size self.old.piece_size (index, bytes) × LacksIndex pieces index × (missing + 16 ≤ index))) }
+            ↔ (IsDue self.old.size self.old.piece_size (index, bytes) × LacksIndex pieces index
+            × (missing + 16 ≤ index))) }
         ensures ok { (pieces : List Piece) → StandsFor self.old pieces
             → let missing = missing_of (count_of self.old) pieces in
             (IsOk result
-            ↔ (IsDue self.old.size self.old.piece_size (index, bytes) × LacksIndex pieces index × (index < missing + 16))) }
+            ↔ (IsDue self.old.size self.old.piece_size (index, bytes) × LacksIndex pieces index
+            × (index < missing + 16))) }
 
         // What stands afterwards.
         ensures pending { OnOk result (self.new ≡ with_pending self.old (Some (index, bytes))) }
@@ -171,7 +178,8 @@ impl Assembly {
         ensures none_pending { self.new.pending ≡ None }
 
         // These are the pieces from the old first missing index up to the new one.
-        ensures spent { (pieces : List Piece) (piece : Piece) → StandsFor self.old pieces → self.old.pending ≡ Some piece
+        ensures spent { (pieces : List Piece) (piece : Piece) → StandsFor self.old pieces
+            → self.old.pending ≡ Some piece
             → let before = missing_of (count_of self.old) pieces in
             let after = missing_of (count_of self.old) (pieces ++ piece ∷ []) in
             result ≡ pieces_from before (after - before) (pieces ++ piece ∷ []) }
@@ -199,7 +207,8 @@ impl Assembly {
 
     /// Returns the index of the first missing piece, or the number of pieces if none is missing.
     pub fn missing(&self) -> u32
-        ensures least { (pieces : List Piece) → StandsFor self.now pieces → result ≡ missing_of (count_of self.now) pieces }
+        ensures least { (pieces : List Piece) → StandsFor self.now pieces
+            → result ≡ missing_of (count_of self.now) pieces }
         ensures within { result ≤ count_of self.now }
         ensures complete { IsComplete self.now ↔ (result ≡ count_of self.now) }
     {
@@ -234,7 +243,8 @@ impl Assembly {
             → IfOk result (λ sealed. sealed.size ≡ length (file_bytes (count_of self.old) pieces)) }
         ensures same_size { IfOk result (λ sealed. sealed.size ≡ self.old.size) }
         ensures hash { (pieces : List Piece) → StandsFor self.old pieces
-            → IfOk result (λ sealed. sealed.hash ≡ hash (hash_kind_of self.old) (file_bytes (count_of self.old) pieces)) }
+            → IfOk result (λ sealed.
+            sealed.hash ≡ hash (hash_kind_of self.old) (file_bytes (count_of self.old) pieces)) }
         ensures length { IfOk result (λ sealed. IsHashValue sealed.hash) }
         ensures incomplete { (pieces : List Piece) → StandsFor self.old pieces
             → IfErr result (λ fault. fault.missing ≡ missing_of (count_of self.old) pieces) }
@@ -270,7 +280,6 @@ impl Assembly {
         ensures first_len { length result.first.now ≡ min self.old.scan_limit self.old.size }
         ensures last_len { length result.last.now ≡ min self.old.scan_limit self.old.size }
     {
-        self.front.straighten();
         self.front.windows()
     }
 
@@ -320,7 +329,8 @@ impl Assembly {
 
 // Returns the hash of the bytes so far, and keeps it.
 fn hash_of(kept: &mut Option<HashValue>, front: &mut Front) -> HashValue
-    ensures value { (before : List ℕ) → IsHashOf kept.old front.old.hash before → result ≡ hash (running_kind front.old.hash) before }
+    ensures value { (before : List ℕ) → IsHashOf kept.old front.old.hash before
+        → result ≡ hash (running_kind front.old.hash) before }
     ensures kind { running_kind front.new.hash ≡ running_kind front.old.hash }
     ensures kept { kept.new ≡ Some result }
     ensures first { front.new.first ≡ front.old.first }

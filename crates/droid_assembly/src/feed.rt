@@ -3,7 +3,7 @@
 ghost use Rattle.std.specs.Prelude.{◌≡◌, ◌≤◌, ◌++◌, ℕ, List, length};
 ghost use Rattle.std.specs.List.{concat};
 ghost use Rattle.droid_assembly.specs.Fronts.{IsFront, FrontKnows};
-ghost use Rattle.droid_assembly.specs.Hashing.{running_kind};
+ghost use Rattle.droid_frame.specs.RunningHashes.{running_kind};
 
 use crate::front::Front;
 use crate::several::Several;
@@ -18,7 +18,8 @@ pub(crate) fn show_joined(front: &mut Front, several: &Several)
     ensures sound { IsFront front.new }
     ensures width { front.new.width ≡ front.old.width }
     ensures kind { running_kind front.new.hash ≡ running_kind front.old.hash }
-    ensures knows { (before : List ℕ) → FrontKnows front.old before → FrontKnows front.new (before ++ concat several.now) }
+    ensures knows { (before : List ℕ) → FrontKnows front.old before
+        → FrontKnows front.new (before ++ concat several.now) }
 {
     let mut joined = Joined::none();
     for place in 0..several.len() {
@@ -36,7 +37,8 @@ pub(crate) fn show_each(front: &mut Front, several: &Several)
     ensures sound { IsFront front.new }
     ensures width { front.new.width ≡ front.old.width }
     ensures kind { running_kind front.new.hash ≡ running_kind front.old.hash }
-    ensures knows { (before : List ℕ) → FrontKnows front.old before → FrontKnows front.new (before ++ concat several.now) }
+    ensures knows { (before : List ℕ) → FrontKnows front.old before
+        → FrontKnows front.new (before ++ concat several.now) }
 {
     for place in 0..several.len() {
         if let Some(bytes) = several.get(place) {

@@ -2,14 +2,15 @@
 
 ghost use Rattle.std.specs.Prelude.{◌≡◌, ◌++◌, [], ℕ, List, IfOk, vec_capacity};
 ghost use Rattle.droid_assembly.specs.Fronts.{IsFront, FrontKnows};
-ghost use Rattle.droid_assembly.specs.Rings.{ring_items};
-ghost use Rattle.droid_assembly.specs.Hashing.{running_kind, HoldsAll};
+ghost use Rattle.droid_assembly.specs.FrontLending.{StaysUnchanged, BufferStays, LendsItems};
+ghost use Rattle.droid_frame.specs.RunningHashes.{running_kind, HoldsAll};
 ghost use Rattle.droid_frame.specs.Hashes.{hash};
+ghost use Rattle.std.specs.Borrow.{sem};
 
-use crate::ring::{Ring, append};
-use crate::running_hash::RunningHash;
+use crate::copying::append;
 use crate::windows::Windows;
-use droid_frame::{HashKind, HashValue};
+use circular_buffer::HeapCircularBuffer;
+use droid_frame::{HashKind, HashValue, RunningHash};
 use std::alloc::{AllocError, Global};
 
 /// What the assembly keeps of the front of a file, the bytes before the first missing piece: the first and the last of
@@ -17,7 +18,7 @@ use std::alloc::{AllocError, Global};
 #[derive(Drop)]
 pub(crate) struct Front {
     first: Vec<u8>,
-    last: Ring,
+    last: HeapCircularBuffer<u8>,
     hash: RunningHash,
     width: usize,
 }
@@ -32,13 +33,13 @@ impl Front {
         ensures sound { IfOk result IsFront }
         ensures width { IfOk result (λ front. front.width ≡ width) }
         ensures first_reserved { IfOk result (λ front. vec_capacity front.first ≡ width) }
-        ensures last_reserved { IfOk result (λ front. vec_capacity front.last.bytes ≡ width) }
+        ensures last_reserved { IfOk result (λ front. front.last.capacity ≡ width) }
         ensures kind { IfOk result (λ front. running_kind front.hash ≡ kind) }
         ensures knows { IfOk result (λ front. FrontKnows front []) }
     {
         Ok(Front {
             first: Vec::with_capacity(alloc, width)?,
-            last: Ring::with_room(alloc, width)?,
+            last: HeapCircularBuffer::with_capacity(alloc, width)?,
             hash: RunningHash::of(kind),
             width,
         })
@@ -54,13 +55,14 @@ impl Front {
     {
         let count = bytes.len().min(self.width - self.first.len());
         append(&mut self.first, &bytes[..count]);
-        self.last.extend(bytes);
+        self.last.extend_from_slice(bytes);
         self.hash.update(bytes);
     }
 
     /// Returns the hash of the bytes so far. After this call the running hash no longer covers them.
     pub(crate) fn finish(&mut self) -> HashValue
-        ensures value { (before : List ℕ) → HoldsAll self.old.hash before → result ≡ hash (running_kind self.old.hash) before }
+        ensures value { (before : List ℕ) → HoldsAll self.old.hash before
+            → result ≡ hash (running_kind self.old.hash) before }
         ensures kind { running_kind self.new.hash ≡ running_kind self.old.hash }
         ensures first { self.new.first ≡ self.old.first }
         ensures last { self.new.last ≡ self.old.last }
@@ -69,28 +71,31 @@ impl Front {
         self.hash.finish()
     }
 
-    /// Moves the last bytes so that they are in order in memory.
-    pub(crate) fn straighten(&mut self)
-        requires { IsFront self.old }
-        ensures sound { IsFront self.new }
-        ensures first { self.new.first ≡ self.old.first }
-        ensures last { ring_items self.new.last ≡ ring_items self.old.last }
-        ensures straight { self.new.last.bytes.items ≡ ring_items self.old.last }
-        ensures capacity { vec_capacity self.new.last.bytes ≡ vec_capacity self.old.last.bytes }
-        ensures hash { self.new.hash ≡ self.old.hash }
-        ensures width { self.new.width ≡ self.old.width }
-    {
-        self.last.straighten();
-    }
-
-    /// Returns the two windows. The last bytes must be in order: call [`straighten`](Front::straighten) first.
-    pub(crate) fn windows(&self) -> Windows<'_>
-        ensures first { result.first.now ≡ self.now.first.items }
-        ensures last { result.last.now ≡ self.now.last.bytes.items }
+    /// Returns the two windows. Moves the last bytes so that they are in order in memory.
+    pub(crate) fn windows(&mut self) -> Windows<'_>
+        ensures* unchanged { sem 𝓛 (StaysUnchanged self.entry) }
+        ensures first { result.first.now ≡ self.old.first.items }
+        ensures last { result.last.now ≡ self.old.last.items }
     {
         Windows {
             first: self.first.as_slice(),
-            last: self.last.block(),
+            last: straight(&mut self.last),
         }
     }
+}
+
+// Moves the bytes of a buffer into one slice, and lends it.
+fn lend(buffer: &mut HeapCircularBuffer<u8>) -> &mut [u8]
+    ensures* writes_back { sem 𝓛 (LendsItems buffer.entry result) }
+    ensures value { result.now ≡ buffer.old.items }
+{
+    buffer.make_contiguous()
+}
+
+// Does the same, and lends the slice to be read. A function of its own, since its proof by hand follows its body.
+fn straight(buffer: &mut HeapCircularBuffer<u8>) -> &[u8]
+    ensures* unchanged { sem 𝓛 (BufferStays buffer.entry) }
+    ensures value { result.now ≡ buffer.old.items }
+{
+    lend(buffer)
 }

@@ -2,13 +2,12 @@
 #![tactic(auto)]
 
 mod assembly;
+mod copying;
 mod fault;
 mod feed;
 mod front;
 mod needless_pieces;
 mod places;
-mod ring;
-mod running_hash;
 mod seal;
 mod several;
 mod small_pieces;

@@ -1,12 +1,13 @@
 //! The places of pieces that wait for an earlier piece.
 
-ghost use Rattle.std.specs.Prelude.{◌≡◌, ◌<◌, ◌≤◌, ◌+◌, ◌%◌, ◌-◌, ◌^◌, [], ℕ, List, length, min, None, Some, IfOk, IsSome, IsTrue, replicate, slice_set, vec_capacity};
+ghost use Rattle.std.specs.Prelude.{◌≡◌, ◌<◌, ◌≤◌, ◌+◌, ◌%◌, ◌-◌, ◌^◌, [], ℕ, List, length, min, None, Some, IfOk};
+ghost use Rattle.std.specs.Prelude.{IsSome, IsTrue, replicate, slice_set, vec_capacity};
 ghost use Rattle.std.specs.Bool.{OnFalse};
 ghost use Rattle.std.specs.List.{concat};
 ghost use Rattle.droid_assembly.specs.Pieces.{Piece};
 ghost use Rattle.droid_assembly.specs.State.{slot};
 ghost use Rattle.droid_assembly.specs.Fronts.{IsFront};
-ghost use Rattle.droid_assembly.specs.Hashing.{running_kind};
+ghost use Rattle.droid_frame.specs.RunningHashes.{running_kind};
 ghost use Rattle.droid_assembly.specs.Kept.{IsAlong, ArePlaced, pieces_from};
 
 use crate::feed::{show_each, show_joined};

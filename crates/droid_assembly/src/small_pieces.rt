@@ -2,7 +2,7 @@
 
 ghost use Rattle.std.specs.Prelude.{◌≡◌, ◌+◌, ◌≤◌, ◌++◌, [], length};
 
-use crate::ring::overwrite;
+use crate::copying::overwrite;
 use std::marker::Model;
 
 /// The limit on the joined bytes.

@@ -1,5 +1,5 @@
-//! Tests of what services and profiles stand on: frames, hashes, the store and the formats that the program reads and writes.
-//! They make public calls alone.
+//! Tests of what services and profiles stand on: frames, hashes, the store and the formats that the program reads and
+//! writes. They make public calls alone.
 #![tactic(auto)]
 
 #[cfg(test)]

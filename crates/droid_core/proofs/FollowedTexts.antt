@@ -1,15 +1,15 @@
 -- The text of an export is kept where its part leaves something of it unread.
 use Rattle.std.proofs.Common.{◌≡◌, ℕ, false, IsTrue, IfOk, Option, refl, sym, subst}
 use Rattle.std.specs.Prelude.{Result, Ok, Err}
-use Rattle.droid_frame.specs.types.filter.Filter.{Filter}
-use Rattle.droid_frame.specs.types.refusal.Refusal.{Refusal}
-use Rattle.droid_frame.specs.types.reply.Reply.{Reply}
-use Rattle.droid_frame.specs.types.request.Request.{Request}
-use Rattle.droid_frame.specs.types.request.Request.TheVariants.{Export}
+use Rattle.droid_frame.specs.declared.filter.Filter.{Filter}
+use Rattle.droid_frame.specs.declared.refusal.Refusal.{Refusal}
+use Rattle.droid_frame.specs.declared.reply.Reply.{Reply}
+use Rattle.droid_frame.specs.declared.request.Request.{Request}
+use Rattle.droid_frame.specs.declared.request.Request.TheVariants.{Export}
 use Rattle.droid_core_spec.specs.Verdicts.{is_command}
-use Rattle.droid_core_requests.specs.Changes.{answered}
-use Rattle.droid_core_requests.specs.KeptTexts.{IsFor, is_followed}
-use Rattle.droid_core_requests.specs.declared.kept_text.KeptText.{KeptText}
+use Rattle.droid_core.specs.Changes.{answered}
+use Rattle.droid_core.specs.KeptTexts.{IsFor, is_followed}
+use Rattle.droid_core.specs.declared.queries.kept_text.KeptText.{KeptText}
 
 -- what the call says of its reply holds of the reply that is answered
 pub text_kept : (result : Result Reply Refusal) (profile from max : ℕ) (filter : Filter) (last : Option KeptText) → IfOk result (λ reply. IsTrue (is_followed from max reply) → IsFor profile filter last)

@@ -1,12 +1,12 @@
 -- How a service that stands for a history stands for the next one.
 use Rattle.std.proofs.Common.{◌≡◌, ◌≢◌, Bool, true, false, [], ◌∷◌, ◌++◌, Some, None, IsTrue, refl, sym, ap, subst, ◌∙◌}
 use Rattle.std.specs.Prelude.{MatchBool, IsSome, ⊤}
-use Rattle.droid_frame.specs.types.frame.Frame.{Frame}
-use Rattle.droid_frame.specs.types.refusal.Refusal.{Refusal}
-use Rattle.droid_frame.specs.types.refusal.Refusal.TheVariants.{Malformed, Store}
-use Rattle.droid_frame.specs.types.reply.Reply.{Reply}
-use Rattle.droid_frame.specs.types.reply.Reply.TheVariants.{Refused}
-use Rattle.droid_frame.specs.types.request.Request.{Request}
+use Rattle.droid_frame.specs.declared.frame.Frame.{Frame}
+use Rattle.droid_frame.specs.declared.refusal.Refusal.{Refusal}
+use Rattle.droid_frame.specs.declared.refusal.Refusal.TheVariants.{Malformed, Store}
+use Rattle.droid_frame.specs.declared.reply.Reply.{Reply}
+use Rattle.droid_frame.specs.declared.reply.Reply.TheVariants.{Refused}
+use Rattle.droid_frame.specs.declared.request.Request.{Request}
 use Rattle.droid_frame.specs.Replies.{HasReplySpelling, SpellsReply}
 use Rattle.droid_core_spec.specs.Histories.{History, IsLegal, IsNext, New, command, kept, world_of, entry_of, history_with, verdict_reply, Handles}
 use Rattle.droid_core_spec.specs.Judging.{Verdict, Accepted, Answered, Refuses, judge}
@@ -17,14 +17,14 @@ use Rattle.droid_core_spec.proofs.Asked.{asked_in_a_version}
 use Rattle.droid_core_spec.proofs.Legal.{world_next, GoesOn-push}
 use Rattle.droid_core_spec.proofs.Meetings.{answer_malformed, next_malformed, answer_kept, next_kept, answer_new, next_new}
 use Rattle.droid_core_spec.proofs.Replied.{answer_no_store}
-use Rattle.droid_core_requests.proofs.Replying.{kept_one_more}
+use Rattle.droid_core.proofs.Replying.{kept_one_more}
 use Rattle.droid_store.specs.declared.rows.Entry as rows
 use Rattle.droid_store.specs.Rows.{Rows, reply_for}
-use Rattle.droid_core_requests.specs.holdings.Holdings.{Holdings}
-use Rattle.droid_core_requests.specs.stamps.Stamp.{Stamp}
-use Rattle.droid_core_requests.specs.Changes.{again, stamp_of, Stays, TakesOne, Leaves, Comes}
+use Rattle.droid_core.specs.declared.holdings.Holdings.{Holdings}
+use Rattle.droid_core.specs.declared.stamps.Stamp.{Stamp}
+use Rattle.droid_core.specs.Changes.{again, stamp_of, Stays, TakesOne, Leaves, Comes}
 use Rattle.droid_core.specs.Standing.{Stand}
-use Rattle.droid_core_requests.specs.Standing.{IsIn}
+use Rattle.droid_core.specs.HoldingsStanding.{IsIn}
 use Rattle.droid_core.proofs.KeptReplies.{entry_kept, none_kept, reply_spelled}
 
 -- ---- what a service stands for after a request

@@ -2,8 +2,8 @@
 use Rattle.std.proofs.Common.{◌≡◌, ℕ, Bool, true, false, cond, [], ◌∷◌, find, Option, Some, None, option_map, refl, sym, subst, ◌∙◌}
 use Rattle.std.specs.List.{AllByRecursion}
 use Rattle.droid_core_spec.specs.Histories.{Entry, History, is_under, kept}
-use Rattle.droid_core_requests.specs.Replies.{entry_row, IsSpelled, KeepsReplies}
-use Rattle.droid_core_requests.proofs.LookUps.{reply_found}
+use Rattle.droid_core.specs.Replies.{entry_row, IsSpelled, KeepsReplies}
+use Rattle.droid_core.proofs.LookUps.{reply_found}
 use Rattle.droid_store.specs.declared.rows.Entry as rows
 use Rattle.droid_store.specs.Rows.{Rows, reply_for}
 

@@ -1,18 +1,60 @@
--- what the proofs above take of the crates below
-pub use Rattle.droid_core_spec.proofs.Judged
-pub use Rattle.droid_core_spec.proofs.Meetings
-pub use Rattle.droid_frame.proofs as frame
-pub use Rattle.droid_core_spec.proofs as spec
-pub use Rattle.droid_core_requests.proofs as requests
-pub use Rattle.droid_core_requests.proofs.unfinished as unfinished
-pub use Rattle.droid_core_requests.proofs.state as state
+pub mod Abandoned
 pub mod Added
+pub mod AddedEntries
+pub mod AddedFiles
+pub mod AddedFolders
+pub mod AddedNodes
+pub mod Apart
+pub mod Assembled
+pub mod CannotBe
+pub mod ExportedParts
+pub mod FileAbandoned
+pub mod FileFinished
+pub mod FileProgress
+pub mod FileVerdicts
+pub mod FilesFound
+pub mod FilesLookedUp
+pub mod FinishJudged
+pub mod Finished
+pub mod FolderRows
 pub mod FollowedTexts
 pub mod Handling
+pub mod Hashes
+pub mod InPlace
+pub mod Items
+pub mod Keeping
+pub mod KeptParts
 pub mod KeptReplies
+pub mod Lists
+pub mod LookUps
 pub mod LookedUp
+pub mod Made
+pub mod MadeProfiles
+pub mod Meanings
+pub mod Moments
+pub mod NodePaths
+pub mod NodeTests
+pub mod PieceAssemblies
+pub mod PieceTaken
+pub mod PlaceChecks
+pub mod Places
+pub mod ProfileRows
+pub mod PuidTexts
+pub mod PutJudged
 pub mod Recalling
 pub mod RecentRows
+pub mod Replying
+pub mod RowsOfNodes
 pub mod Running
+pub mod SameLists
+mod SameRequests
+pub mod ShortRows
+pub mod Sizes
 mod SmallFiles
+pub mod Soundness
 pub mod Starting
+pub mod Staying
+pub mod Taken
+pub mod UnchangedFiles
+pub mod UnfinishedRows
+pub mod Windows

@@ -1,11 +1,11 @@
 -- What is answered after the look-ups in the cache and in the store is answered: they leave the service standing for the
 -- same history.
 use Rattle.std.proofs.Common.{◌≡◌, Bool, ◌∙◌}
-use Rattle.droid_frame.specs.types.reply.Reply.{Reply}
-use Rattle.droid_frame.specs.types.request.Request.{Request}
+use Rattle.droid_frame.specs.declared.reply.Reply.{Reply}
+use Rattle.droid_frame.specs.declared.request.Request.{Request}
 use Rattle.droid_core_spec.specs.Histories.{History}
 use Rattle.droid_core_spec.specs.Setting.{Setting}
-use Rattle.droid_core_requests.specs.stamps.Stamp.{Stamp}
+use Rattle.droid_core.specs.declared.stamps.Stamp.{Stamp}
 use Rattle.droid_store.specs.Rows.{Rows}
 use Rattle.droid_core.specs.Handled.{IsHandled}
 use Rattle.droid_core.specs.Recent.{AreKept}

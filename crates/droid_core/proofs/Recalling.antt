@@ -4,27 +4,28 @@ use Rattle.std.proofs.lemmas.Bool.{eq-eqb}
 use Rattle.std.proofs.lemmas.List.Folds.{find-append}
 use Rattle.std.specs.Option.{option_or}
 use Rattle.std.specs.Prelude.{MatchBool, IsSome}
-use Rattle.droid_frame.specs.types.frame.Frame.{Frame}
-use Rattle.droid_frame.specs.types.reply.Reply.{Reply}
-use Rattle.droid_frame.specs.types.reply.Reply.TheVariants.{Refused}
-use Rattle.droid_frame.specs.types.request.Request.{Request}
+use Rattle.droid_frame.specs.declared.frame.Frame.{Frame}
+use Rattle.droid_frame.specs.declared.reply.Reply.{Reply}
+use Rattle.droid_frame.specs.declared.reply.Reply.TheVariants.{Refused}
+use Rattle.droid_frame.specs.declared.request.Request.{Request}
 use Rattle.droid_core_spec.specs.Histories.{Entry, History, New, command, is_under, kept, world_of, entry_of, answer, next, history_with, verdict_reply, Handles}
 use Rattle.droid_core_spec.specs.Judging.{Verdict, Accepted, Answered, Refuses, judge}
 use Rattle.droid_core_spec.specs.Setting.{Setting}
-use Rattle.droid_core_spec.specs.Verdicts.{is_command, is_refused, MayCome}
+use Rattle.droid_core_spec.specs.Verdicts.{is_command, MayCome}
+use Rattle.droid_frame.specs.Replies.{is_refused}
 use Rattle.droid_core_spec.specs.MemoryFaults.{is_out_of_memory}
 use Rattle.droid_core_spec.specs.World.{World}
 use Rattle.droid_core_spec.proofs.Judged.{judged}
 use Rattle.droid_core_spec.proofs.Meetings.{next_kept, answer_new, next_new}
 use Rattle.droid_core_spec.proofs.Replied.{kept_next}
-use Rattle.droid_core_requests.specs.Replies.{entry_row, KeepsReplies}
-use Rattle.droid_core_requests.proofs.LookUps.{reply_found}
+use Rattle.droid_core.specs.Replies.{entry_row, KeepsReplies}
+use Rattle.droid_core.proofs.LookUps.{reply_found}
 use Rattle.droid_store.specs.declared.rows.Entry as rows
 use Rattle.droid_store.specs.Rows.{Rows, reply_for}
-use Rattle.droid_core_requests.specs.stamps.Stamp.{Stamp}
-use Rattle.droid_core_requests.specs.Changes.{stamp_of, stamped}
-use Rattle.droid_core_requests.specs.KeptTexts.{IsLastText}
-use Rattle.droid_core_requests.specs.declared.kept_text.KeptText.{KeptText}
+use Rattle.droid_core.specs.declared.stamps.Stamp.{Stamp}
+use Rattle.droid_core.specs.Changes.{stamp_of, stamped}
+use Rattle.droid_core.specs.KeptTexts.{IsLastText}
+use Rattle.droid_core.specs.declared.queries.kept_text.KeptText.{KeptText}
 use Rattle.droid_core.specs.Recent.{Whose, IsKeptRow, AreKept}
 use Rattle.droid_core.specs.Standing.{Stand, StandsFor}
 use Rattle.droid_core.specs.declared.service.Service.{Service}

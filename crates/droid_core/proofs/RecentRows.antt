@@ -6,7 +6,7 @@ use Rattle.std.proofs.lemmas.Bool.{and_parts, eqb-true}
 use Rattle.lru.specs.LruCache.{LruCache, lru_cache, promoted, put_entries}
 use Rattle.lru.proofs.CallerLemmas.{Contains-promoted, Contains-lookup, Contains-put_entries, IsPut}
 use Rattle.droid_core_spec.specs.Histories.{Entry, History, kept}
-use Rattle.droid_core_requests.specs.Replies.{entry_row}
+use Rattle.droid_core.specs.Replies.{entry_row}
 use Rattle.droid_core.specs.Recent.{Whose, is_same, IsKeptRow, AreKept, is_cached_in}
 use Rattle.droid_store.specs.declared.rows.Entry as rows
 

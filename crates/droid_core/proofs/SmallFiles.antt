@@ -4,8 +4,8 @@ use Rattle.std.proofs.lemmas.Option.{slice_get_cases}
 use Rattle.std.specs.Prelude.{MatchBool}
 use Rattle.droid_core.specs.KeptBytes.{of_node, in_profile, piece_size_of}
 use Rattle.droid_core_spec.specs.World.{Content, Node, Folder, File, Abandoned, Profile, World, numbered, unless_abandoned}
-use Rattle.droid_core_requests.specs.Files.{OpenFile, OpenFiles, At, open_at}
-use Rattle.droid_core_requests.specs.Assemblies.{IsOpenFor, HasItsAssembly, HasItsAssemblyIn, HasAssemblies}
+use Rattle.droid_core.specs.Files.{OpenFile, OpenFiles, At, open_at}
+use Rattle.droid_core.specs.Assemblies.{IsOpenFor, HasItsAssembly, HasItsAssemblyIn, HasAssemblies}
 
 module _ (file : OpenFile) where
   abbrev AreSmall : Option ℕ → Type 0

@@ -1,16 +1,16 @@
 -- A service with nothing in it stands for the empty history.
 use Rattle.std.proofs.Common.{◌≡◌, ℕ, zero, suc, [], None, refl, sym, ap, subst}
 use Rattle.droid_core_spec.specs.Histories.{world_of}
-use Rattle.droid_core_requests.specs.Identified.{IsOf}
+use Rattle.droid_core.specs.Identified.{IsOf}
 use Rattle.droid_core_spec.specs.Setting.{Setting}
 use Rattle.droid_core_spec.specs.World.{Profile, empty_world, numbered}
-use Rattle.droid_core_requests.specs.Rows.{KeepsWorld}
-use Rattle.droid_core_requests.proofs.Made.{world_empty}
+use Rattle.droid_core.specs.Rows.{KeepsWorld}
+use Rattle.droid_core.proofs.Made.{world_empty}
 use Rattle.droid_store.specs.Rows.{Rows, no_rows}
-use Rattle.droid_core_requests.specs.Files.{OpenFiles, open_at}
-use Rattle.droid_core_requests.specs.Assemblies.{HasAssemblies, HasItsAssemblyIn}
-use Rattle.droid_core_requests.specs.holdings.Holdings.{Holdings}
-use Rattle.droid_core_requests.specs.Standing.{limits_given, AreAllowed}
+use Rattle.droid_core.specs.Files.{OpenFiles, open_at}
+use Rattle.droid_core.specs.Assemblies.{HasAssemblies, HasItsAssemblyIn}
+use Rattle.droid_core.specs.declared.holdings.Holdings.{Holdings}
+use Rattle.droid_core.specs.HoldingsStanding.{limits_given, AreAllowed}
 use Rattle.droid_core.specs.Standing.{Stand}
 
 none_numbered : (number : ℕ) → numbered {A = Profile} [] number ≡ None

@@ -1,7 +1,7 @@
 -- How many replies a service caches, which ones, and whether it keeps the text of an export (this project's own).
 use Rattle.std.specs.Prelude.{ℕ, Bool, length}
-use Rattle.droid_frame.specs.types.filter.Filter.{Filter}
-use Rattle.droid_core_requests.specs.KeptTexts.{IsFor}
+use Rattle.droid_frame.specs.declared.filter.Filter.{Filter}
+use Rattle.droid_core.specs.KeptTexts.{IsFor}
 use Rattle.droid_core.specs.Recent.{is_cached_in}
 use Rattle.droid_core.specs.declared.service.Service.{Service}
 

@@ -16,7 +16,8 @@ most_bytes profile content = 2 * min profile.scan_limit content.size + 16 * cont
 abbrev pub of_node : (Profile → Content → ℕ) → Profile → Option Node → Option ℕ
 of_node counted profile None = None
 of_node counted profile (Some (Folder parent modified name)) = None
-of_node counted profile (Some (File parent modified name content)) = if content.finished then None else Some (counted profile content)
+of_node counted profile (Some (File parent modified name content)) =
+    if content.finished then None else Some (counted profile content)
 of_node counted profile (Some Abandoned) = None
 
 abbrev pub in_profile : (Profile → Content → ℕ) → Option Profile → ℕ → Option ℕ

@@ -1,30 +1,26 @@
--- The specification of the service.
-pub use Rattle.droid_core_spec.specs.Conditions
-pub use Rattle.droid_core_spec.specs.Exported
-pub use Rattle.droid_core_spec.specs.Files
-pub use Rattle.droid_core_spec.specs.Histories
-pub use Rattle.droid_core_spec.specs.Judging
-pub use Rattle.droid_core_spec.specs.Limits
-pub use Rattle.droid_core_spec.specs.Records
-pub use Rattle.droid_core_spec.specs.Setting
-pub use Rattle.droid_core_spec.specs.Verdicts
-pub use Rattle.droid_core_spec.specs.MemoryFaults
-pub use Rattle.droid_core_spec.specs.Whole
-pub use Rattle.droid_core_spec.specs.World
-pub use Rattle.droid_core_spec.specs.Written
--- Which setting a registry makes.
-pub use Rattle.droid_core_requests.specs.Identified
--- What the service stands for and caches, and what one request and a list of requests come to.
+pub mod Answering
+pub mod Assemblies
 pub mod Cached
+pub mod Causes
+pub mod Changes
+pub mod Faults
+pub mod FileLookUps
+pub mod Files
+pub mod Findings
 pub mod Handled
+pub mod HoldingsStanding
+pub mod Identified
+pub mod Identifying
+pub mod Kept
 pub mod KeptBytes
+pub mod KeptTexts
+pub mod LookUps
+pub mod NewAssemblies
+pub mod Places
 pub mod Recent
+pub mod Replies
+pub mod Rows
 pub mod Running
+pub mod Sound
 pub mod Standing
--- The crates that it stands on, whole, so that a crate above names this one alone.
-pub use Rattle.droid_frame.specs as frame
-pub use Rattle.droid_pronom.specs as pronom
-pub use Rattle.droid_store.specs as store
-pub use Rattle.droid_core_requests.specs as requests
-pub use Rattle.droid_core_requests.specs.unfinished as unfinished
-pub use Rattle.droid_core_requests.specs.state as state
+pub mod Taking

@@ -3,7 +3,7 @@ use Rattle.std.specs.Prelude.{◌≡◌, ℕ, nat_eq, ◌&&◌, Bool, List, Some
 use Rattle.std.specs.List.{Contains}
 use Rattle.std.specs.Map.{lookup}
 use Rattle.droid_core_spec.specs.Histories.{History, kept}
-use Rattle.droid_core_requests.specs.Replies.{entry_row}
+use Rattle.droid_core.specs.Replies.{entry_row}
 use Rattle.droid_store.specs.declared.rows.Entry as rows
 
 -- a client, and one of its numbers

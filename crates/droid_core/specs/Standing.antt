@@ -3,11 +3,11 @@ use Rattle.droid_core_spec.specs.Histories.{History, IsLegal, world_of}
 use Rattle.droid_core_spec.specs.Limits.{Limits}
 use Rattle.droid_core_spec.specs.Setting.{Setting}
 use Rattle.droid_pronom.specs.Registry.{Contents}
-use Rattle.droid_core_requests.specs.Replies.{KeepsReplies}
-use Rattle.droid_core_requests.specs.holdings.Holdings.{Holdings}
-use Rattle.droid_core_requests.specs.Standing.{IsIn}
-use Rattle.droid_core_requests.specs.Standing as holdings
-use Rattle.droid_core_requests.specs.KeptTexts.{IsLastText}
+use Rattle.droid_core.specs.Replies.{KeepsReplies}
+use Rattle.droid_core.specs.declared.holdings.Holdings.{Holdings}
+use Rattle.droid_core.specs.HoldingsStanding.{IsIn}
+use Rattle.droid_core.specs.HoldingsStanding as holdings
+use Rattle.droid_core.specs.KeptTexts.{IsLastText}
 use Rattle.droid_core.specs.Recent.{AreKept}
 use Rattle.droid_core.specs.declared.service.Service.{Service}
 

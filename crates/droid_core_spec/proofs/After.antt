@@ -1,7 +1,7 @@
 -- What holds of a world and still holds after a request, by what it is refused for and what comes of it.
 use Rattle.std.proofs.Common.{◌≡◌, ℕ, zero, suc, ℤ, List, Option, Some, None, refl}
 use Rattle.std.specs.List.{AllByRecursion}
-use Rattle.droid_frame.specs.types.refusal.Refusal.{Refusal}
+use Rattle.droid_frame.specs.declared.refusal.Refusal.{Refusal}
 use Rattle.droid_core_spec.specs.Histories.{world_after}
 use Rattle.droid_core_spec.specs.Judging.{Verdict, unless_refused, in_profile, in_file}
 use Rattle.droid_core_spec.specs.World.{Content, Node, Folder, File, Abandoned, Profile, World, numbered, node_at, unless_abandoned}

@@ -1,11 +1,11 @@
 -- What a frame asks: what its kind and body spell under a number below 2^63, and nothing else.
 use Rattle.std.proofs.Common.{◌≡◌, ◌<◌, ◌^◌, nat_lt, Bool, true, false, cond, inl, inr, Option, Some, None, IsSome, refl}
 use Rattle.std.proofs.lemmas.Bool.{cases_Bool, lt-ltb, ltb-true}
-use Rattle.droid_frame.specs.types.frame.Frame.{Frame}
-use Rattle.droid_frame.specs.types.request.Request.{Request}
+use Rattle.droid_frame.specs.declared.frame.Frame.{Frame}
+use Rattle.droid_frame.specs.declared.request.Request.{Request}
 use Rattle.droid_frame.specs.Bodies.{SpellsRequest}
 use Rattle.droid_frame.specs.Fields.{IsBytes}
-use Rattle.droid_frame.specs.Values.{any_value, request_in, request_value}
+use Rattle.droid_frame.specs.RequestValues.{any_value, request_in, request_value}
 use Rattle.droid_frame.specs.Versions.{IsVersion, is_version}
 use Rattle.droid_frame.proofs.RequestLaws.{spelled_is_value, value_is_spelled}
 use Rattle.droid_core_spec.specs.Histories.{Asks, AsksNothing, command}

@@ -12,20 +12,20 @@ use Rattle.droid_frame.specs.Hashes.{hash}
 use Rattle.droid_frame.specs.Frames.{spelling}
 use Rattle.droid_frame.specs.Replies.{reply_bytes, reply_kind}
 use Rattle.droid_frame.specs.ReplyFrames.{reply_frame}
-use Rattle.droid_frame.specs.Values.{create_profile_value, plain_value, any_value, request_value, request_in}
-use Rattle.droid_frame.specs.types.filter.Filter.{Filter}
-use Rattle.droid_frame.specs.types.frame.Frame.{Frame}
-use Rattle.droid_frame.specs.types.hash_kind.HashKind.{HashKind}
-use Rattle.droid_frame.specs.types.hash_kind.HashKind.TheVariants as hash_kinds
-use Rattle.droid_frame.specs.types.hash_value.HashValue.TheVariants as hashes
-use Rattle.droid_frame.specs.types.method.Method.TheVariants.{Unidentified}
-use Rattle.droid_frame.specs.types.node_kind.NodeKind.TheVariants as node_kinds
-use Rattle.droid_frame.specs.types.record.Record.{Record}
-use Rattle.droid_frame.specs.types.refusal.Refusal.{Refusal}
-use Rattle.droid_frame.specs.types.reply.Reply.{Reply}
-use Rattle.droid_frame.specs.types.reply.Reply.TheVariants as replies
-use Rattle.droid_frame.specs.types.request.Request.{Request}
-use Rattle.droid_frame.specs.types.request.Request.TheVariants.{CreateProfile, AddFolder, AddFile, Piece, Finish, Abandon, Status, Export}
+use Rattle.droid_frame.specs.RequestValues.{create_profile_value, plain_value, any_value, request_value, request_in}
+use Rattle.droid_frame.specs.declared.filter.Filter.{Filter}
+use Rattle.droid_frame.specs.declared.frame.Frame.{Frame}
+use Rattle.droid_frame.specs.declared.hash_kind.HashKind.{HashKind}
+use Rattle.droid_frame.specs.declared.hash_kind.HashKind.TheVariants as hash_kinds
+use Rattle.droid_frame.specs.declared.hash_value.HashValue.TheVariants as hashes
+use Rattle.droid_frame.specs.declared.method.Method.TheVariants.{Unidentified}
+use Rattle.droid_frame.specs.declared.node_kind.NodeKind.TheVariants as node_kinds
+use Rattle.droid_frame.specs.declared.record.Record.{Record}
+use Rattle.droid_frame.specs.declared.refusal.Refusal.{Refusal}
+use Rattle.droid_frame.specs.declared.reply.Reply.{Reply}
+use Rattle.droid_frame.specs.declared.reply.Reply.TheVariants as replies
+use Rattle.droid_frame.specs.declared.request.Request.{Request}
+use Rattle.droid_frame.specs.declared.request.Request.TheVariants.{CreateProfile, AddFolder, AddFile, Piece, Finish, Abandon, Status, Export}
 use Rattle.droid_core_spec.specs.BeforeVersion2 as before
 use Rattle.droid_core_spec.specs.Conditions.{is_piece_size}
 use Rattle.droid_core_spec.specs.Exported.{part, part_of}

@@ -7,21 +7,21 @@ use Rattle.sha2.specs.Sha256.{sha256}
 use Rattle.droid_core_spec.specs.Records.{records}
 use Rattle.droid_frame.specs.Reading.{truth_at, whole}
 use Rattle.droid_frame.specs.HashFields.{hash_kind_at, carried_kind_at}
-use Rattle.droid_frame.specs.Values.{abandon_value, any_value, create_profile_value, file_value, plain_value, request_value, request_in}
-use Rattle.droid_frame.specs.types.filter.Filter.{Filter}
-use Rattle.droid_frame.specs.types.frame.Frame.{Frame}
+use Rattle.droid_frame.specs.RequestValues.{abandon_value, any_value, create_profile_value, file_value, plain_value, request_value, request_in}
+use Rattle.droid_frame.specs.declared.filter.Filter.{Filter}
+use Rattle.droid_frame.specs.declared.frame.Frame.{Frame}
 use Rattle.droid_frame.specs.Hashes.{hash_kind_number}
-use Rattle.droid_frame.specs.types.hash_kind.HashKind.{HashKind}
-use Rattle.droid_frame.specs.types.hash_kind.HashKind.TheVariants as hash_kinds
-use Rattle.droid_frame.specs.types.hash_value.HashValue.{HashValue}
-use Rattle.droid_frame.specs.types.hash_value.HashValue.TheVariants as hashes
-use Rattle.droid_frame.specs.types.method.Method.TheVariants.{Unidentified}
-use Rattle.droid_frame.specs.types.refusal.Limit.TheVariants as reached
-use Rattle.droid_frame.specs.types.refusal.Refusal.TheVariants as refusals
-use Rattle.droid_frame.specs.types.reply.Reply.TheVariants as replies
-use Rattle.droid_frame.specs.types.request.Request.{Request}
-use Rattle.droid_frame.specs.types.request.Request.TheVariants.{CreateProfile, AddFolder, AddFile, Piece, Finish, Abandon, Status, Export}
-use Rattle.droid_frame.specs.types.reply.Reply.{Reply}
+use Rattle.droid_frame.specs.declared.hash_kind.HashKind.{HashKind}
+use Rattle.droid_frame.specs.declared.hash_kind.HashKind.TheVariants as hash_kinds
+use Rattle.droid_frame.specs.declared.hash_value.HashValue.{HashValue}
+use Rattle.droid_frame.specs.declared.hash_value.HashValue.TheVariants as hashes
+use Rattle.droid_frame.specs.declared.method.Method.TheVariants.{Unidentified}
+use Rattle.droid_frame.specs.declared.refusal.Limit.TheVariants as reached
+use Rattle.droid_frame.specs.declared.refusal.Refusal.TheVariants as refusals
+use Rattle.droid_frame.specs.declared.reply.Reply.TheVariants as replies
+use Rattle.droid_frame.specs.declared.request.Request.{Request}
+use Rattle.droid_frame.specs.declared.request.Request.TheVariants.{CreateProfile, AddFolder, AddFile, Piece, Finish, Abandon, Status, Export}
+use Rattle.droid_frame.specs.declared.reply.Reply.{Reply}
 use Rattle.droid_core_spec.specs.Limits.{Limits}
 use Rattle.droid_core_spec.specs.Conditions.{is_scan_limit, is_piece_size, is_part_size, is_too_large, is_moment, is_bad_name, is_missing, is_file, is_too_deep}
 use Rattle.droid_core_spec.specs.Histories.{command, world_of, verdict_reply, world_after, meeting, answer, answers, entry_of, next}

@@ -1,10 +1,10 @@
 -- What a request meets in a history by what it asks and what is kept under its number; so what it is answered, and
 -- which history comes next.
 use Rattle.std.proofs.Common.{◌≡◌, Bool, true, false, cond, Option, Some, None, refl, ap, ◌∙◌}
-use Rattle.droid_frame.specs.types.frame.Frame.{Frame}
-use Rattle.droid_frame.specs.types.refusal.Refusal.TheVariants.{Malformed, NumberReused}
-use Rattle.droid_frame.specs.types.reply.Reply.TheVariants.{Refused}
-use Rattle.droid_frame.specs.types.request.Request.{Request}
+use Rattle.droid_frame.specs.declared.frame.Frame.{Frame}
+use Rattle.droid_frame.specs.declared.refusal.Refusal.TheVariants.{Malformed, NumberReused}
+use Rattle.droid_frame.specs.declared.reply.Reply.TheVariants.{Refused}
+use Rattle.droid_frame.specs.declared.request.Request.{Request}
 use Rattle.droid_core_spec.specs.Histories.{Entry, History, command, kept, world_of, is_request_of, Meeting, Nothing, Repeat, Reuse, New, meeting, meeting_under, meeting_asked, verdict_reply, reply_to, answer, history_with, next}
 use Rattle.droid_core_spec.specs.Judging.{judge}
 use Rattle.droid_core_spec.specs.Setting.{Setting}

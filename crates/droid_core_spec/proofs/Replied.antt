@@ -4,17 +4,18 @@ use Rattle.std.specs.Option.{option_or}
 use Rattle.std.proofs.lemmas.Bool.{and_parts, eq-eqb, eqb-true}
 use Rattle.std.proofs.lemmas.List.Folds.{find-append}
 use Rattle.std.proofs.lemmas.Slice.Eq.{bytes_eq-Decides}
-use Rattle.droid_frame.specs.types.frame.Frame.{Frame}
-use Rattle.droid_frame.specs.types.refusal.Refusal.{Refusal}
-use Rattle.droid_frame.specs.types.refusal.Refusal.TheVariants.{NumberReused, Memory, Store}
-use Rattle.droid_frame.specs.types.reply.Reply.{Reply}
-use Rattle.droid_frame.specs.types.reply.Reply.TheVariants.{Refused}
-use Rattle.droid_frame.specs.types.request.Request.{Request}
-use Rattle.droid_frame.specs.Values.{request_in}
+use Rattle.droid_frame.specs.declared.frame.Frame.{Frame}
+use Rattle.droid_frame.specs.declared.refusal.Refusal.{Refusal}
+use Rattle.droid_frame.specs.declared.refusal.Refusal.TheVariants.{NumberReused, Memory, Store}
+use Rattle.droid_frame.specs.declared.reply.Reply.{Reply}
+use Rattle.droid_frame.specs.declared.reply.Reply.TheVariants.{Refused}
+use Rattle.droid_frame.specs.declared.request.Request.{Request}
+use Rattle.droid_frame.specs.RequestValues.{request_in}
 use Rattle.droid_core_spec.specs.Histories.{Entry, History, IsLegal, HasReply, command, frame_mark, is_under, kept, world_of, is_same_request, is_request_of, Meeting, Nothing, Repeat, Reuse, New, meeting, verdict_reply, reply_to, answer, entry_of, history_with, next, history_from}
 use Rattle.droid_core_spec.specs.Judging.{Verdict, Accepted, Answered, Refuses, judge}
 use Rattle.droid_core_spec.specs.Setting.{Setting}
-use Rattle.droid_core_spec.specs.Verdicts.{is_command, is_refused, is_of_judging, MayCome}
+use Rattle.droid_core_spec.specs.Verdicts.{is_command, is_of_judging, MayCome}
+use Rattle.droid_frame.specs.Replies.{is_refused}
 use Rattle.droid_core_spec.specs.MemoryFaults.{is_out_of_memory, is_out_of_memory_of}
 use Rattle.droid_core_spec.specs.World.{World}
 use Rattle.droid_core_spec.proofs.Asked.{asks_something}

@@ -2,61 +2,78 @@
 -- it, the answer, and the bytes that are written. No definition here takes a version or a choice of hash: every hash is
 -- MD5 (RFC 1321). Requests, replies and worlds have the types of today, whose hash is always MD5 here. The law
 -- `laws::version_1_is_as_before` compares the service of today with these definitions.
-use Rattle.std.specs.Prelude.{◌≡◌, ℕ, ℤ, ◌+◌, ◌<◌, ◌^◌, ◌==◌, ◌&&◌, ◌||◌, nat_lt, nat_le, if◌then◌else◌, Bool, false, not, List, [], ◌∷◌, ◌++◌, fold, length, Option, Some, None}
+use Rattle.std.specs.Prelude.{◌≡◌, ℕ, ℤ, ◌+◌, ◌<◌, ◌^◌, ◌==◌, ◌&&◌, ◌||◌, nat_lt, nat_le, if◌then◌else◌, Bool, false}
+use Rattle.std.specs.Prelude.{not, List, [], ◌∷◌, ◌++◌, fold, length, Option, Some, None}
 use Rattle.std.specs.Int.{w32}
 use Rattle.std.specs.Str.{IsUtf8, bytes_eq}
 use Rattle.md5.specs.Md5.{md5}
 use Rattle.droid_frame.specs.Bodies.{request_kind}
-use Rattle.droid_frame.specs.Fields.{IsBytes, IsU32, IsU64, IsI64, u16_bytes, u32_bytes, u64_bytes, i64_bytes, truth_bytes, method_bytes}
+use Rattle.droid_frame.specs.Fields.{IsBytes, IsU32, IsU64, IsI64, u16_bytes, u32_bytes, u64_bytes, i64_bytes}
+use Rattle.droid_frame.specs.Fields.{truth_bytes, method_bytes}
 use Rattle.droid_frame.specs.Filters.{IsFilter, filter_bytes}
 use Rattle.droid_frame.specs.Hashes.{hash_bytes}
 use Rattle.droid_frame.specs.Reading.{◌>>=◌, number_at, truth_at, whole}
 use Rattle.droid_frame.specs.Replies.{reply_kind, refusal_bytes}
 use Rattle.droid_frame.specs.TextLists.{texts_bytes}
-use Rattle.droid_frame.specs.Values.{add_folder_value, add_file_value, piece_value, finish_value, abandon_value, status_value, export_value}
-use Rattle.droid_frame.specs.types.filter.Filter.{Filter}
-use Rattle.droid_frame.specs.types.frame.Frame.{Frame}
-use Rattle.droid_frame.specs.types.hash_kind.HashKind.TheVariants as hash_kinds
-use Rattle.droid_frame.specs.types.hash_value.HashValue.TheVariants as hashes
-use Rattle.droid_frame.specs.types.method.Method.TheVariants.{Unidentified}
-use Rattle.droid_frame.specs.types.node_kind.NodeKind.TheVariants as node_kinds
-use Rattle.droid_frame.specs.types.record.Record.{Record}
-use Rattle.droid_frame.specs.types.refusal.Limit.TheVariants as reached
-use Rattle.droid_frame.specs.types.refusal.Refusal.TheVariants.{NoSuchNode, NotAFolder, BadName, PathTooLong, NameTaken, BadOption, TooLarge, AlreadyFinished, BadPiece, PieceHeld, TooFarAhead, Incomplete, LimitReached}
-use Rattle.droid_frame.specs.types.reply.Reply.{Reply}
-use Rattle.droid_frame.specs.types.reply.Reply.TheVariants as replies
-use Rattle.droid_frame.specs.types.request.Request.{Request}
-use Rattle.droid_frame.specs.types.request.Request.TheVariants.{CreateProfile, AddFolder, AddFile, Piece, Finish, Abandon, Status, Export}
-use Rattle.droid_core_spec.specs.Conditions.{is_scan_limit, is_part_size, is_too_large, is_moment, is_bad_name, is_missing, is_file, is_too_deep}
+use Rattle.droid_frame.specs.RequestValues.{add_folder_value, add_file_value, piece_value, finish_value, abandon_value}
+use Rattle.droid_frame.specs.RequestValues.{status_value, export_value}
+use Rattle.droid_frame.specs.declared.filter.Filter.{Filter}
+use Rattle.droid_frame.specs.declared.frame.Frame.{Frame}
+use Rattle.droid_frame.specs.declared.hash_kind.HashKind.TheVariants as hash_kinds
+use Rattle.droid_frame.specs.declared.hash_value.HashValue.TheVariants as hashes
+use Rattle.droid_frame.specs.declared.method.Method.TheVariants.{Unidentified}
+use Rattle.droid_frame.specs.declared.node_kind.NodeKind.TheVariants as node_kinds
+use Rattle.droid_frame.specs.declared.record.Record.{Record}
+use Rattle.droid_frame.specs.declared.refusal.Limit.TheVariants as reached
+use Rattle.droid_frame.specs.declared.refusal.Refusal.TheVariants.{NoSuchNode, NotAFolder, BadName, PathTooLong}
+use Rattle.droid_frame.specs.declared.refusal.Refusal.TheVariants.{NameTaken, BadOption, TooLarge, AlreadyFinished}
+use Rattle.droid_frame.specs.declared.refusal.Refusal.TheVariants.{BadPiece, PieceHeld, TooFarAhead, Incomplete}
+use Rattle.droid_frame.specs.declared.refusal.Refusal.TheVariants.{LimitReached}
+use Rattle.droid_frame.specs.declared.reply.Reply.{Reply}
+use Rattle.droid_frame.specs.declared.reply.Reply.TheVariants as replies
+use Rattle.droid_frame.specs.declared.request.Request.{Request}
+use Rattle.droid_frame.specs.declared.request.Request.TheVariants.{CreateProfile, AddFolder, AddFile, Piece, Finish}
+use Rattle.droid_frame.specs.declared.request.Request.TheVariants.{Abandon, Status, Export}
+use Rattle.droid_core_spec.specs.Conditions.{is_scan_limit, is_part_size, is_too_large, is_moment, is_bad_name}
+use Rattle.droid_core_spec.specs.Conditions.{is_missing, is_file, is_too_deep}
 use Rattle.droid_core_spec.specs.Exported.{part}
-use Rattle.droid_core_spec.specs.Files.{Finding, bytes_of, count_of, missing_of, has_piece, is_due, is_too_far, with_piece, as_finished, identified, found_as, finished_reply, progress_of, unfinished_in}
-use Rattle.droid_core_spec.specs.Histories.{Entry, History, Meeting, Nothing, Repeat, Reuse, New, frame_mark, kept, world_after, reply_to, history_with}
-use Rattle.droid_core_spec.specs.Judging.{Verdict, Accepted, Answered, Check, refusal_of, unless_refused, in_profile, in_file, world_set, with_node, node_set}
+use Rattle.droid_core_spec.specs.Files.{Finding, bytes_of, count_of, missing_of, has_piece, is_due, is_too_far}
+use Rattle.droid_core_spec.specs.Files.{with_piece, as_finished, identified, found_as, finished_reply, progress_of}
+use Rattle.droid_core_spec.specs.Files.{unfinished_in}
+use Rattle.droid_core_spec.specs.Histories.{Entry, History, Meeting, Nothing, Repeat, Reuse, New, frame_mark, kept}
+use Rattle.droid_core_spec.specs.Histories.{world_after, reply_to, history_with}
+use Rattle.droid_core_spec.specs.Judging.{Verdict, Accepted, Answered, Check, refusal_of, unless_refused, in_profile}
+use Rattle.droid_core_spec.specs.Judging.{in_file, world_set, with_node, node_set}
 use Rattle.droid_core_spec.specs.Limits.{Limits}
 use Rattle.droid_core_spec.specs.Records.{found_record, option_list}
 use Rattle.droid_core_spec.specs.Setting.{Setting}
-use Rattle.droid_core_spec.specs.World.{Content, Node, Folder, File, Abandoned, Profile, World, empty_world, numbered, node_at, path, is_taken, world_with}
+use Rattle.droid_core_spec.specs.World.{Content, Node, Folder, File, Abandoned, Profile, World, empty_world, numbered}
+use Rattle.droid_core_spec.specs.World.{node_at, path, is_taken, world_with}
 
 -- ---- requests
 
 -- the fields of a request, one after the other; a CreateProfile has no field for a hash
 abbrev pub request_body : Request → List ℕ
 request_body (CreateProfile scan_limit match_all hash) = u32_bytes scan_limit ++ truth_bytes match_all
-request_body (AddFolder profile parent modified name) = u32_bytes profile ++ (u32_bytes parent ++ (i64_bytes modified ++ name))
+request_body (AddFolder profile parent modified name) =
+    u32_bytes profile ++ (u32_bytes parent ++ (i64_bytes modified ++ name))
 request_body (AddFile profile parent modified size piece_size name) =
-    u32_bytes profile ++ (u32_bytes parent ++ (i64_bytes modified ++ (u64_bytes size ++ (u32_bytes piece_size ++ name))))
+    u32_bytes profile
+    ++ (u32_bytes parent ++ (i64_bytes modified ++ (u64_bytes size ++ (u32_bytes piece_size ++ name))))
 request_body (Piece profile file index bytes) = u32_bytes profile ++ (u32_bytes file ++ (u32_bytes index ++ bytes))
 request_body (Finish profile file) = u32_bytes profile ++ u32_bytes file
 request_body (Abandon profile file) = u32_bytes profile ++ u32_bytes file
 request_body (Status profile file) = u32_bytes profile ++ u32_bytes file
-request_body (Export profile from max filter) = u32_bytes profile ++ (u64_bytes from ++ (u32_bytes max ++ filter_bytes filter))
+request_body (Export profile from max filter) =
+    u32_bytes profile ++ (u64_bytes from ++ (u32_bytes max ++ filter_bytes filter))
 
 -- the request has a spelling: each number fits its field, each text is UTF-8, each list fits its count, and the hash of
 -- a CreateProfile is MD5
 abbrev pub HasSpelling : Request → Type 0
 HasSpelling (CreateProfile scan_limit match_all hash) = IsU32 scan_limit × (hash ≡ hash_kinds.Md5)
 HasSpelling (AddFolder profile parent modified name) = IsU32 profile × IsU32 parent × IsI64 modified × IsUtf8 name
-HasSpelling (AddFile profile parent modified size piece_size name) = IsU32 profile × IsU32 parent × IsI64 modified × IsU64 size × IsU32 piece_size × IsUtf8 name
+HasSpelling (AddFile profile parent modified size piece_size name) =
+    IsU32 profile × IsU32 parent × IsI64 modified × IsU64 size × IsU32 piece_size × IsUtf8 name
 HasSpelling (Piece profile file index bytes) = IsU32 profile × IsU32 file × IsU32 index × IsBytes bytes
 HasSpelling (Finish profile file) = IsU32 profile × IsU32 file
 HasSpelling (Abandon profile file) = IsU32 profile × IsU32 file
@@ -164,16 +181,41 @@ export_checks max = (not (is_part_size max), BadOption) ∷ []
 
 -- what the whole file is found to be, with the MD5 of all its bytes
 abbrev pub finding_of : Setting → Profile → List ℕ → Content → Finding
-finding_of setting profile name content = found_as (identified setting profile name content) (hashes.Md5 (md5 (bytes_of content)))
+finding_of setting profile name content =
+    found_as (identified setting profile name content) (hashes.Md5 (md5 (bytes_of content)))
 
 -- the record of the node with this number: that of a folder has no hash, and an unfinished or abandoned file has no
 -- record
 abbrev pub record_of : Setting → Profile → ℕ → Node → Option Record
 record_of setting profile id (Folder parent modified name) =
-    Some (record { id = id; parent = parent; path = path profile.nodes id; name = name; kind = node_kinds.Folder; size = 0; modified = modified; method = Unidentified; mismatch = false; hash = hashes.Nothing; puids = [] })
+    Some (record {
+      id = id;
+      parent = parent;
+      path = path profile.nodes id;
+      name = name;
+      kind = node_kinds.Folder;
+      size = 0;
+      modified = modified;
+      method = Unidentified;
+      mismatch = false;
+      hash = hashes.Nothing;
+      puids = [];
+    })
 record_of setting profile id (File parent modified name content) =
     if content.finished then Some (found_record
-    (record { id = id; parent = parent; path = path profile.nodes id; name = name; kind = node_kinds.File; size = content.size; modified = modified; method = Unidentified; mismatch = false; hash = hashes.Nothing; puids = [] })
+    (record {
+      id = id;
+      parent = parent;
+      path = path profile.nodes id;
+      name = name;
+      kind = node_kinds.File;
+      size = content.size;
+      modified = modified;
+      method = Unidentified;
+      mismatch = false;
+      hash = hashes.Nothing;
+      puids = [];
+    })
     (finding_of setting profile name content))
     else None
 record_of setting profile id Abandoned = None
@@ -181,7 +223,8 @@ record_of setting profile id Abandoned = None
 -- the records of the nodes from this number on
 abbrev pub records_from : Setting → Profile → ℕ → List Node → List Record
 records_from setting profile id [] = []
-records_from setting profile id (node ∷ nodes) = option_list (record_of setting profile id node) ++ records_from setting profile (id + 1) nodes
+records_from setting profile id (node ∷ nodes) =
+    option_list (record_of setting profile id node) ++ records_from setting profile (id + 1) nodes
 
 -- the part of an export that a request asks for; the column of hashes is that of MD5
 abbrev pub part_of : Setting → ℕ → Profile → ℕ → ℕ → Filter → Reply
@@ -194,11 +237,15 @@ part_of setting accepted profile from max filter =
 unfoldable pub judge : Setting → World → Request → Verdict
 judge setting world (CreateProfile scan_limit match_all hash) =
     unless_refused (refusal_of (create_checks setting.limits world scan_limit))
-    (Accepted (replies.Made (length world.profiles + 1)) (world_with world (world.profiles ++ record { scan_limit = scan_limit; match_all = match_all; hash = hash_kinds.Md5; nodes = [] } ∷ [])))
+    (Accepted (replies.Made (length world.profiles + 1))
+    (world_with world
+    (world.profiles
+    ++ record { scan_limit = scan_limit; match_all = match_all; hash = hash_kinds.Md5; nodes = [] } ∷ [])))
 judge setting world (AddFolder profile parent modified name) =
     in_profile (numbered world.profiles profile) (λ its.
     unless_refused (refusal_of (folder_checks setting.limits its.nodes parent modified name))
-    (Accepted (replies.Node (length its.nodes + 1)) (world_set world profile (with_node its (Folder parent modified name)))))
+    (Accepted (replies.Node (length its.nodes + 1))
+    (world_set world profile (with_node its (Folder parent modified name)))))
 judge setting world (AddFile profile parent modified size piece_size name) =
     in_profile (numbered world.profiles profile) (λ its.
     unless_refused (refusal_of (file_checks setting.limits world its.nodes parent modified size piece_size name))
@@ -208,12 +255,14 @@ judge setting world (Piece profile file index bytes) =
     in_profile (numbered world.profiles profile) (λ its.
     in_file (node_at its.nodes file) (λ parent modified name content.
     unless_refused (refusal_of (piece_checks content index bytes))
-    (Accepted (replies.Taken (length content.pieces + 1)) (world_set world profile (node_set its file (File parent modified name (with_piece content index bytes)))))))
+    (Accepted (replies.Taken (length content.pieces + 1))
+    (world_set world profile (node_set its file (File parent modified name (with_piece content index bytes)))))))
 judge setting world (Finish profile file) =
     in_profile (numbered world.profiles profile) (λ its.
     in_file (node_at its.nodes file) (λ parent modified name content.
     unless_refused (refusal_of (finish_checks content))
-    (Accepted (finished_reply (finding_of setting its name content)) (world_set world profile (node_set its file (File parent modified name (as_finished content)))))))
+    (Accepted (finished_reply (finding_of setting its name content))
+    (world_set world profile (node_set its file (File parent modified name (as_finished content)))))))
 judge setting world (Abandon profile file) =
     in_profile (numbered world.profiles profile) (λ its.
     in_file (node_at its.nodes file) (λ parent modified name content.
@@ -241,7 +290,8 @@ world_of setting history = fold (λ world entry. world_asked setting world (comm
 
 -- by the entry of its client and number, if one is kept: the request is the accepted one if it has the same mark
 abbrev pub meeting_under : Setting → History → Option Entry → Frame → Request → Meeting
-meeting_under setting history (Some entry) frame request = if bytes_eq entry.mark (frame_mark frame) then Repeat entry else Reuse
+meeting_under setting history (Some entry) frame request =
+    if bytes_eq entry.mark (frame_mark frame) then Repeat entry else Reuse
 meeting_under setting history None frame request = New (judge setting (world_of setting history) request)
 
 -- by the request, if one is asked
@@ -270,7 +320,8 @@ history_from setting history (frame ∷ frames) = history_from setting (next set
 -- the answers to the requests of a list, in order
 abbrev pub answers : Setting → History → List Frame → List Reply
 answers setting history [] = []
-answers setting history (frame ∷ frames) = answer setting history frame ∷ answers setting (next setting history frame) frames
+answers setting history (frame ∷ frames) =
+    answer setting history frame ∷ answers setting (next setting history frame) frames
 
 -- ---- the bytes of replies
 
@@ -280,7 +331,8 @@ reply_bytes (replies.Made profile) = u32_bytes profile
 reply_bytes (replies.Node id) = u32_bytes id
 reply_bytes (replies.Taken held) = u32_bytes held
 reply_bytes (replies.Finished method mismatch hash puids) =
-    method_bytes method ++ (truth_bytes mismatch ++ (hash_bytes hash ++ (u16_bytes (length puids) ++ texts_bytes puids)))
+    method_bytes method
+    ++ (truth_bytes mismatch ++ (hash_bytes hash ++ (u16_bytes (length puids) ++ texts_bytes puids)))
 reply_bytes replies.Abandoned = []
 reply_bytes (replies.Progress held missing) = u32_bytes held ++ u32_bytes missing
 reply_bytes (replies.Part as_of total bytes) = u64_bytes as_of ++ (u64_bytes total ++ bytes)
@@ -288,7 +340,8 @@ reply_bytes (replies.Refused refusal) = refusal_bytes refusal
 
 -- the byte 1, kind, client, number, the length of the body, the body
 abbrev pub frame_bytes : ℕ → ℕ → ℕ → List ℕ → List ℕ
-frame_bytes kind client number body = 1 ∷ kind ∷ (u32_bytes client ++ (u64_bytes number ++ (u32_bytes (length body) ++ body)))
+frame_bytes kind client number body = 1 ∷ kind
+    ∷ (u32_bytes client ++ (u64_bytes number ++ (u32_bytes (length body) ++ body)))
 
 -- the frame of a reply: client and number are those of the request
 abbrev pub reply_frame : ℕ → ℕ → Reply → List ℕ
@@ -298,4 +351,5 @@ reply_frame client number reply = frame_bytes (reply_kind reply) client number (
 abbrev pub reply_frames : List Frame → List Reply → List ℕ
 reply_frames [] its_replies = []
 reply_frames (frame ∷ frames) [] = []
-reply_frames (frame ∷ frames) (reply ∷ its_replies) = reply_frame frame.client frame.number reply ++ reply_frames frames its_replies
+reply_frames (frame ∷ frames) (reply ∷ its_replies) =
+    reply_frame frame.client frame.number reply ++ reply_frames frames its_replies

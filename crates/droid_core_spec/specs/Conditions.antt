@@ -1,10 +1,11 @@
 -- The conditions under which requests are refused.
-use Rattle.std.specs.Prelude.{ℕ, zero, suc, ℤ, pos, negsuc, ◌+◌, ◌^◌, ◌==◌, ◌&&◌, ◌||◌, if◌then◌else◌, nat_lt, nat_le, Bool, true, false, not, List, [], ◌∷◌, length, Option, Some, None, is_none}
+use Rattle.std.specs.Prelude.{ℕ, zero, suc, ℤ, pos, negsuc, ◌+◌, ◌^◌, ◌==◌, ◌&&◌, ◌||◌, if◌then◌else◌, nat_lt, nat_le}
+use Rattle.std.specs.Prelude.{Bool, true, false, not, List, [], ◌∷◌, length, Option, Some, None, is_none}
 use Rattle.std.specs.Int.Signed.{lt_z}
 use Rattle.std.specs.List.{list_any}
 use Rattle.std.specs.Str.{bytes_eq}
-use Rattle.droid_frame.specs.types.hash_kind.HashKind.{HashKind}
-use Rattle.droid_frame.specs.types.hash_kind.HashKind.TheVariants as hashes
+use Rattle.droid_frame.specs.declared.hash_kind.HashKind.{HashKind}
+use Rattle.droid_frame.specs.declared.hash_kind.HashKind.TheVariants as hashes
 use Rattle.droid_assembly.specs.Pieces.{piece_count}
 use Rattle.droid_core_spec.specs.World.{Node, Folder, File, Abandoned, node_at, path}
 
@@ -39,7 +40,8 @@ is_separator byte = (byte == 47) || (byte == 0)
 -- empty, over 255 bytes, `.`, `..`, or with a `/` or a zero byte
 unfoldable pub is_bad_name : List ℕ → Bool
 is_bad_name name =
-    (length name == 0) || nat_lt 255 (length name) || bytes_eq name (46 ∷ []) || bytes_eq name (46 ∷ 46 ∷ []) || list_any is_separator name
+    (length name == 0) || nat_lt 255 (length name) || bytes_eq name (46 ∷ []) || bytes_eq name (46 ∷ 46 ∷ [])
+    || list_any is_separator name
 
 -- the top is always there
 unfoldable pub is_missing : List Node → ℕ → Bool

@@ -1,8 +1,8 @@
 -- The part of an export that a request asks for.
 use Rattle.std.specs.Prelude.{ℕ, List, length, take, drop}
-use Rattle.droid_frame.specs.types.filter.Filter.{Filter}
-use Rattle.droid_frame.specs.types.reply.Reply.{Reply}
-use Rattle.droid_frame.specs.types.reply.Reply.TheVariants as replies
+use Rattle.droid_frame.specs.declared.filter.Filter.{Filter}
+use Rattle.droid_frame.specs.declared.reply.Reply.{Reply}
+use Rattle.droid_frame.specs.declared.reply.Reply.TheVariants as replies
 use Rattle.droid_core_spec.specs.Records.{records}
 use Rattle.droid_core_spec.specs.Setting.{Setting}
 use Rattle.droid_core_spec.specs.World.{Profile}
@@ -13,4 +13,5 @@ abbrev pub part : ℕ → List ℕ → ℕ → ℕ → Reply
 part accepted text from max = replies.Part accepted (length text) (take max (drop from text))
 
 abbrev pub part_of : Setting → ℕ → Profile → ℕ → ℕ → Filter → Reply
-part_of setting accepted profile from max filter = part accepted (setting.export_text (records setting profile) filter profile.hash) from max
+part_of setting accepted profile from max filter =
+    part accepted (setting.export_text (records setting profile) filter profile.hash) from max

@@ -1,12 +1,13 @@
 -- The files of a profile: which pieces were taken, and what a whole file is found to be.
-use Rattle.std.specs.Prelude.{ℕ, ◌+◌, ◌==◌, ◌&&◌, if◌then◌else◌, nat_lt, nat_le, Bool, true, false, not, List, [], ◌∷◌, ◌++◌, length, sum_by, is_some}
+use Rattle.std.specs.Prelude.{ℕ, ◌+◌, ◌==◌, ◌&&◌, if◌then◌else◌, nat_lt, nat_le, Bool, true, false, not, List, [], ◌∷◌}
+use Rattle.std.specs.Prelude.{◌++◌, length, sum_by, is_some}
 use Rattle.std.specs.List.{count_by}
 use Rattle.droid_frame.specs.Hashes.{hash}
-use Rattle.droid_frame.specs.types.hash_kind.HashKind.{HashKind}
-use Rattle.droid_frame.specs.types.hash_value.HashValue.{HashValue}
-use Rattle.droid_frame.specs.types.method.Method.{Method}
-use Rattle.droid_frame.specs.types.reply.Reply.{Reply}
-use Rattle.droid_frame.specs.types.reply.Reply.TheVariants as replies
+use Rattle.droid_frame.specs.declared.hash_kind.HashKind.{HashKind}
+use Rattle.droid_frame.specs.declared.hash_value.HashValue.{HashValue}
+use Rattle.droid_frame.specs.declared.method.Method.{Method}
+use Rattle.droid_frame.specs.declared.reply.Reply.{Reply}
+use Rattle.droid_frame.specs.declared.reply.Reply.TheVariants as replies
 use Rattle.droid_assembly.specs.Pieces as pieces
 use Rattle.droid_core_spec.specs.Setting.{Setting, Identification}
 use Rattle.droid_core_spec.specs.World.{Content, Node, Folder, File, Abandoned, Profile, World}
@@ -61,11 +62,17 @@ identified setting profile name content = setting.identify name (bytes_of conten
 -- a hash, and what the file is identified as
 abbrev pub found_as : Identification → HashValue → Finding
 found_as identification digest =
-    record { method = identification.method; mismatch = identification.mismatch; digest = digest; puids = identification.puids }
+    record {
+      method = identification.method;
+      mismatch = identification.mismatch;
+      digest = digest;
+      puids = identification.puids;
+    }
 
 -- what the whole file is found to be, with a hash of its profile's kind
 abbrev pub finding_of : Setting → Profile → List ℕ → Content → Finding
-finding_of setting profile name content = found_as (identified setting profile name content) (digest_of profile.hash content)
+finding_of setting profile name content =
+    found_as (identified setting profile name content) (digest_of profile.hash content)
 
 -- the reply to a Finish of the file
 abbrev pub finished_reply : Finding → Reply

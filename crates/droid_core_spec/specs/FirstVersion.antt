@@ -2,8 +2,8 @@
 use Rattle.std.specs.Prelude.{◌≡◌, ◌≤◌}
 use Rattle.std.specs.List.{AllByRecursion}
 use Rattle.droid_frame.specs.Fields.{IsBytes}
-use Rattle.droid_frame.specs.types.frame.Frame.{Frame}
-use Rattle.droid_frame.specs.types.hash_kind.HashKind.TheVariants as hashes
+use Rattle.droid_frame.specs.declared.frame.Frame.{Frame}
+use Rattle.droid_frame.specs.declared.hash_kind.HashKind.TheVariants as hashes
 use Rattle.droid_core_spec.specs.World.{Node, Folder, File, Abandoned, Profile, World}
 
 -- a frame of version 1

@@ -1,16 +1,17 @@
 -- Histories: the accepted requests in order of first acceptance, the world that they make, and the answer to a request
 -- after them (this project's own).
-use Rattle.std.specs.Prelude.{◌≡◌, ℕ, ◌^◌, ◌<◌, ◌==◌, ◌&&◌, if◌then◌else◌, Bool, true, List, [], ◌∷◌, ◌++◌, fold, Option, Some, None, IsSome, MatchBool}
+use Rattle.std.specs.Prelude.{◌≡◌, ℕ, ◌^◌, ◌<◌, ◌==◌, ◌&&◌, if◌then◌else◌, Bool, true, List, [], ◌∷◌, ◌++◌, fold}
+use Rattle.std.specs.Prelude.{Option, Some, None, IsSome, MatchBool}
 use Rattle.std.specs.List.{find}
 use Rattle.std.specs.Str.{bytes_eq}
-use Rattle.droid_frame.specs.types.frame.Frame.{Frame}
-use Rattle.droid_frame.specs.types.refusal.Refusal.TheVariants.{Malformed, NumberReused}
-use Rattle.droid_frame.specs.types.reply.Reply.{Reply}
-use Rattle.droid_frame.specs.types.reply.Reply.TheVariants.{Refused}
-use Rattle.droid_frame.specs.types.request.Request.{Request}
+use Rattle.droid_frame.specs.declared.frame.Frame.{Frame}
+use Rattle.droid_frame.specs.declared.refusal.Refusal.TheVariants.{Malformed, NumberReused}
+use Rattle.droid_frame.specs.declared.reply.Reply.{Reply}
+use Rattle.droid_frame.specs.declared.reply.Reply.TheVariants.{Refused}
+use Rattle.droid_frame.specs.declared.request.Request.{Request}
 use Rattle.droid_frame.specs.Bodies.{SpellsRequest}
 use Rattle.droid_frame.specs.Frames.{mark_of}
-use Rattle.droid_frame.specs.Values.{request_in}
+use Rattle.droid_frame.specs.RequestValues.{request_in}
 use Rattle.droid_core_spec.specs.Judging.{Verdict, Accepted, Answered, Refuses, judge}
 use Rattle.droid_core_spec.specs.Setting.{Setting}
 use Rattle.droid_core_spec.specs.MemoryFaults.{is_out_of_memory}
@@ -66,7 +67,8 @@ world_asked setting world version (Some request) = world_after world (judge sett
 
 -- the world after the commands of the history, from the empty world
 unfoldable pub world_of : Setting → History → World
-world_of setting history = fold (λ world entry. world_asked setting world entry.frame.version (command entry.frame)) empty_world history
+world_of setting history =
+    fold (λ world entry. world_asked setting world entry.frame.version (command entry.frame)) empty_world history
 
 -- the entry may come next: its number is new, its mark is that of its request, and its command is accepted there with
 -- its reply
@@ -90,7 +92,8 @@ IsLegal setting history = GoesOn setting [] history
 
 -- under one client and number, a request is the accepted one if it has the same version and the same mark
 abbrev pub is_same_request : ℕ → List ℕ → ℕ → List ℕ → Bool
-is_same_request accepted_version accepted_mark version mark = (accepted_version == version) && bytes_eq accepted_mark mark
+is_same_request accepted_version accepted_mark version mark =
+    (accepted_version == version) && bytes_eq accepted_mark mark
 
 -- the frame, of the entry's client and number, has the entry's request
 abbrev pub is_request_of : Entry → Frame → Bool
@@ -168,7 +171,8 @@ history_from setting history (frame ∷ frames) = history_from setting (next set
 -- the answers to the requests of a list, in order
 abbrev pub answers : Setting → History → List Frame → List Reply
 answers setting history [] = []
-answers setting history (frame ∷ frames) = answer setting history frame ∷ answers setting (next setting history frame) frames
+answers setting history (frame ∷ frames) =
+    answer setting history frame ∷ answers setting (next setting history frame) frames
 
 -- ---- what handling a request gives
 

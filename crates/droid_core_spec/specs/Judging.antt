@@ -1,21 +1,29 @@
 -- Judging a request in a world: the first refusal whose condition holds, or else the reply and, for a command, the
 -- world after it (this project's own). Only AddFile and Finish are judged by the version in which they were sent.
-use Rattle.std.specs.Prelude.{ℕ, ℤ, ◌+◌, ◌-◌, ◌||◌, nat_lt, nat_le, if◌then◌else◌, Bool, false, not, List, [], ◌∷◌, ◌++◌, length, slice_set, Option, Some, None}
-use Rattle.droid_frame.specs.types.filter.Filter.{Filter}
-use Rattle.droid_frame.specs.types.hash_kind.HashKind.{HashKind}
-use Rattle.droid_frame.specs.types.refusal.Limit.TheVariants as reached
-use Rattle.droid_frame.specs.types.refusal.Refusal.{Refusal}
-use Rattle.droid_frame.specs.types.refusal.Refusal.TheVariants.{NoSuchProfile, NoSuchNode, NotAFolder, NotAFile, BadName, PathTooLong, NameTaken, BadOption, TooLarge, AlreadyFinished, BadPiece, PieceHeld, TooFarAhead, Incomplete, LimitReached}
-use Rattle.droid_frame.specs.types.reply.Reply.{Reply}
-use Rattle.droid_frame.specs.types.reply.Reply.TheVariants as replies
-use Rattle.droid_frame.specs.types.request.Request.{Request}
-use Rattle.droid_frame.specs.types.request.Request.TheVariants.{CreateProfile, AddFolder, AddFile, Piece, Finish, Abandon, Status, Export}
+use Rattle.std.specs.Prelude.{ℕ, ℤ, ◌+◌, ◌-◌, ◌||◌, nat_lt, nat_le, if◌then◌else◌, Bool, false, not, List, [], ◌∷◌}
+use Rattle.std.specs.Prelude.{◌++◌, length, slice_set, Option, Some, None}
+use Rattle.droid_frame.specs.declared.filter.Filter.{Filter}
+use Rattle.droid_frame.specs.declared.hash_kind.HashKind.{HashKind}
+use Rattle.droid_frame.specs.declared.refusal.Limit.TheVariants as reached
+use Rattle.droid_frame.specs.declared.refusal.Refusal.{Refusal}
+use Rattle.droid_frame.specs.declared.refusal.Refusal.TheVariants.{NoSuchProfile, NoSuchNode, NotAFolder, NotAFile}
+use Rattle.droid_frame.specs.declared.refusal.Refusal.TheVariants.{BadName, PathTooLong, NameTaken, BadOption, TooLarge}
+use Rattle.droid_frame.specs.declared.refusal.Refusal.TheVariants.{AlreadyFinished, BadPiece, PieceHeld, TooFarAhead}
+use Rattle.droid_frame.specs.declared.refusal.Refusal.TheVariants.{Incomplete, LimitReached}
+use Rattle.droid_frame.specs.declared.reply.Reply.{Reply}
+use Rattle.droid_frame.specs.declared.reply.Reply.TheVariants as replies
+use Rattle.droid_frame.specs.declared.request.Request.{Request}
+use Rattle.droid_frame.specs.declared.request.Request.TheVariants.{CreateProfile, AddFolder, AddFile, Piece, Finish}
+use Rattle.droid_frame.specs.declared.request.Request.TheVariants.{Abandon, Status, Export}
 use Rattle.droid_core_spec.specs.Limits.{Limits}
-use Rattle.droid_core_spec.specs.Conditions.{is_scan_limit, is_piece_size, is_part_size, is_too_large, is_moment, is_bad_name, is_missing, is_file, is_too_deep, is_carried}
+use Rattle.droid_core_spec.specs.Conditions.{is_scan_limit, is_piece_size, is_part_size, is_too_large, is_moment}
+use Rattle.droid_core_spec.specs.Conditions.{is_bad_name, is_missing, is_file, is_too_deep, is_carried}
 use Rattle.droid_core_spec.specs.Exported.{part_of}
-use Rattle.droid_core_spec.specs.Files.{count_of, missing_of, has_piece, is_due, is_too_far, with_piece, as_finished, finding_of, finished_reply, progress_of, unfinished_in}
+use Rattle.droid_core_spec.specs.Files.{count_of, missing_of, has_piece, is_due, is_too_far, with_piece, as_finished}
+use Rattle.droid_core_spec.specs.Files.{finding_of, finished_reply, progress_of, unfinished_in}
 use Rattle.droid_core_spec.specs.Setting.{Setting}
-use Rattle.droid_core_spec.specs.World.{Content, Node, Folder, File, Abandoned, Profile, World, numbered, node_at, is_taken, world_with}
+use Rattle.droid_core_spec.specs.World.{Content, Node, Folder, File, Abandoned, Profile, World, numbered, node_at}
+use Rattle.droid_core_spec.specs.World.{is_taken, world_with}
 
 -- a command is accepted, with its reply and the world after it; or a query is answered and changes nothing; or either
 -- is refused and changes nothing
@@ -128,18 +136,22 @@ export_checks max = (not (is_part_size max), BadOption) ∷ []
 unfoldable pub judge_create : Setting → World → ℕ → Bool → HashKind → Verdict
 judge_create setting world scan_limit match_all hash =
     unless_refused (refusal_of (create_checks setting.limits world scan_limit))
-    (Accepted (replies.Made (length world.profiles + 1)) (world_with world (world.profiles ++ record { scan_limit = scan_limit; match_all = match_all; hash = hash; nodes = [] } ∷ [])))
+    (Accepted (replies.Made (length world.profiles + 1))
+    (world_with world
+    (world.profiles ++ record { scan_limit = scan_limit; match_all = match_all; hash = hash; nodes = [] } ∷ [])))
 
 unfoldable pub judge_folder : Setting → World → ℕ → ℕ → ℤ → List ℕ → Verdict
 judge_folder setting world profile parent modified name =
     in_profile (numbered world.profiles profile) (λ its.
     unless_refused (refusal_of (folder_checks setting.limits its.nodes parent modified name))
-    (Accepted (replies.Node (length its.nodes + 1)) (world_set world profile (with_node its (Folder parent modified name)))))
+    (Accepted (replies.Node (length its.nodes + 1))
+    (world_set world profile (with_node its (Folder parent modified name)))))
 
 unfoldable pub judge_file : Setting → World → ℕ → ℕ → ℕ → ℤ → ℕ → ℕ → List ℕ → Verdict
 judge_file setting world version profile parent modified size piece_size name =
     in_profile (numbered world.profiles profile) (λ its.
-    unless_refused (refusal_of (file_checks setting.limits world version its.nodes parent modified size piece_size name))
+    unless_refused
+    (refusal_of (file_checks setting.limits world version its.nodes parent modified size piece_size name))
     (Accepted (replies.Node (length its.nodes + 1)) (world_set world profile (with_node its
     (File parent modified name (record { size = size; piece_size = piece_size; pieces = []; finished = false }))))))
 
@@ -148,14 +160,16 @@ judge_piece world profile file index bytes =
     in_profile (numbered world.profiles profile) (λ its.
     in_file (node_at its.nodes file) (λ parent modified name content.
     unless_refused (refusal_of (piece_checks content index bytes))
-    (Accepted (replies.Taken (length content.pieces + 1)) (world_set world profile (node_set its file (File parent modified name (with_piece content index bytes)))))))
+    (Accepted (replies.Taken (length content.pieces + 1))
+    (world_set world profile (node_set its file (File parent modified name (with_piece content index bytes)))))))
 
 unfoldable pub judge_finish : Setting → World → ℕ → ℕ → ℕ → Verdict
 judge_finish setting world version profile file =
     in_profile (numbered world.profiles profile) (λ its.
     in_file (node_at its.nodes file) (λ parent modified name content.
     unless_refused (refusal_of (finish_checks version its.hash content))
-    (Accepted (finished_reply (finding_of setting its name content)) (world_set world profile (node_set its file (File parent modified name (as_finished content)))))))
+    (Accepted (finished_reply (finding_of setting its name content))
+    (world_set world profile (node_set its file (File parent modified name (as_finished content)))))))
 
 unfoldable pub judge_abandon : World → ℕ → ℕ → Verdict
 judge_abandon world profile file =
@@ -178,9 +192,12 @@ judge_export setting world profile from max filter =
 
 -- by the kind of request, in the version in which it was sent
 unfoldable pub judge : Setting → World → ℕ → Request → Verdict
-judge setting world version (CreateProfile scan_limit match_all hash) = judge_create setting world scan_limit match_all hash
-judge setting world version (AddFolder profile parent modified name) = judge_folder setting world profile parent modified name
-judge setting world version (AddFile profile parent modified size piece_size name) = judge_file setting world version profile parent modified size piece_size name
+judge setting world version (CreateProfile scan_limit match_all hash) =
+    judge_create setting world scan_limit match_all hash
+judge setting world version (AddFolder profile parent modified name) =
+    judge_folder setting world profile parent modified name
+judge setting world version (AddFile profile parent modified size piece_size name) =
+    judge_file setting world version profile parent modified size piece_size name
 judge setting world version (Piece profile file index bytes) = judge_piece world profile file index bytes
 judge setting world version (Finish profile file) = judge_finish setting world version profile file
 judge setting world version (Abandon profile file) = judge_abandon world profile file

@@ -6,10 +6,10 @@ pub mod FirstVersion
 pub mod Histories
 pub mod Judging
 pub mod Limits
+pub mod MemoryFaults
 pub mod Records
 pub mod Setting
 pub mod Verdicts
-pub mod MemoryFaults
 pub mod Whole
 pub mod World
 pub mod Written

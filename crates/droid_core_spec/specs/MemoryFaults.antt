@@ -1,9 +1,9 @@
 -- Which refusals say that memory ran out.
 use Rattle.std.specs.Prelude.{Bool, true, false}
-use Rattle.droid_frame.specs.types.refusal.Refusal.{Refusal}
-use Rattle.droid_frame.specs.types.refusal.Refusal.TheVariants as refusals
-use Rattle.droid_frame.specs.types.reply.Reply.{Reply}
-use Rattle.droid_frame.specs.types.reply.Reply.TheVariants.{Made, Node, Refused}
+use Rattle.droid_frame.specs.declared.refusal.Refusal.{Refusal}
+use Rattle.droid_frame.specs.declared.refusal.Refusal.TheVariants as refusals
+use Rattle.droid_frame.specs.declared.reply.Reply.{Reply}
+use Rattle.droid_frame.specs.declared.reply.Reply.TheVariants.{Made, Node, Refused}
 
 -- The refusal Memory alone. Store says that the database refused for another cause, and no service answers it.
 abbrev pub is_out_of_memory_of : Refusal → Bool

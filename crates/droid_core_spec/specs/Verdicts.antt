@@ -1,21 +1,17 @@
 -- Which verdicts there may be: a command is accepted or refused, and a query is answered or refused.
 use Rattle.std.specs.Prelude.{◌≡◌, ◌+◌, nat_lt, Bool, true, false}
 use Rattle.droid_frame.specs.Bodies.{request_kind}
-use Rattle.droid_frame.specs.types.refusal.Refusal.{Refusal}
-use Rattle.droid_frame.specs.types.refusal.Refusal.TheVariants.{Malformed, NumberReused, Memory, Store}
-use Rattle.droid_frame.specs.types.reply.Reply.{Reply}
-use Rattle.droid_frame.specs.types.reply.Reply.TheVariants.{Refused}
-use Rattle.droid_frame.specs.types.request.Request.{Request}
+use Rattle.droid_frame.specs.Replies.{is_refused}
+use Rattle.droid_frame.specs.declared.refusal.Refusal.{Refusal}
+use Rattle.droid_frame.specs.declared.refusal.Refusal.TheVariants.{Malformed, NumberReused, Memory, Store}
+use Rattle.droid_frame.specs.declared.reply.Reply.{Reply}
+use Rattle.droid_frame.specs.declared.request.Request.{Request}
 use Rattle.droid_core_spec.specs.Judging.{Verdict, Accepted, Answered, Refuses}
 use Rattle.droid_core_spec.specs.World.{World}
 
 -- the kinds from 1 to 6 are commands; the others are queries
 abbrev pub is_command : Request → Bool
 is_command request = nat_lt (request_kind request) 7
-
-abbrev pub is_refused : Reply → Bool
-is_refused (Refused refusal) = true
-is_refused _ = false
 
 -- a refusal that judging may give: malformed frames and numbers that were used before are seen earlier, and memory and
 -- the database are no matter of judging

@@ -13,4 +13,5 @@ pub record IsWhole (content : Content) : Type 0 where
 abbrev pub FinishedAreWhole : World → Type 0
 FinishedAreWhole world =
     (profile id parent : ℕ) (modified : ℤ) (name : List ℕ) (content : Content) (its : Profile)
-    → numbered world.profiles profile ≡ Some its → node_at its.nodes id ≡ Some (File parent modified name content) → content.finished ≡ true → IsWhole content
+    → numbered world.profiles profile ≡ Some its → node_at its.nodes id ≡ Some (File parent modified name content)
+    → content.finished ≡ true → IsWhole content

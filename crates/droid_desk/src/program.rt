@@ -1,17 +1,19 @@
 //! Reads the command line, runs the command that it asks for, and returns the exit status.
 
-use droid_desk_arguments::{
+use droid_arguments::{
     Asked, ManyOptions, NoCommand, ProfileOptions, RegistryOptions, RegistrySource, ReportOptions,
     SubmitOptions, VerifyOptions, unread_words, what_is_asked,
 };
-use droid_desk_folders::{report_profile, submit_folder};
-use droid_desk_registry::registry_command;
-use droid_desk_service::{
+use droid_cmd_profile::{NamedRegistry, profile_folder, report_profile};
+use droid_cmd_registry::registry_command;
+use droid_cmd_serve::{
     Ended, compact_command, no_registry, note_formats, registry_bytes, run_command,
     run_journal_command, script_command, send_command, serve_command, serve_journal_command,
     serve_many_command, serve_many_journal_command,
 };
-use droid_desk_verify::{NamedRegistry, profile_folder, verify_folder};
+use droid_cmd_submit::submit_folder;
+use droid_cmd_verify::verify_folder;
+use droid_terminal::Ending;
 use std::process::ExitCode;
 use std::{env, io};
 
@@ -116,8 +118,7 @@ fn verify_by(
     on_terminal: bool,
 ) -> ExitCode {
     let ending = verify_folder(rt, registry, options, on_terminal);
-    let _ = ending.print(rt, options);
-    ExitCode::from(ending.status())
+    end_by(rt, ending.told(rt, options.against, options.folder))
 }
 
 fn submit(rt: &HostRuntime, options: SubmitOptions<'_>, on_terminal: bool) -> ExitCode {
@@ -134,8 +135,7 @@ fn report(rt: &HostRuntime, options: ReportOptions<'_>) -> ExitCode {
 
 fn registry(rt: &HostRuntime, options: RegistryOptions<'_>) -> ExitCode {
     let ending = registry_command(rt, options.file, options.output, options.quiet);
-    let _ = ending.print(rt, options.file, options.output);
-    ExitCode::from(ending.status())
+    end_by(rt, ending.told(options.file, options.output))
 }
 
 fn answer<'a>(
@@ -178,6 +178,12 @@ fn serve_many<'a>(
 fn end(rt: &HostRuntime, ended: &Ended<'_>) -> ExitCode {
     let _ = ended.print(rt);
     ExitCode::from(ended.status())
+}
+
+/// Prints what an ending says, and returns its status.
+fn end_by(rt: &HostRuntime, ending: Ending<'_>) -> ExitCode {
+    let _ = ending.print(rt);
+    ExitCode::from(ending.status())
 }
 
 fn end_without(rt: &HostRuntime, why: &NoCommand) -> ExitCode {

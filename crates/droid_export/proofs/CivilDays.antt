@@ -4,6 +4,8 @@ use Rattle.std.proofs.lemmas.Bool.{cases_order}
 use Rattle.std.proofs.lemmas.Int.{by_lt_z}
 use Rattle.std.proofs.lemmas.Bool.Decides.{nat_tests}
 use Rattle.std.specs.Int.{int_div_euclid}
+use Rattle.jiff_core.specs.declared.civil.date.Date.{Date}
+use Rattle.jiff_core.specs.Date.{epoch_day, IsYmd}
 use Rattle.jiff_core.specs.Calendar.{days_in_month, days_from_civil, day_count, IsCivilDate}
 use Rattle.jiff_core.proofs.SignedLemmas.{signed_arith}
 use Rattle.jiff_core.proofs.CalendarLemmas.{days_from_civil-day_count, days_in_month_bounds, day_count-epoch, day_count-lt_year, day_count-lt_month, day_count-day}
@@ -195,3 +197,11 @@ civil_parts z (negsuc y) m d years months days late e = absurd (omega (arith, si
 pub days_late : (seconds : ℤ) → neg_ℤ (pos 62135596800) ≤ℤ seconds → neg_ℤ (pos 719162) ≤ℤ int_div_euclid seconds (pos 86400)
 days_late (pos n) h = omega (arith, signed_arith)
 days_late (negsuc n) h = omega (arith, signed_arith)
+
+-- the day number of 1970-01-01
+pub epoch_is : (date : Date) → IsYmd (pos 1970) (pos 1) (pos 1) date → epoch_day date ≡ pos 0
+epoch_is date is =
+    let month : date.month ≡ 1 = omega (arith, signed_arith, is.1) in
+    let day : date.day ≡ 1 = omega (arith, signed_arith, is.2) in
+    let first : days_from_civil (pos 1970) 1 1 ≡ pos 0 = omega (arith, signed_arith, days_from_civil-day_count (pos 1970) 1 1, day_count-epoch) in
+    rw (is.0, month, day) first

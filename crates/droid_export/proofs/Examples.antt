@@ -1,7 +1,7 @@
 -- Rows worked by hand, computed in the definitions.
 use Rattle.std.proofs.Common.{◌≡◌, [], ◌∷◌, length, true, refl, codes, pos, negsuc}
-use Rattle.droid_frame.specs.types.hash_kind.HashKind.TheVariants as hashes
-use Rattle.droid_frame.specs.types.node_kind.NodeKind.TheVariants.{File, Folder}
+use Rattle.droid_frame.specs.declared.hash_kind.HashKind.TheVariants as hashes
+use Rattle.droid_frame.specs.declared.node_kind.NodeKind.TheVariants.{File, Folder}
 use Rattle.droid_pronom.specs.Registry.{nothing}
 use Rattle.droid_export.specs.Civil.{day_after, day_before, days_after, days_before}
 use Rattle.droid_export.specs.Csv.{quoted, joined, line}

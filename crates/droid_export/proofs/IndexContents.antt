@@ -1,24 +1,22 @@
 -- The contents of an index for a list of criteria, and the flags that it sets for a record.
 use Rattle.std.proofs.Common.{◌≡◌, ℕ, zero, suc, ◌+◌, ◌<◌, ◌==◌, Bool, true, false, ◌||◌, ◌&&◌, List, [], ◌∷◌, length, take, map, get_or, Some, String, refl, ap, sym, ◌∙◌, arith}
-use Rattle.std.specs.BTreeMap.{BTreeMap}
+use Rattle.std.specs.BTreeMap.{BTreeMap, get_by_text}
 use Rattle.std.specs.List.{list_any, list_all, slice_get}
-use Rattle.std.specs.Str.{str_to_ascii_lowercase}
+use Rattle.std.specs.Str.{str_to_ascii_lowercase, bytes_eq}
 use Rattle.std.specs.declared.vec.Vec.{Vec}
 use Rattle.std.specs.declared.alloc.Global.{Global}
-use Rattle.std.specs.BTreeMap.{get_by_text}
 use Rattle.std.specs.Map.{update}
 use Rattle.std.specs.Option.{option_map_or, unwrap_or}
 use Rattle.std.specs.Prelude.{if◌then◌else◌, cond, Option, None}
-use Rattle.std.specs.Str.{bytes_eq}
 use Rattle.std.proofs.Math.Bool.{or-false}
 use Rattle.std.proofs.lemmas.Bool.{false_from_ne_true}
 use Rattle.std.proofs.lemmas.Slice.Eq.{bytes_eq-Decides}
 use Rattle.std.proofs.lemmas.List.{map-append, length-map, length-take-le}
 use Rattle.std.proofs.lemmas.Option.{slice_get_within}
-use Rattle.droid_frame.specs.types.criterion.Criterion.{Criterion}
-use Rattle.droid_frame.specs.types.criterion.Criterion.TheVariants.{MethodIs, PuidIn, ExtIn, MismatchIs, SizeAtLeast, SizeAtMost, KindIs}
-use Rattle.droid_frame.specs.types.record.Record.{Record}
-use Rattle.droid_frame.specs.types.filter.Filter.{Filter}
+use Rattle.droid_frame.specs.declared.criterion.Criterion.{Criterion}
+use Rattle.droid_frame.specs.declared.criterion.Criterion.TheVariants.{MethodIs, PuidIn, ExtIn, MismatchIs, SizeAtLeast, SizeAtMost, KindIs}
+use Rattle.droid_frame.specs.declared.record.Record.{Record}
+use Rattle.droid_frame.specs.declared.filter.Filter.{Filter}
 use Rattle.droid_export.specs.Filters.{extension, is_met, is_none, meets}
 use Rattle.droid_export.specs.Index.{IsIndex, asks_extension, asks_identifier, has_key, is_met_plainly, names, places_of}
 use Rattle.droid_export.specs.declared.index.Index.{Index}

@@ -1,12 +1,12 @@
 pub mod CivilDays
+pub mod CsvRoundTrip
 pub mod CsvText
 pub mod Escapes
 pub mod Examples
+pub mod FlagMarks
+pub mod IndexContents
+pub mod Lines
+pub mod ListPlaces
 pub mod Records
 pub mod TextConcatenation
-pub mod IndexContents
-pub mod FlagMarks
-pub mod ListPlaces
-pub mod Lines
-pub mod CsvRoundTrip
 pub mod WriterStops

@@ -3,9 +3,9 @@ use Rattle.std.proofs.Common.{◌≡◌, Bool, true, false, List, [], ◌∷◌,
 use Rattle.std.specs.Prelude.{filter}
 use Rattle.std.specs.List.{flat_map}
 use Rattle.std.proofs.lemmas.Grind.{flat_map-append}
-use Rattle.droid_frame.specs.types.filter.Filter.{Filter}
-use Rattle.droid_frame.specs.types.hash_kind.HashKind.{HashKind}
-use Rattle.droid_frame.specs.types.record.Record.{Record}
+use Rattle.droid_frame.specs.declared.filter.Filter.{Filter}
+use Rattle.droid_frame.specs.declared.hash_kind.HashKind.{HashKind}
+use Rattle.droid_frame.specs.declared.record.Record.{Record}
 use Rattle.droid_pronom.specs.Registry.{Contents}
 use Rattle.droid_export.specs.Filters.{meets, is_met}
 use Rattle.droid_export.specs.Rows.{header, rows}

@@ -2,8 +2,8 @@
 use Rattle.std.proofs.Common.{◌≡◌, ℕ, ◌+◌, ◌<◌, true, false, List, [], ◌∷◌, ◌++◌, Some, length, take, map, get_or, refl, ap, sym, ◌∙◌}
 use Rattle.std.specs.Prelude.{filter}
 use Rattle.std.specs.List.{flat_map, slice_get}
-use Rattle.droid_frame.specs.types.filter.Filter.{Filter}
-use Rattle.droid_frame.specs.types.record.Record.{Record}
+use Rattle.droid_frame.specs.declared.filter.Filter.{Filter}
+use Rattle.droid_frame.specs.declared.record.Record.{Record}
 use Rattle.droid_pronom.specs.Registry.{Contents}
 use Rattle.droid_export.specs.Filters.{meets}
 use Rattle.droid_export.specs.Rows.{no_format, row, rows, rows_by, shown}

@@ -1,7 +1,7 @@
 -- A writer that takes a text, or stops.
 use Rattle.std.proofs.Common.{ℕ, Option, Result, Ok, Err}
 use Rattle.std.specs.Prelude.{OnOk, OnErr}
-use Rattle.droid_frame.specs.stream_types.stream_record.Seen.{Seen}
+use Rattle.droid_frame.specs.declared.io.stream_record.Seen.{Seen}
 use Rattle.droid_frame.specs.Seen.{Lasts}
 use Rattle.droid_frame.specs.Writes.{WriterStops, WritesOn}
 use Rattle.droid_frame.proofs.Scopes.{lasts}

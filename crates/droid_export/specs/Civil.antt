@@ -25,7 +25,8 @@ day_after date =
 unfoldable pub day_before : Civil → Civil
 day_before date =
     if nat_lt 1 date.day then record date { day = date.day - 1 }
-    else if nat_lt 1 date.month then record { year = date.year; month = date.month - 1; day = days_in_month (pos date.year) (date.month - 1) }
+    else if nat_lt 1 date.month
+    then record { year = date.year; month = date.month - 1; day = days_in_month (pos date.year) (date.month - 1) }
     else record { year = date.year - 1; month = 12; day = 31 }
 
 -- the date n days after 1970-01-01

@@ -3,7 +3,7 @@ use Rattle.std.specs.Prelude.{◌≡◌, length}
 use Rattle.std.specs.Fmt.{decimal}
 use Rattle.hex.specs.Hex.{encode_lower}
 use Rattle.droid_frame.specs.Hashes.{hash_bytes}
-use Rattle.droid_frame.specs.types.record.Record.{Record}
+use Rattle.droid_frame.specs.declared.record.Record.{Record}
 use Rattle.droid_export.specs.Moments.{moment_text}
 use Rattle.droid_export.specs.Rows.{of_file, parent_text}
 use Rattle.droid_export.specs.Uris.{uri}

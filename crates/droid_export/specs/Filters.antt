@@ -2,14 +2,14 @@
 use Rattle.std.specs.Prelude.{ℕ, Bool, true, false, ◌||◌, ◌&&◌, nat_le, List, [], ◌∷◌, if◌then◌else◌}
 use Rattle.std.specs.List.{list_any, list_all}
 use Rattle.std.specs.Str.{bytes_eq, str_eq_ignore_ascii_case}
-use Rattle.droid_frame.specs.types.criterion.Criterion.{Criterion}
-use Rattle.droid_frame.specs.types.criterion.Criterion.TheVariants.{MethodIs, PuidIn, ExtIn, MismatchIs, SizeAtLeast, SizeAtMost, KindIs}
-use Rattle.droid_frame.specs.types.filter.Filter.{Filter}
-use Rattle.droid_frame.specs.types.method.Method.{Method}
-use Rattle.droid_frame.specs.types.method.Method.TheVariants.{Unidentified, Signature, Extension}
-use Rattle.droid_frame.specs.types.node_kind.NodeKind.{NodeKind}
-use Rattle.droid_frame.specs.types.node_kind.NodeKind.TheVariants.{File, Folder}
-use Rattle.droid_frame.specs.types.record.Record.{Record}
+use Rattle.droid_frame.specs.declared.criterion.Criterion.{Criterion}
+use Rattle.droid_frame.specs.declared.criterion.Criterion.TheVariants.{MethodIs, PuidIn, ExtIn, MismatchIs, SizeAtLeast}
+use Rattle.droid_frame.specs.declared.criterion.Criterion.TheVariants.{SizeAtMost, KindIs}
+use Rattle.droid_frame.specs.declared.filter.Filter.{Filter}
+use Rattle.droid_frame.specs.declared.method.Method.{Method}
+use Rattle.droid_frame.specs.declared.method.Method.TheVariants.{Unidentified, Signature, Extension}
+use Rattle.droid_frame.specs.declared.record.Record.{Record}
+use Rattle.droid_frame.specs.Filters.{is_file}
 use Rattle.droid_pronom.specs.Found.{extension_of}
 
 -- whether two methods are the same
@@ -23,11 +23,6 @@ same_method Signature Extension = false
 same_method Extension Unidentified = false
 same_method Extension Signature = false
 same_method Extension Extension = true
-
--- whether a node is a file, and not a folder
-abbrev pub is_file : NodeKind → Bool
-is_file File = true
-is_file Folder = false
 
 -- whether two truth values are the same
 abbrev pub same_truth : Bool → Bool → Bool

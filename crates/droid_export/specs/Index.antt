@@ -1,4 +1,5 @@
--- For proofs: an index of the lists in a filter's criteria. For each text it has the places of the criteria that list it.
+-- For proofs: an index of the lists in a filter's criteria. For each text it has the places of the criteria that list
+-- it.
 use Rattle.std.specs.Prelude.{◌≡◌, ℕ, Bool, true, false, ◌==◌, List, [], map, get_or, if◌then◌else◌, String}
 use Rattle.std.specs.BTreeMap.{BTreeMap, get_by_text}
 use Rattle.std.specs.List.{list_any}
@@ -6,9 +7,10 @@ use Rattle.std.specs.Option.{option_map_or}
 use Rattle.std.specs.Str.{bytes_eq, str_to_ascii_lowercase}
 use Rattle.std.specs.declared.vec.Vec.{Vec}
 use Rattle.std.specs.declared.alloc.Global.{Global}
-use Rattle.droid_frame.specs.types.criterion.Criterion.{Criterion}
-use Rattle.droid_frame.specs.types.criterion.Criterion.TheVariants.{MethodIs, PuidIn, ExtIn, MismatchIs, SizeAtLeast, SizeAtMost, KindIs}
-use Rattle.droid_frame.specs.types.record.Record.{Record}
+use Rattle.droid_frame.specs.declared.criterion.Criterion.{Criterion}
+use Rattle.droid_frame.specs.declared.criterion.Criterion.TheVariants.{MethodIs, PuidIn, ExtIn, MismatchIs, SizeAtLeast}
+use Rattle.droid_frame.specs.declared.criterion.Criterion.TheVariants.{SizeAtMost, KindIs}
+use Rattle.droid_frame.specs.declared.record.Record.{Record}
 use Rattle.droid_export.specs.Filters.{is_met}
 use Rattle.droid_export.specs.declared.index.Index.{Index}
 
@@ -50,8 +52,10 @@ asks_extension ext (KindIs kind) = false
 
 -- the index has for each text exactly the places of the criteria that list it
 pub record IsIndex (criteria : List Criterion) (index : Index) : Type 0 where
-  pub identifiers : (text : List ℕ) (at : ℕ) → names index.identifiers text at ≡ get_or (map (asks_identifier text) criteria) at false
-  pub extensions : (text : List ℕ) (at : ℕ) → names index.extensions text at ≡ get_or (map (asks_extension text) criteria) at false
+  pub identifiers : (text : List ℕ) (at : ℕ)
+      → names index.identifiers text at ≡ get_or (map (asks_identifier text) criteria) at false
+  pub extensions : (text : List ℕ) (at : ℕ)
+      → names index.extensions text at ≡ get_or (map (asks_extension text) criteria) at false
 
 -- whether a criterion has a list of texts
 abbrev pub has_list : Criterion → Bool

@@ -1,6 +1,7 @@
 pub mod Civil
 pub mod Columns
 pub mod Csv
+pub mod CsvBuffer
 pub mod ExportOutcome
 pub mod Filters
 pub mod Index
@@ -8,4 +9,3 @@ pub mod Moments
 pub mod Rows
 pub mod Text
 pub mod Uris
-pub mod CsvBuffer

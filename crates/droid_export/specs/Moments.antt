@@ -21,7 +21,9 @@ two_digits n = (48 + n / 10) ∷ (48 + n % 10) ∷ []
 
 -- a date as `yyyy-mm-dd`
 abbrev pub date_text : Civil → List ℕ
-date_text date = two_digits (date.year / 100) ++ two_digits (date.year % 100) ++ 45 ∷ two_digits date.month ++ 45 ∷ two_digits date.day
+date_text date =
+    two_digits (date.year / 100) ++ two_digits (date.year % 100) ++ 45 ∷ two_digits date.month
+    ++ 45 ∷ two_digits date.day
 
 -- a time of day as `hh:mm:ss`, from the number of seconds since the start of the day
 abbrev pub time_text : ℕ → List ℕ

@@ -1,18 +1,20 @@
 -- The rows of an export: the header, and for each record one row for each format, or one row without a format.
-use Rattle.std.specs.Prelude.{ℕ, ◌==◌, Bool, List, [], ◌∷◌, length, map, codes, if◌then◌else◌, Option, Some, None, slice_get}
+use Rattle.std.specs.Prelude.{ℕ, ◌==◌, Bool, List, [], ◌∷◌, length, map, codes, if◌then◌else◌, Option, Some, None}
+use Rattle.std.specs.Prelude.{slice_get}
 use Rattle.std.specs.Option.{option_and_then}
 use Rattle.std.specs.Fmt.{decimal}
 use Rattle.hex.specs.Hex.{encode_lower}
 use Rattle.droid_frame.specs.Hashes.{hash_bytes}
-use Rattle.droid_frame.specs.types.hash_kind.HashKind.{HashKind}
-use Rattle.droid_frame.specs.types.hash_kind.HashKind.TheVariants as hashes
-use Rattle.droid_frame.specs.types.method.Method.{Method}
-use Rattle.droid_frame.specs.types.method.Method.TheVariants.{Unidentified, Signature, Extension}
-use Rattle.droid_frame.specs.types.node_kind.NodeKind.{NodeKind}
-use Rattle.droid_frame.specs.types.record.Record.{Record}
+use Rattle.droid_frame.specs.declared.hash_kind.HashKind.{HashKind}
+use Rattle.droid_frame.specs.declared.hash_kind.HashKind.TheVariants as hashes
+use Rattle.droid_frame.specs.declared.method.Method.{Method}
+use Rattle.droid_frame.specs.declared.method.Method.TheVariants.{Unidentified, Signature, Extension}
+use Rattle.droid_frame.specs.declared.node_kind.NodeKind.{NodeKind}
+use Rattle.droid_frame.specs.declared.record.Record.{Record}
 use Rattle.droid_pronom.specs.Registry.{Contents, place_of}
-use Rattle.droid_pronom.specs.types.format.Format.{Format}
-use Rattle.droid_export.specs.Filters.{extension, found_by, is_file, mismatch}
+use Rattle.droid_pronom.specs.declared.format.Format.{Format}
+use Rattle.droid_export.specs.Filters.{extension, found_by, mismatch}
+use Rattle.droid_frame.specs.Filters.{is_file}
 use Rattle.droid_export.specs.Moments.{moment_text}
 use Rattle.droid_export.specs.Uris.{uri}
 

@@ -1,9 +1,9 @@
 -- The text of an export.
 use Rattle.std.specs.Prelude.{ℕ, List, ◌∷◌, filter}
 use Rattle.std.specs.List.{flat_map, AllByRecursion}
-use Rattle.droid_frame.specs.types.filter.Filter.{Filter}
-use Rattle.droid_frame.specs.types.hash_kind.HashKind.{HashKind}
-use Rattle.droid_frame.specs.types.record.Record.{Record}
+use Rattle.droid_frame.specs.declared.filter.Filter.{Filter}
+use Rattle.droid_frame.specs.declared.hash_kind.HashKind.{HashKind}
+use Rattle.droid_frame.specs.declared.record.Record.{Record}
 use Rattle.droid_pronom.specs.Registry.{Contents}
 use Rattle.droid_export.specs.Csv.{line}
 use Rattle.droid_export.specs.Filters.{meets}

@@ -1,15 +1,16 @@
 -- The URI of a node: `file:` and its path, percent-encoded (RFC 3986, section 2).
-use Rattle.std.specs.Prelude.{ℕ, ◌+◌, ◌/◌, ◌%◌, Bool, ◌||◌, ◌&&◌, ◌==◌, nat_lt, nat_le, List, [], ◌∷◌, ◌++◌, codes, if◌then◌else◌}
+use Rattle.std.specs.Prelude.{ℕ, ◌+◌, ◌/◌, ◌%◌, Bool, ◌||◌, ◌&&◌, ◌==◌, nat_lt, nat_le, List, [], ◌∷◌, ◌++◌, codes}
+use Rattle.std.specs.Prelude.{if◌then◌else◌}
 use Rattle.std.specs.List.{flat_map}
-use Rattle.droid_frame.specs.types.node_kind.NodeKind.{NodeKind}
-use Rattle.droid_frame.specs.types.node_kind.NodeKind.TheVariants.{File, Folder}
+use Rattle.droid_frame.specs.declared.node_kind.NodeKind.{NodeKind}
+use Rattle.droid_frame.specs.declared.node_kind.NodeKind.TheVariants.{File, Folder}
 
 -- whether a byte lies between `first` and `last`, both included
 abbrev pub is_from_to : ℕ → ℕ → ℕ → Bool
 is_from_to first last b = nat_le first b && nat_le b last
 
--- The bytes that stand for themselves: ASCII letters, digits, `-`, `.`, `_`, `~` (the unreserved characters of RFC 3986,
--- section 2.3) and `/`.
+-- The bytes that stand for themselves: ASCII letters, digits, `-`, `.`, `_`, `~` (the unreserved characters of RFC
+-- 3986, section 2.3) and `/`.
 abbrev pub stands_for_itself : ℕ → Bool
 stands_for_itself b =
     is_from_to 65 90 b || is_from_to 97 122 b || is_from_to 48 57 b

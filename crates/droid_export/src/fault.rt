@@ -6,7 +6,7 @@ use droid_frame::WriteFault;
 use std::alloc::AllocError;
 use thiserror::Error;
 
-/// Why an export could not be written.
+/// Why an export could not be written. The specification names it, as the fault of `export`.
 #[derive(Clone, Copy, Debug, PartialEq, Eq, Error)]
 pub enum ExportFault {
     /// Out of memory. Nothing was written.

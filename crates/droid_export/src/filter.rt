@@ -2,13 +2,15 @@
 
 ghost use Rattle.std.specs.Prelude.{◌≡◌};
 ghost use Rattle.std.specs.List.{list_any, list_all};
-ghost use Rattle.droid_export.specs.Filters.{found_by, is_among, is_among_in_any_case, is_file, is_met, mismatch, same_method, same_truth};
+ghost use Rattle.droid_export.specs.Filters.{found_by, is_among, is_among_in_any_case, is_met, mismatch, same_method};
+ghost use Rattle.droid_export.specs.Filters.{same_truth};
 ghost use Rattle.droid_export.specs.Filters as filters;
 
 use crate::extension::extension;
-use droid_frame::{Criteria, Criterion, Filter, Method, NodeKind, Record, Texts};
+use droid_frame::{Criteria, Criterion, Filter, Method, Record, Texts};
 
-/// Returns whether a record meets a filter. Takes no memory.
+/// Returns whether a record meets a filter. Takes no memory. The specification names this call; an export asks the
+/// index of the filter's lists.
 ///
 /// With `all` the record has to meet every criterion, without it at least one. Every record meets a filter without
 /// criteria. Extensions are compared without regard to the case of ASCII letters, PUIDs byte for byte. A folder meets
@@ -62,9 +64,9 @@ pub(crate) fn is_met(criterion: &Criterion, node: &Record) -> bool
         Criterion::PuidIn(texts) => shares_one(texts, &node.puids),
         Criterion::ExtIn(texts) => is_among_in_any_case(texts, extension(node)),
         Criterion::MismatchIs(wanted) => *wanted == mismatch(node),
-        Criterion::SizeAtLeast(size) => is_file(node.kind) && *size <= node.size,
-        Criterion::SizeAtMost(size) => is_file(node.kind) && node.size <= *size,
-        Criterion::KindIs(kind) => is_file(*kind) == is_file(node.kind),
+        Criterion::SizeAtLeast(size) => node.kind.is_file() && *size <= node.size,
+        Criterion::SizeAtMost(size) => node.kind.is_file() && node.size <= *size,
+        Criterion::KindIs(kind) => kind.is_file() == node.kind.is_file(),
     }
 }
 
@@ -74,22 +76,12 @@ fn is_same_method(left: Method, right: Method) -> bool
     left == right
 }
 
-/// Returns whether a node is a file, and not a folder.
-pub(crate) fn is_file(kind: NodeKind) -> bool
-    ensures { result ≡ is_file kind }
-{
-    match kind {
-        NodeKind::File => true,
-        NodeKind::Folder => false,
-    }
-}
-
 /// Returns whether a file's extension contradicts its formats. A folder has no mismatch.
 #[tactic(auto, unfolding(crate::specs::Filters::mismatch))]
 pub(crate) fn mismatch(node: &Record) -> bool
     ensures { result ≡ mismatch node.now }
 {
-    is_file(node.kind) && node.mismatch
+    node.kind.is_file() && node.mismatch
 }
 
 /// Returns the method by which a file was identified. A folder is unidentified, whatever its record says.
@@ -97,7 +89,7 @@ pub(crate) fn mismatch(node: &Record) -> bool
 pub(crate) fn found_by(node: &Record) -> Method
     ensures { result ≡ found_by node.now }
 {
-    if is_file(node.kind) {
+    if node.kind.is_file() {
         node.method
     } else {
         Method::Unidentified

@@ -10,7 +10,9 @@ use droid_frame::Texts;
 /// Sets the flags at the places of these texts.
 pub(crate) fn mark_all(flags: &mut [bool], named: &Places, texts: &Texts)
     ensures length { length flags.new ≡ length flags.old }
-    ensures marked { (at : ℕ) → at < length flags.old → get_or flags.new at false ≡ (get_or flags.old at false || list_any (λ text. names named.now text at) texts.now) }
+    ensures marked { (at : ℕ) → at < length flags.old
+        → get_or flags.new at false
+        ≡ (get_or flags.old at false || list_any (λ text. names named.now text at) texts.now) }
 {
     let items = texts.as_slice();
     for text in items {
@@ -21,7 +23,8 @@ pub(crate) fn mark_all(flags: &mut [bool], named: &Places, texts: &Texts)
 /// Sets the flags at these places.
 pub(crate) fn mark(flags: &mut [bool], places: &[usize])
     ensures length { length flags.new ≡ length flags.old }
-    ensures marked { (at : ℕ) → at < length flags.old → get_or flags.new at false ≡ (get_or flags.old at false || list_any (λ place. place == at) places.now) }
+    ensures marked { (at : ℕ) → at < length flags.old
+        → get_or flags.new at false ≡ (get_or flags.old at false || list_any (λ place. place == at) places.now) }
 {
     for place in places {
         set_flag(flags, *place);
@@ -31,7 +34,8 @@ pub(crate) fn mark(flags: &mut [bool], places: &[usize])
 /// Sets the flag at a place, if there is one.
 fn set_flag(flags: &mut [bool], place: usize)
     ensures length { length flags.new ≡ length flags.old }
-    ensures marked { (at : ℕ) → at < length flags.old → get_or flags.new at false ≡ (get_or flags.old at false || (place == at)) }
+    ensures marked { (at : ℕ) → at < length flags.old
+        → get_or flags.new at false ≡ (get_or flags.old at false || (place == at)) }
 {
     if place >= flags.len() {
         return;

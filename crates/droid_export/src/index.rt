@@ -41,8 +41,12 @@ impl Index {
     /// Adds the list of the criterion at a place.
     #[tactic(auto, unfolding(crate::specs::Index::asks_identifier, crate::specs::Index::asks_extension))]
     fn add(&mut self, alloc: Global, criterion: &Criterion, place: usize) -> Result<(), AllocError>
-        ensures identifiers { OnOk result ((text : List ℕ) (at : ℕ) → names self.new.identifiers text at ≡ (names self.old.identifiers text at || (asks_identifier text criterion.now && (place == at)))) }
-        ensures extensions { OnOk result ((text : List ℕ) (at : ℕ) → names self.new.extensions text at ≡ (names self.old.extensions text at || (asks_extension text criterion.now && (place == at)))) }
+        ensures identifiers { OnOk result ((text : List ℕ) (at : ℕ)
+            → names self.new.identifiers text at
+            ≡ (names self.old.identifiers text at || (asks_identifier text criterion.now && (place == at)))) }
+        ensures extensions { OnOk result ((text : List ℕ) (at : ℕ)
+            → names self.new.extensions text at
+            ≡ (names self.old.extensions text at || (asks_extension text criterion.now && (place == at)))) }
     {
         match criterion {
             Criterion::PuidIn(texts) => add_all(&mut self.identifiers, alloc, texts, false, place),
@@ -64,7 +68,8 @@ fn add_all(
     caseless: bool,
     place: usize,
 ) -> Result<(), AllocError>
-    ensures { OnOk result ((text : List ℕ) (at : ℕ) → names named.new text at ≡ (names named.old text at || (has_key caseless texts.now text && (place == at)))) }
+    ensures { OnOk result ((text : List ℕ) (at : ℕ)
+        → names named.new text at ≡ (names named.old text at || (has_key caseless texts.now text && (place == at)))) }
 {
     let items = texts.as_slice();
     for text in items {
@@ -87,7 +92,8 @@ pub(crate) fn key_of(alloc: Global, text: &str, caseless: bool) -> Result<String
 
 /// Adds a place to a text.
 fn add_one(named: &mut Places, alloc: Global, key: String, place: usize) -> Result<(), AllocError>
-    ensures { OnOk result ((text : List ℕ) (at : ℕ) → names named.new text at ≡ (names named.old text at || (bytes_eq text (string_bytes key) && (place == at)))) }
+    ensures { OnOk result ((text : List ℕ) (at : ℕ)
+        → names named.new text at ≡ (names named.old text at || (bytes_eq text (string_bytes key) && (place == at)))) }
 {
     let mut places = taken(named, alloc, key.as_str());
     note(&mut places, place)?;
@@ -98,14 +104,17 @@ fn add_one(named: &mut Places, alloc: Global, key: String, place: usize) -> Resu
 /// Removes the places of a text from the index and returns them.
 fn taken(named: &mut Places, alloc: Global, text: &str) -> Vec<usize>
     ensures value { result.items ≡ places_of named.old text.now }
-    ensures others { (other : List ℕ) → bytes_eq text.now other ≡ false → places_of named.new other ≡ places_of named.old other }
+    ensures others { (other : List ℕ) → bytes_eq text.now other ≡ false
+        → places_of named.new other ≡ places_of named.old other }
 {
     named.remove(text).unwrap_or(Vec::new(alloc))
 }
 
 /// Adds a place at the end, unless it is already the last one.
 fn note(places: &mut Vec<usize>, place: usize) -> Result<(), AllocError>
-    ensures { OnOk result ((at : ℕ) → list_any (λ other. other == at) places.new.items ≡ (list_any (λ other. other == at) places.old.items || (place == at))) }
+    ensures { OnOk result ((at : ℕ)
+        → list_any (λ other. other == at) places.new.items
+        ≡ (list_any (λ other. other == at) places.old.items || (place == at))) }
 {
     if places.last().copied() == Some(place) {
         return Ok(());

@@ -1,11 +1,13 @@
 //! Writes moments as text.
 
 ghost use Rattle.std.specs.Prelude.{◌≡◌, ◌<◌, IfOk, IsAscii};
+ghost use Rattle.jiff.specs.Words.{IsEpochDay, epoch_day};
 ghost use Rattle.droid_export.specs.Moments.{IsMoment, date_of, second_of_day, two_digits};
 ghost use Rattle.droid_export.specs.Moments as moments;
 
 use droid_frame::Text;
-use jiff_core::civil::Date;
+use jiff::ToSpan;
+use jiff::civil::{self, Date};
 use std::alloc::{AllocError, Global};
 
 /// The number of seconds of a day.
@@ -63,13 +65,20 @@ fn date_of(modified: i64) -> Civil
     ensures four_digits { result.year < 10000 }
     ensures two_digits { (result.month < 100) × (result.day < 100) }
 {
-    let days = modified.div_euclid(DAY);
-    let date = Date::from_unix_epoch_day(days).unwrap();
+    let date = date_of_day(modified.div_euclid(DAY));
     Civil {
-        year: date.year as u16,
-        month: date.month,
-        day: date.day,
+        year: date.year() as u16,
+        month: date.month() as u8,
+        day: date.day() as u8,
     }
+}
+
+/// Returns the date that lies this number of days after 1970-01-01, or before it.
+fn date_of_day(days: i64) -> Date
+    requires { IsEpochDay days }
+    ensures { epoch_day result ≡ days }
+{
+    civil::date(1970, 1, 1).checked_add(days.days()).unwrap()
 }
 
 /// Returns a number below 100 as two decimal digits.

@@ -88,14 +88,17 @@ impl RowText {
     pub fn write_to<W: SteadyWrite>(&mut self, writer: &mut W) -> Result<(), WriteFault>
         ensures ok { OnOk result (Appends (W.contents writer.old) (W.contents writer.new) self.old) }
         ensures emptied { OnOk result (self.new ≡ []) }
-        ensures err { IfErr result (λ fault. StopsWithin (W.contents writer.old) (W.contents writer.new) self.old 0 fault.written) }
+        ensures err { IfErr result (λ fault.
+            StopsWithin (W.contents writer.old) (W.contents writer.new) self.old 0 fault.written) }
         ensures unchanged { OnErr result (self.new ≡ self.old) }
         ensures room { OnOk result (Takes (W.room writer.old) (W.room writer.new) (length self.old)) }
         ensures room_err { IfErr result (λ fault. Takes (W.room writer.old) (W.room writer.new) fault.written) }
         // The call fails exactly if the writer stopped: it failed, was interrupted for the 65th time, or had no room
         // for the rest.
-        ensures stopped { IsSound (W.seen writer.old) → OnErr result (WriterStops (W.seen writer.old).interruptions (W.seen writer.new) (W.room writer.new)) }
-        ensures steady { IsSound (W.seen writer.old) → OnOk result (Lasts (W.seen writer.old).interruptions (W.seen writer.new)) }
+        ensures stopped { IsSound (W.seen writer.old)
+            → OnErr result (WriterStops (W.seen writer.old).interruptions (W.seen writer.new) (W.room writer.new)) }
+        ensures steady { IsSound (W.seen writer.old)
+            → OnOk result (Lasts (W.seen writer.old).interruptions (W.seen writer.new)) }
     {
         self.text.write_to(writer)
     }

@@ -113,7 +113,9 @@ fn add_format_rows<'a>(
     common: &'a Common<'a>,
 ) -> Result<(), AllocError>
     requires { IsCommon node.now common.now }
-    ensures { OnOk result (text.new.items ≡ text.old.items ++ flat_map row_text (map (λ puid. row node.now (shown registry.now puid)) node.now.puids)) }
+    ensures { OnOk result
+        (text.new.items
+        ≡ text.old.items ++ flat_map row_text (map (λ puid. row node.now (shown registry.now puid)) node.now.puids)) }
 {
     for place in 0..node.puids.len() {
         if let Some(puid) = node.puids.get(place) {
@@ -142,7 +144,8 @@ fn add_row<'a>(
     format: Option<&'a Format>,
 ) -> Result<(), AllocError>
     requires { IsCommon node.now common.now }
-    ensures { OnOk result (text.new.items ≡ text.old.items ++ row_text (row node.now (shown_by puid.now (option_copied format.entry)))) }
+    ensures { OnOk result
+        (text.new.items ≡ text.old.items ++ row_text (row node.now (shown_by puid.now (option_copied format.entry)))) }
 {
     let row: [&[u8]; 17] = [
         common.id.as_bytes(),

@@ -1,7 +1,7 @@
 //! Selects the records of an export, by an index of the filter's lists.
 //!
-//! An export asks this for each record. [`meets`](crate::meets) answers the same question for a single record without
-//! memory, but goes through each list.
+//! An export asks this for each record. [`meets`](crate::filter::meets) answers the same question for a single record
+//! without memory, but goes through each list.
 
 ghost use Rattle.std.specs.Prelude.{◌≡◌, IfOk, map, if◌then◌else◌};
 ghost use Rattle.std.specs.List.{list_any, list_all};

@@ -6,7 +6,6 @@ ghost use Rattle.hex.specs.Hex.{encode_lower};
 ghost use Rattle.droid_frame.specs.Hashes.{hash_bytes};
 ghost use Rattle.droid_export.specs.Rows.{of_file, parent_text};
 
-use crate::filter::is_file;
 use crate::hash_text::HashText;
 use droid_frame::Record;
 use itoa::Buffer;
@@ -37,7 +36,7 @@ pub(crate) fn parent_text(digits: &mut Buffer, parent: u32) -> &str
 pub(crate) fn size_text<'a>(digits: &'a mut Buffer, node: &Record) -> &'a str
     ensures { result.now ≡ of_file node.now (decimal node.now.size) }
 {
-    if !is_file(node.kind) {
+    if !node.kind.is_file() {
         return "";
     }
     digits.format(node.size)
@@ -47,7 +46,7 @@ pub(crate) fn size_text<'a>(digits: &'a mut Buffer, node: &Record) -> &'a str
 pub(crate) fn count_text<'a>(digits: &'a mut Buffer, node: &Record) -> &'a str
     ensures { result.now ≡ of_file node.now (decimal (length node.now.puids)) }
 {
-    if !is_file(node.kind) {
+    if !node.kind.is_file() {
         return "";
     }
     digits.format(node.puids.len())
@@ -57,7 +56,7 @@ pub(crate) fn count_text<'a>(digits: &'a mut Buffer, node: &Record) -> &'a str
 pub(crate) fn hash_text(node: &Record) -> HashText
     ensures { result ≡ of_file node.now (encode_lower (hash_bytes node.now.hash)) }
 {
-    if !is_file(node.kind) {
+    if !node.kind.is_file() {
         return HashText::none();
     }
     HashText::of(&node.hash)

@@ -9,7 +9,8 @@ use std::alloc::AllocError;
 
 /// Appends a record of these fields, and of one more. Fails only if the buffer can't grow.
 pub(crate) fn add_line(text: &mut Vec<u8>, fields: &[&[u8]], last: &[u8]) -> Result<(), AllocError>
-    ensures { OnOk result (text.new.items ≡ text.old.items ++ line (map (λ field. field.now) fields.now ++ last.now ∷ [])) }
+    ensures { OnOk result
+        (text.new.items ≡ text.old.items ++ line (map (λ field. field.now) fields.now ++ last.now ∷ [])) }
 {
     for field in fields {
         add_field(text, *field, b',')?;

@@ -5,7 +5,7 @@ use Rattle.std.specs.Prelude.{if◌then◌else◌}
 use Rattle.droid_fixity.specs.FilePairs.{AreFilePairs, IsFilePair}
 use Rattle.droid_fixity.specs.Holding.{file_pair, pair_at, pair_if}
 use Rattle.droid_fixity.specs.Inventories.{AreInOrder}
-use Rattle.droid_fixity.specs.Items.{is_file}
+use Rattle.droid_frame.specs.Filters.{is_file}
 use Rattle.droid_fixity.specs.Pairing.{Merges}
 use Rattle.droid_fixity.specs.Reports.{is_absent, path_at}
 use Rattle.droid_fixity.specs.declared.item.Item.{Item}

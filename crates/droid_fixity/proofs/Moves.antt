@@ -9,7 +9,8 @@ use Rattle.std.proofs.lemmas.List.Elements.{filter_more}
 use Rattle.std.proofs.lemmas.Slice.Eq.{bytes_eq-Decides}
 use Rattle.droid_frame.specs.Hashes.{hash_bytes}
 use Rattle.droid_fixity.specs.Holding.{bears_at, holder_after, holder_among, holder_of, move_by, move_of}
-use Rattle.droid_fixity.specs.Items.{bears, is_file, other_length}
+use Rattle.droid_fixity.specs.Items.{bears, other_length}
+use Rattle.droid_frame.specs.Filters.{is_file}
 use Rattle.droid_fixity.specs.Reports.{HasMoved, alone, is_absent}
 use Rattle.droid_fixity.specs.declared.difference.Difference.{Difference}
 use Rattle.droid_fixity.specs.declared.difference.Difference.TheVariants.{Moved}

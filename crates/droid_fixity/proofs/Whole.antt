@@ -6,7 +6,8 @@ use Rattle.std.specs.Prelude.{if◌then◌else◌}
 use Rattle.droid_frame.specs.Hashes.{hash_bytes}
 use Rattle.droid_fixity.specs.Holding.{both_by, difference_at, holder_among, move_of, only_found, only_listed, or_missing, or_new}
 use Rattle.droid_fixity.specs.Inventories.{AreInOrder, IsBefore}
-use Rattle.droid_fixity.specs.Items.{bears, changes_between, is_any, is_file, other_moment}
+use Rattle.droid_fixity.specs.Items.{bears, changes_between, is_any, other_moment}
+use Rattle.droid_frame.specs.Filters.{is_file}
 use Rattle.droid_fixity.specs.Pairing.{Merges}
 use Rattle.droid_fixity.specs.Reports.{HasMoved, IsDifference, IsReport, alone, changed, is_absent, missing, moved, new, path_at, path_of, touched}
 use Rattle.droid_fixity.specs.declared.difference.Difference.{Difference}

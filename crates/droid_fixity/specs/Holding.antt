@@ -6,7 +6,8 @@ use Rattle.std.specs.Ordering.{nat_cmp}
 use Rattle.std.specs.Borrow.{Bor}
 use Rattle.std.specs.Cmp.Lexicographic.{slice_cmp}
 use Rattle.droid_frame.specs.Hashes.{hash_bytes}
-use Rattle.droid_fixity.specs.Items.{bears, changes_between, is_any, is_file, other_length, other_moment}
+use Rattle.droid_fixity.specs.Items.{bears, changes_between, is_any, other_length, other_moment}
+use Rattle.droid_frame.specs.Filters.{is_file}
 use Rattle.droid_fixity.specs.declared.difference.Difference.{Difference}
 use Rattle.droid_fixity.specs.declared.difference.Difference.TheVariants.{Changed, Missing, New, Moved, Touched}
 use Rattle.droid_fixity.specs.declared.item.Item.{Item}
@@ -65,9 +66,11 @@ move_by listed found (Some (One l)) (Some Many) = None
 move_by listed found (Some (One l)) (Some (One f)) = moved_if (slice_get listed l) (slice_get found f) l f
 
 -- the move that an item takes part in, by who holds each hash among the missing and among the new
-abbrev pub move_of : List Item → List Item → (List ℕ → Option Holder) → (List ℕ → Option Holder) → Item → Option Difference
+abbrev pub move_of : List Item → List Item → (List ℕ → Option Holder) → (List ℕ → Option Holder) → Item
+    → Option Difference
 move_of listed found missing new item =
-    if is_file item.kind then move_by listed found (missing (hash_bytes item.hash)) (new (hash_bytes item.hash)) else None
+    if is_file item.kind then move_by listed found (missing (hash_bytes item.hash)) (new (hash_bytes item.hash))
+    else None
 
 -- the difference of a path that both have
 abbrev pub both_by : Option Item → Option Item → ℕ → ℕ → Option Difference
@@ -88,10 +91,13 @@ or_new None f = Some (New f)
 or_new (Some move) f = None
 
 -- the difference at a pair
-abbrev pub difference_at : List Item → List Item → (List ℕ → Option Holder) → (List ℕ → Option Holder) → Pair → Option Difference
+abbrev pub difference_at : List Item → List Item → (List ℕ → Option Holder) → (List ℕ → Option Holder) → Pair
+    → Option Difference
 difference_at listed found missing new (Both l f) = both_by (slice_get listed l) (slice_get found f) l f
-difference_at listed found missing new (Listed l) = option_and_then (λ item. or_missing (move_of listed found missing new item) l) (slice_get listed l)
-difference_at listed found missing new (Found f) = option_and_then (λ item. or_new (move_of listed found missing new item) f) (slice_get found f)
+difference_at listed found missing new (Listed l) =
+    option_and_then (λ item. or_missing (move_of listed found missing new item) l) (slice_get listed l)
+difference_at listed found missing new (Found f) =
+    option_and_then (λ item. or_new (move_of listed found missing new item) f) (slice_get found f)
 
 -- the files at a pair, if both have one
 abbrev pub pair_at : ℕ → ℕ → FilePair

@@ -25,4 +25,6 @@ abbrev pub is_before : List ℕ → List ℕ → Bool
 is_before first second = is_lt (slice_cmp nat_cmp first second)
 
 abbrev pub IsBeforeAt : List Item → ℕ → Bool → Type 0
-IsBeforeAt items place test = (first second : Item) → slice_get items (place - 1) ≡ Some first → slice_get items place ≡ Some second → is_before first.path second.path ≡ test
+IsBeforeAt items place test =
+    (first second : Item) → slice_get items (place - 1) ≡ Some first → slice_get items place ≡ Some second
+    → is_before first.path second.path ≡ test

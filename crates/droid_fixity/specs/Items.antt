@@ -2,16 +2,10 @@
 use Rattle.std.specs.Prelude.{ℕ, ◌==◌, Bool, true, false, ◌||◌, ◌&&◌, not, List, length, Option, Some, None}
 use Rattle.std.specs.Str.{bytes_eq}
 use Rattle.droid_frame.specs.Hashes.{hash_bytes, hash_kind_number, hash_value_kind}
-use Rattle.droid_frame.specs.types.hash_value.HashValue.{HashValue}
-use Rattle.droid_frame.specs.types.node_kind.NodeKind.{NodeKind}
-use Rattle.droid_frame.specs.types.node_kind.NodeKind.TheVariants.{File, Folder}
+use Rattle.droid_frame.specs.declared.hash_value.HashValue.{HashValue}
+use Rattle.droid_frame.specs.Filters.{is_file}
 use Rattle.droid_fixity.specs.declared.item.Item.{Item}
 use Rattle.droid_fixity.specs.declared.item.Changes.{Changes}
-
--- whether an item is a file, and not a folder
-abbrev pub is_file : NodeKind → Bool
-is_file File = true
-is_file Folder = false
 
 -- whether two truth values are the same
 abbrev pub same_truth : Bool → Bool → Bool
@@ -32,7 +26,9 @@ other_moment None b = false
 
 -- whether two hashes differ; a hash is compared only where both items have one of one kind
 abbrev pub other_hash : HashValue → HashValue → Bool
-other_hash x y = (hash_kind_number (hash_value_kind x) == hash_kind_number (hash_value_kind y)) && not (bytes_eq (hash_bytes x) (hash_bytes y))
+other_hash x y =
+    (hash_kind_number (hash_value_kind x) == hash_kind_number (hash_value_kind y))
+    && not (bytes_eq (hash_bytes x) (hash_bytes y))
 
 -- whether both items have a hash, of one kind: only then their bytes can be compared
 abbrev pub both_hashed : Item → Item → Bool

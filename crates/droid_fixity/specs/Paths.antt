@@ -5,7 +5,9 @@ use Rattle.std.specs.Str.{bytes_eq}
 
 -- the name of a folder or a file: neither empty nor `.` nor `..`, and without a zero byte
 abbrev pub is_name : List ℕ → Bool
-is_name name = not (length name == 0) && not (bytes_eq name (codes ".")) && not (bytes_eq name (codes "..")) && list_all (λ b. not (b == 0)) name
+is_name name =
+    not (length name == 0) && not (bytes_eq name (codes ".")) && not (bytes_eq name (codes ".."))
+    && list_all (λ b. not (b == 0)) name
 
 -- names with `/` between them
 abbrev pub is_plain : List ℕ → Bool

@@ -32,7 +32,8 @@ pub data IsDifference (listed found : List Item) : Difference → Type 0 where
       → IsTrue (is_any (changes_between a b)) → IsDifference listed found (Changed l f (changes_between a b))
   -- a path that both have, of which only the moment differs
   touched : {l f : ℕ} {a b : Item} → slice_get listed l ≡ Some a → slice_get found f ≡ Some b → a.path ≡ b.path
-      → is_any (changes_between a b) ≡ false → IsTrue (other_moment a.modified b.modified) → IsDifference listed found (Touched l f)
+      → is_any (changes_between a b) ≡ false → IsTrue (other_moment a.modified b.modified)
+      → IsDifference listed found (Touched l f)
   -- a path that was not found, and did not move
   missing : {l : ℕ} {a : Item} → slice_get listed l ≡ Some a → IsTrue (is_absent a.path found)
       → ((b : Item) → HasMoved listed found a b → ⊥) → IsDifference listed found (Missing l)

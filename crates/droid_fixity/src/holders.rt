@@ -4,7 +4,7 @@ ghost use Rattle.std.specs.Prelude.{◌≡◌, ℕ, List, IfOk, OnOk, if◌then�
 ghost use Rattle.droid_fixity.specs.Holding.{held, holder_after, holder_among};
 ghost use Rattle.droid_fixity.specs.Items.{bears};
 
-use crate::item::{Item, is_file};
+use crate::item::Item;
 use std::alloc::{AllocError, Global};
 use std::collections::BTreeMap;
 
@@ -46,10 +46,12 @@ fn item_at(items: &[Item], place: usize) -> Option<&Item>
 
 /// Adds an item to the holders of its hash, if it is a file that has one.
 fn note<'a>(holders: &mut Holders<'a>, item: &'a Item, place: usize) -> Result<(), AllocError>
-    ensures { OnOk result ((hash : List ℕ) → held holders.new hash ≡ (if bears hash item.now then Some (holder_after (held holders.old hash) place) else held holders.old hash)) }
+    ensures { OnOk result ((hash : List ℕ)
+        → held holders.new hash
+        ≡ (if bears hash item.now then Some (holder_after (held holders.old hash) place) else held holders.old hash)) }
 {
     let hash = item.hash.as_slice();
-    if is_file(item.kind) && !hash.is_empty() {
+    if item.kind.is_file() && !hash.is_empty() {
         let holder = holder_after(holders.get(hash), place);
         holders.insert(hash, holder)?;
     }

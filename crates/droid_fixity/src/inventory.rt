@@ -40,8 +40,8 @@ pub struct SamePath {
 impl Inventory {
     /// Sorts items by the bytes of their paths. Two items of one path are an error.
     ///
-    /// Never runs out of memory: where there is none, only the sort takes longer. The cost grows with the number of items
-    /// if they come in few sorted runs.
+    /// Never runs out of memory: where there is none, only the sort takes longer. The cost grows with the number of
+    /// items if they come in few sorted runs.
     pub fn of(items: Vec<Item>) -> Result<Inventory, SamePath>
         ensures same { IfOk result (λ inventory. IsPermutation items.items inventory) }
         // The reported path is the path of two items.
@@ -80,8 +80,10 @@ fn sort_by_path(items: &mut Vec<Item>)
 
 /// Returns the first place whose path does not come after the path in front of it.
 fn first_repeated(items: &[Item]) -> Option<usize>
-    ensures none { IfNone result ((place : ℕ) → 0 < place → place < length items.now → IsBeforeAt items.now place true) }
-    ensures some { IfSome result (λ place. (0 < place) × (place < length items.now) × IsBeforeAt items.now place false) }
+    ensures none { IfNone result ((place : ℕ) → 0 < place → place < length items.now
+        → IsBeforeAt items.now place true) }
+    ensures some { IfSome result (λ place.
+        (0 < place) × (place < length items.now) × IsBeforeAt items.now place false) }
 {
     for place in 1..items.len() {
         if !is_after_last(items, place) {

@@ -46,7 +46,7 @@ impl Item {
         ensures { result ≡ items.changes_between self.now found.now }
     {
         Changes {
-            kind: !(is_file(self.kind) == is_file(found.kind)),
+            kind: !(self.kind.is_file() == found.kind.is_file()),
             length: self.has_other_length(found),
             hash: self.has_other_hash(found),
         }
@@ -95,15 +95,5 @@ impl Item {
             (Some(before), Some(after)) => before.as_slice() != after.as_slice(),
             _ => false,
         }
-    }
-}
-
-/// Returns whether a node is a file, and not a folder.
-pub(crate) fn is_file(kind: NodeKind) -> bool
-    ensures { result ≡ items.is_file kind }
-{
-    match kind {
-        NodeKind::File => true,
-        NodeKind::Folder => false,
     }
 }

@@ -8,5 +8,6 @@ ghost use Rattle.droid_fixity.specs.declared.item.Item.{Item};
 
 /// States that the report is empty if the same items were found that the list has.
 pub fn same_items_have_no_difference()
-    ensures { (items : List Item) (report : List Difference) → AreInOrder (map (λ item. item.path) items) → IsReport items items report → report ≡ [] }
+    ensures { (items : List Item) (report : List Difference) → AreInOrder (map (λ item. item.path) items)
+        → IsReport items items report → report ≡ [] }
 {}

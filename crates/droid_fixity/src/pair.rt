@@ -8,7 +8,7 @@ ghost use Rattle.droid_fixity.specs.Holding.{file_pair, only_found, only_listed,
 ghost use Rattle.droid_fixity.specs.Pairing.{Merges, found_after, listed_after, pair_by, pair_of};
 
 use crate::inventory::Inventory;
-use crate::item::{Item, is_file};
+use crate::item::Item;
 use std::alloc::{AllocError, Global};
 use std::cmp::Ordering;
 
@@ -190,7 +190,7 @@ fn pair_if(
 {
     let item = item?;
     let other = other?;
-    if is_file(item.kind) && is_file(other.kind) {
+    if item.kind.is_file() && other.kind.is_file() {
         Some(FilePair { listed, found })
     } else {
         None

@@ -4,8 +4,8 @@ ghost use Rattle.std.specs.Prelude.{◌≡◌, ◌==◌, not};
 ghost use Rattle.std.specs.List.{list_all};
 ghost use Rattle.droid_fixity.specs.Paths as paths;
 
-/// Returns whether this is the path of a folder or a file: `/` and names, `/` between them. A name is neither empty nor `.`
-/// nor `..`, and has no zero byte.
+/// Returns whether this is the path of a folder or a file: `/` and names, `/` between them. A name is neither empty nor
+/// `.` nor `..`, and has no zero byte.
 pub fn is_file_path(path: &[u8]) -> bool
     ensures { result ≡ paths.is_file_path path.now }
 {

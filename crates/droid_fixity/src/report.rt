@@ -1,13 +1,14 @@
 //! The report of all differences.
 
 ghost use Rattle.std.specs.Prelude.{◌≡◌, ◌++◌, IfOk, OnOk, filter_map, option_copied, option_to_list};
-ghost use Rattle.droid_fixity.specs.Holding.{both_by, difference_at, held, move_by, move_of, moved_if, only_found, only_listed, or_missing, or_new};
+ghost use Rattle.droid_fixity.specs.Holding.{both_by, difference_at, held, move_by, move_of, moved_if, only_found};
+ghost use Rattle.droid_fixity.specs.Holding.{only_listed, or_missing, or_new};
 ghost use Rattle.droid_fixity.specs.Reports.{IsReport};
 
 use crate::difference::Difference;
 use crate::holders::{Holder, Holders, holders_of};
 use crate::inventory::Inventory;
-use crate::item::{Item, is_file};
+use crate::item::Item;
 use crate::pair::{Pair, pairs_of};
 use std::alloc::{AllocError, Global};
 
@@ -75,7 +76,8 @@ fn differences_at(
     new: &Holders<'_>,
     pairs: &[Pair],
 ) -> Result<Vec<Difference>, AllocError>
-    ensures { IfOk result (λ report. report.items ≡ filter_map (difference_at listed.now found.now (held missing.now) (held new.now)) pairs.now) }
+    ensures { IfOk result (λ report.
+        report.items ≡ filter_map (difference_at listed.now found.now (held missing.now) (held new.now)) pairs.now) }
 {
     let mut report = Vec::new(alloc);
     for pair in pairs {
@@ -178,7 +180,7 @@ fn move_of(
 ) -> Option<Difference>
     ensures { result ≡ move_of listed.now found.now (held missing.now) (held new.now) item.now }
 {
-    if !is_file(item.kind) {
+    if !item.kind.is_file() {
         return None;
     }
     let hash = item.hash.as_slice();

@@ -1,8 +1,8 @@
 -- How long a body may be, in every version.
 use Rattle.std.proofs.Common.{◌≡◌, ℕ, ◌<◌, ◌≤◌, ◌^◌, Bool, true, false, cond, eqb, ◌||◌, refl, arith}
 use Rattle.std.proofs.lemmas.Bool.{eqb-true}
-use Rattle.droid_frame_bodies.specs.Limits.{body_limit}
-use Rattle.droid_frame_bodies.specs.Versions.{IsVersion}
+use Rattle.droid_frame.specs.Limits.{body_limit}
+use Rattle.droid_frame.specs.Versions.{IsVersion}
 
 at_most_where : (first : Bool) → cond first 1048640 4194368 ≤ 4194368
 at_most_where true = omega arith

@@ -4,7 +4,7 @@ use Rattle.std.specs.Int.{Width, byte_at, byte_len, to_be_bytes, bytes_high_firs
 use Rattle.std.specs.Str.{IsUtf8}
 use Rattle.std.proofs.lemmas.Bool.{ltb-true}
 use lib.Utf8.{next, scalar, scalars, scalar_cases, encode, encodes}
-use Rattle.droid_frame_bodies.specs.Fields.{IsBytes}
+use Rattle.droid_frame.specs.Fields.{IsBytes}
 
 pub IsBytes-nil : IsBytes []
 IsBytes-nil i = omega arith

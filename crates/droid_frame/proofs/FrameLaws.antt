@@ -1,14 +1,14 @@
 -- A header, and a frame, is determined by its spelling, whatever follows it.
 use Rattle.std.proofs.Common.{◌≡◌, ℕ, List, ◌++◌, length, take, drop, Option, Some, refl, sym, ap, ◌∙◌, arith}
 use Rattle.std.proofs.lemmas.List.{take_at, drop_at}
-use Rattle.droid_frame_bodies.specs.types.frame.Frame.{Frame}
-use Rattle.droid_frame.specs.declared.stream.header.Header.{Header}
-use Rattle.droid_frame_bodies.specs.Fields.{u32_bytes, u64_bytes}
-use Rattle.droid_frame_bodies.specs.Frames.{frame_bytes}
+use Rattle.droid_frame.specs.declared.frame.Frame.{Frame}
+use Rattle.droid_frame.specs.declared.streams.header.Header.{Header}
+use Rattle.droid_frame.specs.Fields.{u32_bytes, u64_bytes}
+use Rattle.droid_frame.specs.Frames.{frame_bytes}
 use Rattle.droid_frame.specs.Headers.{header_bytes}
 use Rattle.droid_frame.specs.Streams.{IsFrame}
 use Rattle.droid_frame.specs.StreamReads.{IsHeader}
-use Rattle.droid_frame_bodies.proofs.FieldLaws.{IsField, u32_field, u64_field}
+use Rattle.droid_frame.proofs.FieldLaws.{IsField, u32_field, u64_field}
 use Rattle.droid_frame.proofs.BodyLimits.{limit_at_most}
 
 some_is : {A : Type 0} (x y : A) → Some x ≡ Some y → x ≡ y

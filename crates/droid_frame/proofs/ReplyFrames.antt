@@ -3,24 +3,24 @@ use Rattle.std.proofs.Common.{ℕ, ◌<◌, ◌≤◌, Bool, true, false, cond, 
 use Rattle.std.specs.Int.{w16, w32, w64}
 use Rattle.std.specs.List.{AllByRecursion}
 use Rattle.std.proofs.lemmas.List.{length-append}
-use Rattle.droid_frame_bodies.specs.types.hash_kind.HashKind.{HashKind}
-use Rattle.droid_frame_bodies.specs.types.hash_kind.HashKind.TheVariants as kinds
-use Rattle.droid_frame_bodies.specs.types.hash_value.HashValue.{HashValue}
-use Rattle.droid_frame_bodies.specs.types.hash_value.HashValue.TheVariants as values
-use Rattle.droid_frame_bodies.specs.types.method.Method.{Method}
-use Rattle.droid_frame_bodies.specs.types.method.Method.TheVariants.{Unidentified, Signature, Extension}
-use Rattle.droid_frame_bodies.specs.types.refusal.Limit.{Limit}
-use Rattle.droid_frame_bodies.specs.types.refusal.Limit.TheVariants as limits
-use Rattle.droid_frame_bodies.specs.types.refusal.Refusal.{Refusal}
-use Rattle.droid_frame_bodies.specs.types.refusal.Refusal.TheVariants.{Malformed, NumberReused, NoSuchProfile, NoSuchNode, NotAFolder, NotAFile, BadName, PathTooLong, NameTaken, BadOption, TooLarge, AlreadyFinished, BadPiece, PieceHeld, TooFarAhead, Incomplete, LimitReached, Memory, Store}
-use Rattle.droid_frame_bodies.specs.types.reply.Reply.{Reply}
-use Rattle.droid_frame_bodies.specs.types.reply.Reply.TheVariants.{Made, Node, Taken, Finished, Abandoned, Progress, Part, Refused}
-use Rattle.droid_frame_bodies.specs.Fields.{IsBytes, u16_bytes, u32_bytes, u64_bytes, truth_bytes, method_bytes}
-use Rattle.droid_frame_bodies.specs.Hashes.{IsHashValue, hash_bytes, hash_field, hash_kind_bytes, hash_kind_number, hash_value_kind}
-use Rattle.droid_frame_bodies.specs.Refusals.{limit_number}
-use Rattle.droid_frame_bodies.specs.Replies.{HasReplySpelling, IsPuidText, digest_bytes, refusal_bytes, reply_bytes, reply_kind}
+use Rattle.droid_frame.specs.declared.hash_kind.HashKind.{HashKind}
+use Rattle.droid_frame.specs.declared.hash_kind.HashKind.TheVariants as kinds
+use Rattle.droid_frame.specs.declared.hash_value.HashValue.{HashValue}
+use Rattle.droid_frame.specs.declared.hash_value.HashValue.TheVariants as values
+use Rattle.droid_frame.specs.declared.method.Method.{Method}
+use Rattle.droid_frame.specs.declared.method.Method.TheVariants.{Unidentified, Signature, Extension}
+use Rattle.droid_frame.specs.declared.refusal.Limit.{Limit}
+use Rattle.droid_frame.specs.declared.refusal.Limit.TheVariants as limits
+use Rattle.droid_frame.specs.declared.refusal.Refusal.{Refusal}
+use Rattle.droid_frame.specs.declared.refusal.Refusal.TheVariants.{Malformed, NumberReused, NoSuchProfile, NoSuchNode, NotAFolder, NotAFile, BadName, PathTooLong, NameTaken, BadOption, TooLarge, AlreadyFinished, BadPiece, PieceHeld, TooFarAhead, Incomplete, LimitReached, Memory, Store}
+use Rattle.droid_frame.specs.declared.reply.Reply.{Reply}
+use Rattle.droid_frame.specs.declared.reply.Reply.TheVariants.{Made, Node, Taken, Finished, Abandoned, Progress, Part, Refused}
+use Rattle.droid_frame.specs.Fields.{IsBytes, u16_bytes, u32_bytes, u64_bytes, truth_bytes, method_bytes}
+use Rattle.droid_frame.specs.Hashes.{IsHashValue, hash_bytes, hash_field, hash_kind_bytes, hash_kind_number, hash_value_kind}
+use Rattle.droid_frame.specs.Refusals.{limit_number}
+use Rattle.droid_frame.specs.Replies.{HasReplySpelling, IsPuidText, digest_bytes, refusal_bytes, reply_bytes, reply_kind}
 use Rattle.droid_frame.specs.ReplyFrames.{ReplyFramesAreReadable}
-use Rattle.droid_frame_bodies.specs.TextLists.{sized_bytes, texts_bytes}
+use Rattle.droid_frame.specs.TextLists.{sized_bytes, texts_bytes}
 use Rattle.droid_frame.proofs.BodyLimits.{limit_at_least, version_small}
 use Rattle.droid_frame.proofs.ByteLists.{IsBytes-nil, IsBytes-cons, IsBytes-append, number_bytes, text_bytes}
 use Rattle.droid_frame.proofs.ReplyFronts.{puids_are_short}

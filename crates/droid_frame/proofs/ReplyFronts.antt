@@ -3,13 +3,13 @@ use Rattle.std.proofs.Common.{◌≡◌, ℕ, ◌+◌, ◌*◌, ◌<◌, ◌≤�
 use Rattle.std.specs.List.{AllByRecursion}
 use Rattle.std.proofs.lemmas.List.{append-nil, length-append}
 use Rattle.std.proofs.lemmas.List.Folds.{length-flat_map-take}
-use Rattle.droid_frame_bodies.specs.Limits.{puids_limit}
-use Rattle.droid_frame_bodies.specs.types.reply.Reply.{Reply}
-use Rattle.droid_frame_bodies.specs.types.reply.Reply.TheVariants.{Made, Node, Taken, Finished, Abandoned, Progress, Part, Refused}
-use Rattle.droid_frame_bodies.specs.Fields.{u64_bytes}
-use Rattle.droid_frame_bodies.specs.Replies.{HasReplySpelling, IsPuidText, reply_bytes}
+use Rattle.droid_frame.specs.Limits.{puids_limit}
+use Rattle.droid_frame.specs.declared.reply.Reply.{Reply}
+use Rattle.droid_frame.specs.declared.reply.Reply.TheVariants.{Made, Node, Taken, Finished, Abandoned, Progress, Part, Refused}
+use Rattle.droid_frame.specs.Fields.{u64_bytes}
+use Rattle.droid_frame.specs.Replies.{HasReplySpelling, IsPuidText, reply_bytes}
 use Rattle.droid_frame.specs.ReplyFronts.{HasRestSpelling, reply_front, reply_rest}
-use Rattle.droid_frame_bodies.specs.TextLists.{sized_bytes, texts_bytes}
+use Rattle.droid_frame.specs.TextLists.{sized_bytes, texts_bytes}
 
 pub front_and_rest : (version : ℕ) (reply : Reply) → reply_front version reply ++ reply_rest reply ≡ reply_bytes version reply
 front_and_rest version (Made profile) = append-nil _

@@ -5,14 +5,14 @@ use Rattle.std.proofs.KnownBytes.{Appends-trans}
 use Rattle.std.proofs.Math.Seq.{drop-cons}
 use Rattle.std.proofs.lemmas.Grind.{flat_map-append}
 use Rattle.std.proofs.lemmas.List.{append-nil, length-append, take-append-drop}
-use Rattle.droid_frame_bodies.specs.types.reply.Reply.{Reply}
+use Rattle.droid_frame.specs.declared.reply.Reply.{Reply}
 use Rattle.droid_frame.specs.Headers.{header_bytes}
-use Rattle.droid_frame_bodies.specs.Replies.{reply_bytes, reply_kind}
+use Rattle.droid_frame.specs.Replies.{reply_bytes, reply_kind}
 use Rattle.droid_frame.specs.ReplyFrames.{reply_frame}
 use Rattle.droid_frame.specs.ReplyFronts.{reply_front, reply_rest}
 use Rattle.droid_frame.specs.StreamWrites.{Stops}
-use Rattle.droid_frame_stream.specs.Writes.{StopsWithin}
-use Rattle.droid_frame_bodies.specs.TextLists.{sized_bytes, texts_bytes}
+use Rattle.droid_frame.specs.Writes.{StopsWithin}
+use Rattle.droid_frame.specs.TextLists.{sized_bytes, texts_bytes}
 use Rattle.droid_frame.proofs.ReplyFronts.{front_and_rest}
 use Rattle.droid_frame.proofs.StreamWrites.{Sent, sent_nothing, stops_after}
 

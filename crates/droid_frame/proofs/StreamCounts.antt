@@ -1,12 +1,12 @@
 -- The interruptions of one frame are counted over all of its reads.
 use Rattle.std.proofs.Common.{◌≡◌, ℕ, Result, Ok, Err, refl, sym, subst}
 use Rattle.std.specs.Prelude.{IsErrAnd, IsErrOf}
-use Rattle.droid_frame.specs.declared.stream.arrival.Arrival.{Arrival}
-use Rattle.droid_frame.specs.declared.stream.fault.FrameFault.{FrameFault}
-use Rattle.droid_frame.specs.declared.stream.fault.FrameFault.TheVariants.{Truncated, BadVersion, TooLong, Memory, Read}
-use Rattle.droid_frame_stream.specs.declared.stream_record.Seen.{Seen}
-use Rattle.droid_frame_stream.specs.Seen.{Counts, ReportsFault}
-use Rattle.droid_frame_stream.proofs.Scopes.{reported_fault, reported_none}
+use Rattle.droid_frame.specs.declared.streams.arrival.Arrival.{Arrival}
+use Rattle.droid_frame.specs.declared.streams.fault.FrameFault.{FrameFault}
+use Rattle.droid_frame.specs.declared.streams.fault.FrameFault.TheVariants.{Truncated, BadVersion, TooLong, Memory, Read}
+use Rattle.droid_frame.specs.declared.io.stream_record.Seen.{Seen}
+use Rattle.droid_frame.specs.Seen.{Counts, ReportsFault}
+use Rattle.droid_frame.proofs.Scopes.{reported_fault, reported_none}
 use Rattle.droid_frame.specs.StreamReads.{FaultCounts, ReadsOn}
 
 -- what `?` passes on

@@ -1,10 +1,10 @@
 -- What a frame that was written in parts says of its writer.
 use Rattle.std.proofs.Common.{◌≡◌, ℕ, ◌+◌, ◌-◌, ◌<◌, ◌≤◌, List, length, Option, Result, Ok, Err, OnOk, IfErr, IsErr, refl, sym, subst, arith}
 use Rattle.std.specs.Prelude.{IsErrAnd}
-use Rattle.droid_frame_stream.specs.declared.stream_fault.WriteFault.{WriteFault}
-use Rattle.droid_frame_stream.specs.declared.stream_record.Seen.{Seen}
-use Rattle.droid_frame_stream.specs.Writes.{StopsWithin, Takes, ReportsWrite, WriterStops, WritesOn}
-use Rattle.droid_frame_stream.proofs.Stopping.{takes_more, reported_all, reported_stop}
+use Rattle.droid_frame.specs.declared.io.stream_fault.WriteFault.{WriteFault}
+use Rattle.droid_frame.specs.declared.io.stream_record.Seen.{Seen}
+use Rattle.droid_frame.specs.Writes.{StopsWithin, Takes, ReportsWrite, WriterStops, WritesOn}
+use Rattle.droid_frame.proofs.Stopping.{takes_more, reported_all, reported_stop}
 
 -- some bytes went out before a fault
 pub takes_before : (before mid after : Option ℕ) (sent written : ℕ) → Takes before mid sent → Takes mid after (written - sent) → sent ≤ written → Takes before after written

@@ -3,17 +3,17 @@ use Rattle.std.proofs.Common.{◌≡◌, ℕ, ◌<◌, ◌≤◌, Bool, true, fa
 use Rattle.std.proofs.lemmas.Bool.{lt-ltb, le-ltb, ne_eqb}
 use Rattle.std.proofs.lemmas.List.{length-append}
 use Rattle.std.proofs.lemmas.Nat.{from_be_bytes-to_be_bytes_4}
-use Rattle.droid_frame_bodies.specs.types.frame.Frame.{Frame}
-use Rattle.droid_frame_bodies.specs.Limits.{body_limit}
-use Rattle.droid_frame.specs.declared.stream.arrival.Arrival.TheVariants as arrivals
-use Rattle.droid_frame.specs.declared.stream.fault.FrameFault.{FrameFault}
-use Rattle.droid_frame.specs.declared.stream.fault.FrameFault.TheVariants.{Truncated, BadVersion, TooLong}
-use Rattle.droid_frame.specs.declared.stream.header.Header.{Header}
-use Rattle.droid_frame_bodies.specs.Frames.{frame_bytes}
+use Rattle.droid_frame.specs.declared.frame.Frame.{Frame}
+use Rattle.droid_frame.specs.Limits.{body_limit}
+use Rattle.droid_frame.specs.declared.streams.arrival.Arrival.TheVariants as arrivals
+use Rattle.droid_frame.specs.declared.streams.fault.FrameFault.{FrameFault}
+use Rattle.droid_frame.specs.declared.streams.fault.FrameFault.TheVariants.{Truncated, BadVersion, TooLong}
+use Rattle.droid_frame.specs.declared.streams.header.Header.{Header}
+use Rattle.droid_frame.specs.Frames.{frame_bytes}
 use Rattle.droid_frame.specs.Headers.{header_bytes}
 use Rattle.droid_frame.specs.Streams.{IsFrame, BeginsNoFrame, header_size, version_in, length_in, why}
 use Rattle.droid_frame.specs.StreamReads.{IsHeader, judged}
-use Rattle.droid_frame_bodies.specs.Versions.{is_version}
+use Rattle.droid_frame.specs.Versions.{is_version}
 use Rattle.droid_frame.proofs.BodyLimits.{version_not}
 use Rattle.droid_frame.proofs.FrameLaws.{reported_header, header_of, header_of-is}
 

@@ -4,18 +4,18 @@ use Rattle.std.specs.Int.{w32, w64, from_be_bytes}
 use Rattle.std.specs.List.{flat_map}
 use Rattle.std.proofs.lemmas.Bool.{le-ltb, ltb-true, ltb-false, cases_lt}
 use Rattle.std.proofs.lemmas.List.{length-append, length-take, take-append-drop}
-use Rattle.droid_frame_bodies.specs.types.frame.Frame.{Frame}
-use Rattle.droid_frame_bodies.specs.Limits.{body_limit}
-use Rattle.droid_frame.specs.declared.stream.fault.FrameFault.{FrameFault}
-use Rattle.droid_frame.specs.declared.stream.header.Header.{Header}
-use Rattle.droid_frame_bodies.specs.Fields.{IsBytes, u32_bytes, u64_bytes}
-use Rattle.droid_frame_bodies.specs.Frames.{frame_bytes}
-use Rattle.droid_frame_bodies.specs.Versions.{is_version}
+use Rattle.droid_frame.specs.declared.frame.Frame.{Frame}
+use Rattle.droid_frame.specs.Limits.{body_limit}
+use Rattle.droid_frame.specs.declared.streams.fault.FrameFault.{FrameFault}
+use Rattle.droid_frame.specs.declared.streams.header.Header.{Header}
+use Rattle.droid_frame.specs.Fields.{IsBytes, u32_bytes, u64_bytes}
+use Rattle.droid_frame.specs.Frames.{frame_bytes}
+use Rattle.droid_frame.specs.Versions.{is_version}
 use Rattle.droid_frame.specs.Headers.{header_bytes}
 use Rattle.droid_frame.specs.Streams.{IsReadable, BeginsNoFrame, Frames, header_size}
 use Rattle.droid_frame.specs.StreamReads.{IsHeader, judged}
 use Rattle.droid_frame.specs.StreamLaws.{HasFrames}
-use Rattle.droid_frame_bodies.proofs.FieldLaws.{IsFront, u32_field, u64_field, IsBytes-take, IsBytes-drop, IsBytes-rest}
+use Rattle.droid_frame.proofs.FieldLaws.{IsFront, u32_field, u64_field, IsBytes-take, IsBytes-drop, IsBytes-rest}
 use Rattle.droid_frame.proofs.FrameLaws.{reported_frame}
 use Rattle.droid_frame.proofs.StreamFrames.{Judged, other_version, too_long, good, judged_is, no_frame_in_short, no_frame_of_version, no_frame_too_long, no_frame_cut}
 use Rattle.droid_frame.proofs.StreamArrivals.{made}

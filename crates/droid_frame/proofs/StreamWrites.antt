@@ -6,7 +6,7 @@ use Rattle.std.proofs.KnownBytes.{Appends-nil, Appends-trans}
 use Rattle.std.proofs.Math.Seq.{take-append-add}
 use Rattle.std.proofs.lemmas.List.{take-append-le, length-append}
 use Rattle.droid_frame.specs.StreamWrites.{Stops}
-use Rattle.droid_frame_stream.specs.Writes.{StopsWithin}
+use Rattle.droid_frame.specs.Writes.{StopsWithin}
 
 -- ---- the parts of a frame, one after the other
 

@@ -1,7 +1,7 @@
 -- The bytes of a frame's header (this project's own).
 use Rattle.std.specs.Prelude.{ℕ, List, ◌∷◌, ◌++◌}
-use Rattle.droid_frame.specs.declared.stream.header.Header.{Header}
-use Rattle.droid_frame_bodies.specs.Fields.{u32_bytes, u64_bytes}
+use Rattle.droid_frame.specs.declared.streams.header.Header.{Header}
+use Rattle.droid_frame.specs.Fields.{u32_bytes, u64_bytes}
 
 -- version, kind, client, number, the length of the body
 abbrev pub header_bytes : Header → List ℕ

@@ -1,8 +1,8 @@
 -- Laws of the frames of a stream.
 use Rattle.std.specs.Prelude.{◌≡◌, ℕ, List, ◌++◌}
-use Rattle.droid_frame_bodies.specs.types.frame.Frame.{Frame}
-use Rattle.droid_frame_bodies.specs.Fields.{IsBytes}
-use Rattle.droid_frame_bodies.specs.Frames.{frame_bytes}
+use Rattle.droid_frame.specs.declared.frame.Frame.{Frame}
+use Rattle.droid_frame.specs.Fields.{IsBytes}
+use Rattle.droid_frame.specs.Frames.{frame_bytes}
 use Rattle.droid_frame.specs.Streams.{IsFrame, Frames}
 
 -- if one input begins with the spellings of two frames, the frames are equal, and so are the bytes after them
@@ -24,5 +24,6 @@ EachStreamHasFrames = (stream : List ℕ) → IsBytes stream → HasFrames strea
 -- no stream has two different lists of frames, or two different rests
 abbrev pub NoStreamHasOthers : Type 0
 NoStreamHasOthers =
-    (stream : List ℕ) (first second : List Frame) (rest more : List ℕ) → Frames stream first rest → Frames stream second more
+    (stream : List ℕ) (first second : List Frame) (rest more : List ℕ) → Frames stream first rest
+    → Frames stream second more
     → (first ≡ second) × (rest ≡ more)

@@ -1,19 +1,21 @@
 -- The bytes that reading one frame consumes, for each result.
-use Rattle.std.specs.Prelude.{◌≡◌, ℕ, ◌+◌, ◌<◌, ◌≤◌, ◌^◌, nat_lt, if◌then◌else◌, ◌⊎◌, List, [], Option, Some, None, IfSome, Result, Ok, Err, length}
+use Rattle.std.specs.Prelude.{◌≡◌, ℕ, ◌+◌, ◌<◌, ◌≤◌, ◌^◌, nat_lt, if◌then◌else◌, ◌⊎◌, List, [], Option, Some, None}
+use Rattle.std.specs.Prelude.{IfSome, Result, Ok, Err, length}
 use Rattle.std.specs.Io.KnownBytes.{Consumes, IsAtEnd}
-use Rattle.droid_frame_bodies.specs.Limits.{body_limit}
-use Rattle.droid_frame.specs.declared.stream.arrival.Arrival.{Arrival}
-use Rattle.droid_frame.specs.declared.stream.arrival.Arrival.TheVariants as arrivals
-use Rattle.droid_frame.specs.declared.stream.fault.FrameFault.{FrameFault}
-use Rattle.droid_frame.specs.declared.stream.fault.FrameFault.TheVariants.{Truncated, BadVersion, TooLong, Memory, Read}
-use Rattle.droid_frame.specs.declared.stream.header.Header.{Header}
-use Rattle.droid_frame_bodies.specs.Fields.{IsBytes, IsU32}
-use Rattle.droid_frame_bodies.specs.Frames.{frame_bytes}
-use Rattle.droid_frame_bodies.specs.Versions.{IsVersion, is_version}
+use Rattle.droid_frame.specs.Limits.{body_limit}
+use Rattle.droid_frame.specs.declared.streams.arrival.Arrival.{Arrival}
+use Rattle.droid_frame.specs.declared.streams.arrival.Arrival.TheVariants as arrivals
+use Rattle.droid_frame.specs.declared.streams.fault.FrameFault.{FrameFault}
+use Rattle.droid_frame.specs.declared.streams.fault.FrameFault.TheVariants.{Truncated, BadVersion, TooLong, Memory}
+use Rattle.droid_frame.specs.declared.streams.fault.FrameFault.TheVariants.{Read}
+use Rattle.droid_frame.specs.declared.streams.header.Header.{Header}
+use Rattle.droid_frame.specs.Fields.{IsBytes, IsU32}
+use Rattle.droid_frame.specs.Frames.{frame_bytes}
+use Rattle.droid_frame.specs.Versions.{IsVersion, is_version}
 use Rattle.droid_frame.specs.Headers.{header_bytes}
-use Rattle.droid_frame_stream.specs.declared.stream_record.Seen.{Seen}
-use Rattle.droid_frame_stream.specs.Reads.{ConsumesFewer}
-use Rattle.droid_frame_stream.specs.Seen.{Counts, GivesUp}
+use Rattle.droid_frame.specs.declared.io.stream_record.Seen.{Seen}
+use Rattle.droid_frame.specs.Reads.{ConsumesFewer}
+use Rattle.droid_frame.specs.Seen.{Counts, GivesUp}
 use Rattle.droid_frame.specs.Streams.{IsReadable, BeginsNoFrame, header_size, version_in, length_in, why}
 
 -- the reader consumed all that was left: at least `least` bytes, and fewer than `wanted`
@@ -124,7 +126,8 @@ ReadsOn start seen count (Err fault) = FaultCounts start seen count fault
 -- the length that a header announces, or its fault: the version is checked first, then the length
 unfoldable pub judged : Header → Result ℕ FrameFault
 judged header =
-    if is_version header.version then (if nat_lt (body_limit header.version) header.length then Err TooLong else Ok header.length)
+    if is_version header.version
+    then (if nat_lt (body_limit header.version) header.length then Err TooLong else Ok header.length)
     else Err BadVersion
 
 -- the whole effect of reading one frame

@@ -1,16 +1,17 @@
 -- The frames of a stream, and the way a stream ends (this project's own).
-use Rattle.std.specs.Prelude.{◌≡◌, ℕ, ◌<◌, ◌≤◌, ◌^◌, ◌==◌, nat_lt, if◌then◌else◌, List, ◌++◌, length, take, drop, slice_index, Result, Ok, Err}
+use Rattle.std.specs.Prelude.{◌≡◌, ℕ, ◌<◌, ◌≤◌, ◌^◌, ◌==◌, nat_lt, if◌then◌else◌, List, ◌++◌, length, take, drop}
+use Rattle.std.specs.Prelude.{slice_index, Result, Ok, Err}
 use Rattle.std.specs.Int.{w32, from_be_bytes}
 use Rattle.std.specs.List.{AllByRecursion, flat_map}
-use Rattle.droid_frame_bodies.specs.types.frame.Frame.{Frame}
-use Rattle.droid_frame_bodies.specs.Limits.{body_limit}
-use Rattle.droid_frame.specs.declared.stream.arrival.Arrival.{Arrival}
-use Rattle.droid_frame.specs.declared.stream.arrival.Arrival.TheVariants.{End}
-use Rattle.droid_frame.specs.declared.stream.fault.FrameFault.{FrameFault}
-use Rattle.droid_frame.specs.declared.stream.fault.FrameFault.TheVariants.{Truncated, BadVersion, TooLong}
-use Rattle.droid_frame_bodies.specs.Fields.{IsBytes, IsU32}
-use Rattle.droid_frame_bodies.specs.Frames.{frame_bytes}
-use Rattle.droid_frame_bodies.specs.Versions.{IsVersion, is_version}
+use Rattle.droid_frame.specs.declared.frame.Frame.{Frame}
+use Rattle.droid_frame.specs.Limits.{body_limit}
+use Rattle.droid_frame.specs.declared.streams.arrival.Arrival.{Arrival}
+use Rattle.droid_frame.specs.declared.streams.arrival.Arrival.TheVariants.{End}
+use Rattle.droid_frame.specs.declared.streams.fault.FrameFault.{FrameFault}
+use Rattle.droid_frame.specs.declared.streams.fault.FrameFault.TheVariants.{Truncated, BadVersion, TooLong}
+use Rattle.droid_frame.specs.Fields.{IsBytes, IsU32}
+use Rattle.droid_frame.specs.Frames.{frame_bytes}
+use Rattle.droid_frame.specs.Versions.{IsVersion, is_version}
 
 -- each field is in its range, and the body is within the limit of the frame's version
 pub record IsFrame (frame : Frame) : Type 0 where
@@ -52,5 +53,6 @@ unfoldable pub why : List ℕ → Result Arrival FrameFault
 why rest =
     if length rest == 0 then Ok End
     else if nat_lt (length rest) header_size then Err Truncated
-    else if is_version (version_in rest) then (if nat_lt (body_limit (version_in rest)) (length_in rest) then Err TooLong else Err Truncated)
+    else if is_version (version_in rest)
+    then (if nat_lt (body_limit (version_in rest)) (length_in rest) then Err TooLong else Err Truncated)
     else Err BadVersion

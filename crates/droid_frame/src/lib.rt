@@ -1,24 +1,68 @@
-//! Frames, and streams of frames.
+//! Frames: requests and replies as bytes, and streams of them.
 //!
-//! A frame carries one request or reply as bytes. This crate makes frames of requests and replies, and reads and writes
-//! frames on streams. It re-exports the values and the readers of bodies from the crates below.
+//! A frame carries one request or reply. The values that it carries are at the top; `reading` makes them of the bytes
+//! of a frame, `writing` makes frames of them, and `streams` reads and writes frames on streams. `io` has what reads
+//! and writes on streams that may be interrupted or fail.
 #![tactic(auto)]
 
+mod blob;
+mod body_fault;
+pub mod body_laws;
+mod criteria;
+mod criterion;
+mod filter;
+mod frame;
+mod hash_kind;
+mod hash_value;
+mod io;
+pub mod kinds;
 pub mod laws;
-mod replies;
-mod requests;
-mod stream;
-mod text_writer;
+mod lengths;
+pub mod limit_laws;
+mod method;
+mod node_kind;
+mod reading;
+mod record;
+mod refusal;
+mod reply;
+mod request;
+mod running_hash;
+mod streams;
+mod text;
+mod texts;
+mod versions;
+mod writing;
 
-pub use droid_frame_bodies::{
-    Blob, BodyFault, Criteria, Criterion, Filter, Frame, HashKind, HashValue, Limit, Method,
-    NUMBER_LIMIT, NodeKind, PART_LIMIT, Record, Refusal, Reply, Request, Text, Texts, body_limit,
-    is_version, mark, reply_of, request_of,
+pub use blob::Blob;
+pub use body_fault::BodyFault;
+pub use criteria::Criteria;
+pub use criterion::Criterion;
+pub use filter::Filter;
+pub use frame::{Frame, NUMBER_LIMIT, mark};
+pub use hash_kind::HashKind;
+pub use hash_value::HashValue;
+pub use io::buffer::{fill, read_some};
+pub use io::input::read_to_end;
+pub use io::output::{WriteState, write_all};
+pub use io::recorded_stream::Noted;
+pub use io::retries::Retries;
+pub use io::steady::{SteadyRead, SteadyWrite};
+pub use io::stream_fault::{InputFault, ReadFault, WriteFault};
+pub use io::stream_record::{Condition, Seen};
+pub use method::Method;
+pub use node_kind::NodeKind;
+pub use reading::replies::reply_of;
+pub use reading::requests::request_of;
+pub use record::Record;
+pub use refusal::{Limit, Refusal};
+pub use reply::{PART_LIMIT, Reply};
+pub use request::Request;
+pub use running_hash::RunningHash;
+pub use streams::{
+    Arrival, FrameFault, HEADER_LENGTH, Header, read_frame, write_frame, write_reply,
 };
-pub use droid_frame_stream::{
-    Condition, InputFault, Noted, ReadFault, Retries, Seen, SteadyRead, SteadyWrite, WriteFault,
-    WriteState, read_some, read_to_end, write_all,
-};
-pub use replies::{reply_body, reply_body_len};
-pub use requests::request_frame;
-pub use stream::{Arrival, FrameFault, HEADER_LENGTH, read_frame, write_frame, write_reply};
+pub use text::Text;
+pub use texts::Texts;
+pub use versions::{body_limit, is_version};
+pub use writing::replies::{reply_body, reply_body_len};
+pub use writing::requests::request_frame;

@@ -3,13 +3,13 @@ use Rattle.std.specs.Prelude.{ℕ, Bool, false, List, [], ◌++◌, length, flat
 use Rattle.sha2.specs.Hashers.{Holds256}
 use Rattle.droid_frame.specs.Fields.{u64_bytes}
 use Rattle.droid_frame.specs.Hashes.{hash}
-use Rattle.droid_frame.specs.types.hash_kind.HashKind.TheVariants.{Sha256}
-use Rattle.droid_frame.specs.types.hash_value.HashValue.{HashValue}
-use Rattle.droid_frame.specs.types.hash_value.HashValue.TheVariants as values
-use Rattle.droid_frame.specs.types.method.Method.{Method}
-use Rattle.droid_frame.specs.types.method.Method.TheVariants.{Unidentified}
-use Rattle.droid_frame.specs.types.reply.Reply.{Reply}
-use Rattle.droid_frame.specs.types.reply.Reply.TheVariants as replies
+use Rattle.droid_frame.specs.declared.hash_kind.HashKind.TheVariants.{Sha256}
+use Rattle.droid_frame.specs.declared.hash_value.HashValue.{HashValue}
+use Rattle.droid_frame.specs.declared.hash_value.HashValue.TheVariants as values
+use Rattle.droid_frame.specs.declared.method.Method.{Method}
+use Rattle.droid_frame.specs.declared.method.Method.TheVariants.{Unidentified}
+use Rattle.droid_frame.specs.declared.reply.Reply.{Reply}
+use Rattle.droid_frame.specs.declared.reply.Reply.TheVariants as replies
 use Rattle.droid_hash.specs.declared.finding.Finding.{Finding}
 use Rattle.droid_hash.specs.declared.finding.RunningPuids.{RunningPuids}
 
@@ -30,7 +30,8 @@ abbrev pub CoversPuids : RunningPuids → List (List ℕ) → Type 0
 CoversPuids running puids = Holds256 running.hasher (puids_text puids)
 
 abbrev pub finding_by : Method → Bool → HashValue → List (List ℕ) → Finding
-finding_by method mismatch hash puids = record { method = method; mismatch = mismatch; hash = hash; formats = length puids; puids = puids_digest puids }
+finding_by method mismatch hash puids =
+    record { method = method; mismatch = mismatch; hash = hash; formats = length puids; puids = puids_digest puids }
 
 -- a folder, or a file of which nothing is known
 abbrev pub no_finding : Finding

@@ -1,2 +1,10 @@
+pub mod Ends
 pub mod Findings
-pub mod Hashing
+pub mod Halves
+pub mod Lanes
+pub mod Md5
+pub mod Pieces
+pub mod Rooms
+pub mod Scanning
+pub mod Sha256
+pub mod Tails

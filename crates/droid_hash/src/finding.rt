@@ -39,7 +39,8 @@ impl RunningPuids {
 
     /// Adds the next PUID.
     pub fn add(&mut self, puid: &[u8])
-        ensures { (before : List (List ℕ)) → CoversPuids self.old before → CoversPuids self.new (before ++ puid.now ∷ []) }
+        ensures { (before : List (List ℕ)) → CoversPuids self.old before
+            → CoversPuids self.new (before ++ puid.now ∷ []) }
     {
         let length = puid.len() as u64;
         self.hasher.update(&length.to_be_bytes());

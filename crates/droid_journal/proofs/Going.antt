@@ -1,14 +1,14 @@
 -- Records at the front of bytes that are handed to a machine one after another.
 use Rattle.std.proofs.Common.{◌≡◌, ℕ, ◌+◌, ◌<◌, ◌≤◌, Bool, List, [], ◌∷◌, ◌++◌, length, refl, sym, ap, subst, ◌∙◌, append_assoc, arith}
 use Rattle.std.proofs.lemmas.List.{append-nil, length-append}
-use Rattle.droid_frame.specs.types.frame.Frame.{Frame}
-use Rattle.droid_frame.specs.types.reply.Reply.{Reply}
-use Rattle.droid_journal_chain.specs.Chains.{BeginsNoRecord, BeginsWith, chain_bytes, place_behind}
-use Rattle.droid_journal_chain.specs.Records.{AllFit, Record, place_after, record_bytes}
-use Rattle.droid_journal_chain.specs.declared.key.Key.{Key}
-use Rattle.droid_journal_chain.specs.declared.place.Place.{Place}
-use Rattle.droid_journal_chain.proofs.Chains.{at_behind, chain_append, chain_long, fit_append, place_append, records_behind}
-use Rattle.droid_journal_chain.proofs.RecordLaws.{record_within}
+use Rattle.droid_frame.specs.declared.frame.Frame.{Frame}
+use Rattle.droid_frame.specs.declared.reply.Reply.{Reply}
+use Rattle.droid_journal.specs.Chains.{BeginsNoRecord, BeginsWith, chain_bytes, place_behind}
+use Rattle.droid_journal.specs.Records.{AllFit, Record, place_after, record_bytes}
+use Rattle.droid_journal.specs.declared.records.key.Key.{Key}
+use Rattle.droid_journal.specs.declared.records.place.Place.{Place}
+use Rattle.droid_journal.proofs.Chains.{at_behind, chain_append, chain_long, fit_append, place_append, records_behind}
+use Rattle.droid_journal.proofs.RecordLaws.{record_within}
 use Rattle.droid_journal.specs.Replaying.{Fails, Gave, GaveOne, Refutes, Replays}
 use Rattle.droid_journal.proofs.Handing.{gave_append}
 

@@ -4,14 +4,14 @@ use Rattle.std.specs.Prelude.{MatchBool}
 use Rattle.std.proofs.lemmas.Bool.{cases_lt}
 use Rattle.std.proofs.lemmas.List.{append-nil, length-append, length-take, length-drop, take-append-drop, drop-append-le, drop_at, drop-drop, drop-take, take_all}
 use Rattle.std.proofs.Math.Seq.{take-append-add}
-use Rattle.droid_frame.specs.types.frame.Frame.{Frame}
-use Rattle.droid_frame.specs.types.reply.Reply.{Reply}
-use Rattle.droid_journal_chain.specs.Chains.{BeginsNoRecord, HasLater, IsLater, IsMark, StandsLater, chain_bytes, place_behind, place_with}
-use Rattle.droid_journal_chain.specs.Records.{Record, has_marks, place_after, record_bytes, turn_mark}
-use Rattle.droid_journal_chain.specs.declared.key.Key.{Key}
-use Rattle.droid_journal_chain.specs.declared.place.Place.{Place}
-use Rattle.droid_journal_chain.proofs.Chains.{at_behind, chain_append, fit_append, none_within, place_append, records_behind}
-use Rattle.droid_journal_chain.proofs.RecordLaws.{length-mark, record_within, stands_short}
+use Rattle.droid_frame.specs.declared.frame.Frame.{Frame}
+use Rattle.droid_frame.specs.declared.reply.Reply.{Reply}
+use Rattle.droid_journal.specs.Chains.{BeginsNoRecord, HasLater, IsLater, IsMark, StandsLater, chain_bytes, place_behind, place_with}
+use Rattle.droid_journal.specs.Records.{Record, has_marks, place_after, record_bytes, turn_mark}
+use Rattle.droid_journal.specs.declared.records.key.Key.{Key}
+use Rattle.droid_journal.specs.declared.records.place.Place.{Place}
+use Rattle.droid_journal.proofs.Chains.{at_behind, chain_append, fit_append, none_within, place_append, records_behind}
+use Rattle.droid_journal.proofs.RecordLaws.{length-mark, record_within, stands_short}
 use Rattle.droid_journal.specs.Opening.{Hands, StandIn}
 use Rattle.droid_journal.specs.Replaying.{Fails, Gave, Refutes, Replays}
 

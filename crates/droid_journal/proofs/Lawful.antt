@@ -3,12 +3,12 @@ use Rattle.std.proofs.Common.{◌≡◌, ℕ, ◌+◌, ◌<◌, ◌≤◌, Bool,
 use Rattle.std.specs.List.{AllByRecursion}
 use Rattle.std.proofs.lemmas.Bool.{cases_lt}
 use Rattle.std.proofs.lemmas.List.{drop-drop, drop_at, length-append, take-append-drop, take-append-le, take_at}
-use Rattle.droid_journal_chain.specs.Chains.{Chain, HasLater, NoneLaterByChance, ShowsDamage, StandsLater, WasBegun, form_of, journal_bytes, key_of, last_place, skipped}
-use Rattle.droid_journal_chain.specs.Fronts.{IsFront}
-use Rattle.droid_journal_chain.specs.Records.{AllFit, Record, by_form}
-use Rattle.droid_journal_chain.specs.declared.key.Form.{Form}
-use Rattle.droid_journal_chain.specs.declared.key.Form.TheVariants as forms
-use Rattle.droid_journal_chain.proofs.Chains.{journal_front, last_at, synced_is_read}
+use Rattle.droid_journal.specs.Chains.{Chain, HasLater, NoneLaterByChance, ShowsDamage, StandsLater, WasBegun, form_of, journal_bytes, key_of, last_place, skipped}
+use Rattle.droid_journal.specs.Fronts.{IsFront}
+use Rattle.droid_journal.specs.Records.{AllFit, Record, by_form}
+use Rattle.droid_journal.specs.declared.records.key.Form.{Form}
+use Rattle.droid_journal.specs.declared.records.key.Form.TheVariants as forms
+use Rattle.droid_journal.proofs.Chains.{journal_front, last_at, synced_is_read}
 use Rattle.droid_journal.specs.Turns.{IsTurn}
 
 abbrev AreOthers : List Record → Type 0

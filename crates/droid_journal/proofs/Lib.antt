@@ -1,7 +1,14 @@
-pub mod Standing
-pub mod Handing
+pub mod Bytes
+pub mod Chains
+pub mod Changes
+pub mod Fronts
 pub mod Going
-pub mod Openings
+pub mod Handing
+pub mod HeaderLaws
 pub mod Lawful
 pub mod Marks
+pub mod Openings
+pub mod Parts
+pub mod RecordLaws
 pub mod Rooms
+pub mod Standing

@@ -2,17 +2,17 @@
 use Rattle.std.proofs.Common.{◌≡◌, ℕ, ◌+◌, ◌*◌, ◌<◌, ◌≤◌, Bool, true, false, List, [], ◌∷◌, ◌++◌, length, take, drop, refl, sym, ap, subst, ◌∙◌, append_assoc, arith, inl, inr}
 use Rattle.std.specs.Prelude.{if◌then◌else◌}
 use Rattle.std.proofs.lemmas.List.{append-nil, drop-drop, length-append, length-take, take_all, take_at, drop_at, take-take, take-append-drop}
-use Rattle.droid_frame.specs.types.frame.Frame.{Frame}
-use Rattle.droid_frame.specs.types.reply.Reply.{Reply}
-use Rattle.droid_journal_chain.specs.Chains.{BeginsNoRecord, Chain, HasLater, IsMark, NotByChance, ShowsDamage, chain_bytes, first_place, form_of, journal_bytes, key_of, last_place, marked_bytes, place_behind, skipped}
-use Rattle.droid_journal_chain.specs.Fronts.{IsFront}
-use Rattle.droid_journal_chain.specs.Records.{AllFit, Record, by_form, turn_mark}
-use Rattle.droid_journal_chain.specs.declared.key.Form.{Form}
-use Rattle.droid_journal_chain.specs.declared.key.Form.TheVariants as forms
-use Rattle.droid_journal_chain.specs.declared.key.Key.{Key}
-use Rattle.droid_journal_chain.specs.declared.place.Place.{Place}
-use Rattle.droid_journal_chain.proofs.Chains.{chain_long, journal_append, last_at, last_count, read_is_written, synced_is_read}
-use Rattle.droid_journal_chain.proofs.RecordLaws.{length-mark}
+use Rattle.droid_frame.specs.declared.frame.Frame.{Frame}
+use Rattle.droid_frame.specs.declared.reply.Reply.{Reply}
+use Rattle.droid_journal.specs.Chains.{BeginsNoRecord, Chain, HasLater, IsMark, NotByChance, ShowsDamage, chain_bytes, first_place, form_of, journal_bytes, key_of, last_place, marked_bytes, place_behind, skipped}
+use Rattle.droid_journal.specs.Fronts.{IsFront}
+use Rattle.droid_journal.specs.Records.{AllFit, Record, by_form, turn_mark}
+use Rattle.droid_journal.specs.declared.records.key.Form.{Form}
+use Rattle.droid_journal.specs.declared.records.key.Form.TheVariants as forms
+use Rattle.droid_journal.specs.declared.records.key.Key.{Key}
+use Rattle.droid_journal.specs.declared.records.place.Place.{Place}
+use Rattle.droid_journal.proofs.Chains.{chain_long, journal_append, last_at, last_count, read_is_written, synced_is_read}
+use Rattle.droid_journal.proofs.RecordLaws.{length-mark}
 use Rattle.droid_journal.specs.Opening.{Begun, HandedOn, Hands, HasHeader, IsBegun, IsKept, IsReady, ReadsAll, Records, WasFound, WasRefuted}
 use Rattle.droid_journal.specs.Faults.{IsOfReading}
 use Rattle.droid_journal.specs.Replaying.{Fails}

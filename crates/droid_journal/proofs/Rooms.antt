@@ -5,7 +5,7 @@ use Rattle.droid_frame.specs.Replies.{HasReplySpelling}
 use Rattle.droid_frame.specs.ReplyFrames.{reply_frame}
 use Rattle.droid_frame.specs.Seen.{GivesUp, fresh}
 use Rattle.droid_frame.specs.Writes.{ReportsWrite}
-use Rattle.droid_frame.specs.types.reply.Reply.{Reply}
+use Rattle.droid_frame.specs.declared.reply.Reply.{Reply}
 use Rattle.droid_frame.proofs.ReplyFrames.{reply_is_short}
 
 pub reply_long : (version client number : ℕ) (reply : Reply) → HasReplySpelling version reply → length (reply_frame version client number reply) ≤ 1048658

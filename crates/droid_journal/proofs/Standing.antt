@@ -3,15 +3,15 @@ use Rattle.std.proofs.Common.{◌≡◌, ℕ, Bool, true, false, List, [], ◌�
 use Rattle.std.specs.Prelude.{if◌then◌else◌}
 use Rattle.std.specs.List.{AllByRecursion}
 use Rattle.std.proofs.lemmas.List.{append-nil, drop_at}
-use Rattle.droid_journal_chain.specs.Chains.{first_place, form_of, journal_bytes, key_of, last_place}
-use Rattle.droid_journal_chain.specs.Fronts.{IsFront}
-use Rattle.droid_journal_chain.specs.Records.{AllFit, Fits, Record, by_form, front_by, front_bytes, body, mark_at, next_check, place_after, record_bytes, turn_mark}
-use Rattle.droid_journal_chain.specs.declared.key.Form.{Form}
-use Rattle.droid_journal_chain.specs.declared.key.Form.TheVariants as forms
-use Rattle.droid_journal_chain.specs.declared.key.Key.{Key}
-use Rattle.droid_journal_chain.specs.declared.place.Place.{Place}
-use Rattle.droid_journal_chain.proofs.Chains.{fit_append, journal_one, last_one}
-use Rattle.droid_journal_chain.proofs.RecordLaws.{length-mark}
+use Rattle.droid_journal.specs.Chains.{first_place, form_of, journal_bytes, key_of, last_place}
+use Rattle.droid_journal.specs.Fronts.{IsFront}
+use Rattle.droid_journal.specs.Records.{AllFit, Fits, Record, by_form, front_by, front_bytes, body, mark_at, next_check, place_after, record_bytes, turn_mark}
+use Rattle.droid_journal.specs.declared.records.key.Form.{Form}
+use Rattle.droid_journal.specs.declared.records.key.Form.TheVariants as forms
+use Rattle.droid_journal.specs.declared.records.key.Key.{Key}
+use Rattle.droid_journal.specs.declared.records.place.Place.{Place}
+use Rattle.droid_journal.proofs.Chains.{fit_append, journal_one, last_one}
+use Rattle.droid_journal.proofs.RecordLaws.{length-mark}
 use Rattle.droid_journal.specs.Standing.{AreOnDisk, Stands, ahead_bytes}
 use Rattle.droid_journal.specs.Turns.{IsTurn}
 use Rattle.droid_journal.specs.declared.journal.Journal.{Journal}

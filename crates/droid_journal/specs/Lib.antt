@@ -1,8 +1,14 @@
--- What a journal keeps, and what comes of it after a crash.
+pub mod Chains
+pub mod Changes
 pub mod Faults
+pub mod Fronts
+pub mod Headers
 pub mod Machines
-pub mod Turns
-pub mod Standing
-pub mod Rooms
-pub mod Replaying
 pub mod Opening
+pub mod Reading
+pub mod Records
+pub mod Replaying
+pub mod Rooms
+pub mod Saved
+pub mod Standing
+pub mod Turns

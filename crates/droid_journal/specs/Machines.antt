@@ -2,12 +2,12 @@
 use Rattle.std.specs.Prelude.{◌≡◌, if◌then◌else◌, Bool, false, List, [], ◌∷◌, ◌++◌, ◌⊎◌}
 use Rattle.droid_frame.specs.Frames.{frame_bytes}
 use Rattle.droid_frame.specs.ReplyFrames.{reply_frame}
-use Rattle.droid_frame.specs.types.frame.Frame.{Frame}
+use Rattle.droid_frame.specs.declared.frame.Frame.{Frame}
 use Rattle.droid_frame.specs.Streams.{IsReadable}
-use Rattle.droid_frame.specs.types.refusal.Refusal.TheVariants.{Malformed, Memory}
-use Rattle.droid_frame.specs.types.reply.Reply.{Reply}
-use Rattle.droid_frame.specs.types.reply.Reply.TheVariants.{Refused}
-use Rattle.droid_journal_chain.specs.Records.{Record, made}
+use Rattle.droid_frame.specs.declared.refusal.Refusal.TheVariants.{Malformed, Memory}
+use Rattle.droid_frame.specs.declared.reply.Reply.{Reply}
+use Rattle.droid_frame.specs.declared.reply.Reply.TheVariants.{Refused}
+use Rattle.droid_journal.specs.Records.{Record, made}
 
 -- the record of a request that was accepted with this reply
 abbrev pub record_of : Bool → Frame → Reply → Record
@@ -17,8 +17,8 @@ record_of first frame reply = made first (frame_bytes frame) (reply_frame frame.
 abbrev pub extended : List Record → Bool → Frame → Reply → Bool → List Record
 extended records first frame reply accepted = if accepted then records ++ record_of first frame reply ∷ [] else records
 
--- the machine gave this reply; or there was no memory to spell the request, or no stream can carry it, and the machine was
--- not asked
+-- the machine gave this reply; or there was no memory to spell the request, or no stream can carry it, and the machine
+-- was not asked
 abbrev pub Answers : (List Record → Frame → Reply → Bool → Type 0) → List Record → Frame → Reply → Bool → Type 0
 Answers gives records frame reply accepted =
     gives records frame reply accepted

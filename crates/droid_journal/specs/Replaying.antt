@@ -3,18 +3,19 @@ use Rattle.std.specs.Prelude.{◌≡◌, ◌≢◌, ◌⊎◌, ℕ, ◌+◌, Boo
 use Rattle.droid_frame.specs.Frames.{frame_bytes}
 use Rattle.droid_frame.specs.ReplyFrames.{reply_frame}
 use Rattle.droid_frame.specs.Streams.{IsReadable}
-use Rattle.droid_frame.specs.types.frame.Frame.{Frame}
-use Rattle.droid_frame.specs.types.refusal.Refusal.TheVariants.{Memory}
-use Rattle.droid_frame.specs.types.reply.Reply.{Reply}
-use Rattle.droid_frame.specs.types.reply.Reply.TheVariants.{Refused}
-use Rattle.droid_journal_chain.specs.Chains.{BeginsNoRecord, chain_bytes, place_behind}
-use Rattle.droid_journal_chain.specs.Records.{AllFit, Fits, Record}
-use Rattle.droid_journal_chain.specs.declared.key.Key.{Key}
-use Rattle.droid_journal_chain.specs.declared.place.Place.{Place}
+use Rattle.droid_frame.specs.declared.frame.Frame.{Frame}
+use Rattle.droid_frame.specs.declared.refusal.Refusal.TheVariants.{Memory}
+use Rattle.droid_frame.specs.declared.reply.Reply.{Reply}
+use Rattle.droid_frame.specs.declared.reply.Reply.TheVariants.{Refused}
+use Rattle.droid_journal.specs.Chains.{BeginsNoRecord, chain_bytes, place_behind}
+use Rattle.droid_journal.specs.Records.{AllFit, Fits, Record}
+use Rattle.droid_journal.specs.declared.records.key.Key.{Key}
+use Rattle.droid_journal.specs.declared.records.place.Place.{Place}
 use Rattle.droid_journal.specs.Machines.{record_of}
 
 -- the record has an accepted request and the reply that it got behind these records
-pub record GaveOne (gives : List Record → Frame → Reply → Bool → Type 0) (before : List Record) (it : Record) : Type 0 where
+pub record GaveOne (gives : List Record → Frame → Reply → Bool → Type 0) (before : List Record) (it : Record)
+    : Type 0 where
   pub frame : Frame
   pub reply : Reply
   pub spelled : it ≡ record_of it.first frame reply
@@ -26,7 +27,8 @@ Gave gives before [] = Unit {0}
 Gave gives before (it ∷ its) = GaveOne gives before it × Gave gives (before ++ it ∷ []) its
 
 -- Behind these records the request is not accepted, or with another reply. That memory ran out is none.
-pub record OtherAnswer (gives : List Record → Frame → Reply → Bool → Type 0) (before : List Record) (request reply : List ℕ) : Type 0 where
+pub record OtherAnswer (gives : List Record → Frame → Reply → Bool → Type 0) (before : List Record)
+    (request reply : List ℕ) : Type 0 where
   pub frame : Frame
   pub answer : Reply
   pub accepted : Bool
@@ -43,9 +45,11 @@ IsNoFrame bytes = (frame : Frame) → IsReadable frame → bytes ≢ frame_bytes
 abbrev pub Refutes : (List Record → Frame → Reply → Bool → Type 0) → List Record → List ℕ → List ℕ → Type 0
 Refutes gives before request reply = IsNoFrame request ⊎ OtherAnswer gives before request reply
 
--- The bytes, which stand at a place, begin with records, and behind them none follows; a machine that stood for the records
--- before them stands for these too, and gave each its reply.
-pub record Replays {S M : Type 0} (stands : S → M → List Record → Type 0) (gives : S → List Record → Frame → Reply → Bool → Type 0) (key : Key) (from : Place) (bytes : List ℕ) (old : M) (to : Place) (new : M) : Type 0 where
+-- The bytes, which stand at a place, begin with records, and behind them none follows; a machine that stood for the
+-- records before them stands for these too, and gave each its reply.
+pub record Replays {S M : Type 0} (stands : S → M → List Record → Type 0)
+    (gives : S → List Record → Frame → Reply → Bool → Type 0) (key : Key) (from : Place) (bytes : List ℕ) (old : M)
+    (to : Place) (new : M) : Type 0 where
   pub its : List Record
   pub rest : List ℕ
   pub fit : AllFit its
@@ -55,9 +59,11 @@ pub record Replays {S M : Type 0} (stands : S → M → List Record → Type 0) 
   pub stood : (setting : S) (before : List Record) → stands setting old before → stands setting new (before ++ its)
   pub gave : (setting : S) (before : List Record) → stands setting old before → Gave (gives setting) before its
 
--- The bytes, which stand at a place, begin with records, and the last of them, which has this number, is none that a journal
--- of this machine wrote behind those before it.
-pub record Fails {S M : Type 0} (stands : S → M → List Record → Type 0) (gives : S → List Record → Frame → Reply → Bool → Type 0) (key : Key) (from : Place) (bytes : List ℕ) (old : M) (number : ℕ) : Type 0 where
+-- The bytes, which stand at a place, begin with records, and the last of them, which has this number, is none that a
+-- journal of this machine wrote behind those before it.
+pub record Fails {S M : Type 0} (stands : S → M → List Record → Type 0)
+    (gives : S → List Record → Frame → Reply → Bool → Type 0) (key : Key) (from : Place) (bytes : List ℕ) (old : M)
+    (number : ℕ) : Type 0 where
   pub its : List Record
   pub it : Record
   pub rest : List ℕ
@@ -65,4 +71,5 @@ pub record Fails {S M : Type 0} (stands : S → M → List Record → Type 0) (g
   pub fits : Fits it
   pub joined : bytes ≡ chain_bytes key from (its ++ it ∷ []) ++ rest
   pub count : number ≡ from.records + length its + 1
-  pub why : (setting : S) (before : List Record) → stands setting old before → Refutes (gives setting) (before ++ its) it.request it.reply
+  pub why : (setting : S) (before : List Record) → stands setting old before
+      → Refutes (gives setting) (before ++ its) it.request it.reply

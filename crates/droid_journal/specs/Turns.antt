@@ -1,10 +1,10 @@
 -- What was written since the last sync (this project's own).
 use Rattle.std.specs.Prelude.{◌≡◌, false, List, ◌++◌, drop}
 use Rattle.std.specs.List.{AllByRecursion}
-use Rattle.droid_journal_chain.specs.Records.{Record}
+use Rattle.droid_journal.specs.Records.{Record}
 
--- The second list is the first and one turn more: of what a turn wrote only the first record says that all before it was on
--- the disk.
+-- The second list is the first and one turn more: of what a turn wrote only the first record says that all before it
+-- was on the disk.
 pub record IsTurn (synced written : List Record) : Type 0 where
   pub turn : List Record
   pub parts : written ≡ synced ++ turn

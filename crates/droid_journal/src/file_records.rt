@@ -1,24 +1,27 @@
 //! Reading the records of a file, one window at a time.
 
-ghost use Rattle.std.specs.Prelude.{◌≡◌, ◌*◌, ◌<◌, ◌≤◌, ◌↔◌, ℕ, List, IfErr, IfOk, IsErrOf, IsTrue, drop, length, take, true};
+ghost use Rattle.std.specs.Prelude.{◌≡◌, ◌*◌, ◌<◌, ◌≤◌, ◌↔◌, ℕ, List, IfErr, IfOk, IsErrOf, IsTrue, drop, length, take};
+ghost use Rattle.std.specs.Prelude.{true};
 ghost use Rattle.droid_journal.specs.Faults.{IsOfReading};
 ghost use Rattle.droid_journal.specs.Opening.{HandedOn, Hands, StandIn};
 ghost use Rattle.droid_journal.specs.Replaying.{Fails};
-ghost use Rattle.droid_journal_chain.specs.Chains.{BeginsNoRecord, HasLater};
-ghost use Rattle.droid_journal_chain.specs.Records.{Record};
+ghost use Rattle.droid_journal.specs.Chains.{BeginsNoRecord, HasLater};
+ghost use Rattle.droid_journal.specs.Records.{Record};
 
 use crate::journal_fault::Fault;
 use crate::log_file::LogFile;
 use crate::machine::Machine;
+use crate::records::damage::has_later;
+use crate::records::key::Key;
+use crate::records::place::Place;
 use crate::replay::replay;
-use droid_journal_chain::{Key, Place, has_later};
 use std::alloc::Global;
 
 /// The bytes that are read at once: a window.
-pub(crate) const WINDOW: usize = 16_777_216;
+pub const WINDOW: usize = 16_777_216;
 
-/// How far the search for later turns moves at once: a window less the longest record of version 3 and the check value before
-/// it.
+/// How far the search for later turns moves at once: a window less the longest record of version 3 and the check value
+/// before it.
 const STEP: u64 = 8_388_592;
 
 /// Hands a machine the records from a place on that are whole in one window.
@@ -34,9 +37,11 @@ fn hand_some<F: LogFile, M: Machine + Drop>(
     requires count { 25 * from.records ≤ from.at }
     requires window { length buffer.old ≡ 16777216 }
     ensures window { length buffer.new ≡ 16777216 }
-    ensures hands { IfOk result (λ to. (its : List Record) × Hands M.stands M.gives key machine.old from machine.new to its
+    ensures hands { IfOk result (λ to.
+        (its : List Record) × Hands M.stands M.gives key machine.old from machine.new to its
         × ((s : List ℕ) → F.has file.now s → StandIn key s from to its)) }
-    ensures ends { IfOk result (λ to. to.at ≡ from.at → (s : List ℕ) → F.has file.now s → BeginsNoRecord key to (drop to.at s)) }
+    ensures ends { IfOk result (λ to.
+        to.at ≡ from.at → (s : List ℕ) → F.has file.now s → BeginsNoRecord key to (drop to.at s)) }
     ensures fault { IfErr result IsOfReading }
     ensures refuted { (number : ℕ) → IsErrOf result (Fault.Record number) → (s : List ℕ) → F.has file.now s
         → Fails M.stands M.gives key from (drop from.at s) machine.old number }
@@ -67,7 +72,8 @@ pub(crate) fn hand_all<F: LogFile, M: Machine + Drop>(
     requires count { 25 * from.records ≤ from.at }
     requires window { length buffer.old ≡ 16777216 }
     ensures window { length buffer.new ≡ 16777216 }
-    ensures hands { IfOk result (λ to. (its : List Record) × Hands M.stands M.gives key machine.old from machine.new to its
+    ensures hands { IfOk result (λ to.
+        (its : List Record) × Hands M.stands M.gives key machine.old from machine.new to its
         × ((s : List ℕ) → F.has file.now s → HandedOn key s from to its)) }
     ensures fault { IfErr result IsOfReading }
     ensures refuted { (number : ℕ) → IsErrOf result (Fault.Record number) → (s : List ℕ) → F.has file.now s
@@ -87,8 +93,8 @@ pub(crate) fn hand_all<F: LogFile, M: Machine + Drop>(
     Err(Fault::Read)
 }
 
-/// Searches the window from a place on for the beginning of a later turn. Returns whether there is one, and whether the file
-/// ends in the window.
+/// Searches the window from a place on for the beginning of a later turn. Returns whether there is one, and whether the
+/// file ends in the window.
 fn search_some<F: LogFile>(
     file: &F,
     key: Key,
@@ -98,8 +104,10 @@ fn search_some<F: LogFile>(
     requires found { F.is_found file.now }
     requires window { length buffer.old ≡ 16777216 }
     ensures window { length buffer.new ≡ 16777216 }
-    ensures later { (s : List ℕ) → F.has file.now s → IfOk result (λ x. IsTrue x.0 ↔ HasLater key at (take 16777216 (drop at s))) }
-    ensures ends { (s : List ℕ) → F.has file.now s → IfOk result (λ x. x.1 ≡ true → length (take 16777216 (drop at s)) < 16777216) }
+    ensures later { (s : List ℕ) → F.has file.now s
+        → IfOk result (λ x. IsTrue x.0 ↔ HasLater key at (take 16777216 (drop at s))) }
+    ensures ends { (s : List ℕ) → F.has file.now s
+        → IfOk result (λ x. x.1 ≡ true → length (take 16777216 (drop at s)) < 16777216) }
     ensures fault { IfErr result (λ fault. fault ≡ Fault.Read) }
 {
     let Ok(count) = file.read_at(at, buffer) else {
@@ -121,7 +129,8 @@ pub(crate) fn is_damaged<F: LogFile>(
 ) -> Result<bool, Fault>
     requires found { F.is_found file.now }
     requires window { length buffer.old ≡ 16777216 }
-    ensures later { (s : List ℕ) → F.has file.now s → IfOk result (λ later. IsTrue later ↔ HasLater key from (drop from s)) }
+    ensures later { (s : List ℕ) → F.has file.now s
+        → IfOk result (λ later. IsTrue later ↔ HasLater key from (drop from s)) }
     ensures fault { IfErr result (λ fault. fault ≡ Fault.Read) }
 {
     let mut at = from;

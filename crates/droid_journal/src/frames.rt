@@ -1,6 +1,6 @@
 //! The frames of a record as bytes.
 
-ghost use Rattle.std.specs.Prelude.{◌≡◌, ◌≤◌, ◌↔◌, IfNone, IfOk, IfSome, IsTrue, length, true};
+ghost use Rattle.std.specs.Prelude.{◌≡◌, ◌≤◌, IfNone, IfOk, IfSome, length, true};
 ghost use Rattle.droid_frame.specs.Fields.{IsBytes};
 ghost use Rattle.droid_frame.specs.Frames.{frame_bytes};
 ghost use Rattle.droid_frame.specs.Replies.{HasReplySpelling};
@@ -16,7 +16,8 @@ use droid_frame::{
 };
 use std::alloc::{AllocError, Global};
 
-/// Returns whether a stream can carry the frame: its version is 1 or 2, and its body is within the limit of that version.
+/// Returns whether a stream can carry the frame: its version is 1 or 2, and its body is within the limit of that
+/// version.
 pub(crate) fn is_carried(frame: &Frame) -> bool
     ensures version { result ≡ true → IsVersion frame.now.version }
     ensures body { result ≡ true → length frame.now.body ≤ body_limit frame.now.version }
@@ -87,11 +88,4 @@ pub(crate) fn frame_of(alloc: Global, bytes: &[u8]) -> Result<Option<Frame>, All
         Err(FrameFault::BadVersion) => Ok(None),
         Err(FrameFault::TooLong) => Ok(None),
     }
-}
-
-/// Returns whether two byte strings are equal.
-pub(crate) fn is_same(one: &[u8], other: &[u8]) -> bool
-    ensures { IsTrue result ↔ (one.now ≡ other.now) }
-{
-    one == other
 }

@@ -1,6 +1,7 @@
 //! The journal.
 
-ghost use Rattle.std.specs.Prelude.{◌≡◌, ◌+◌, ◌≤◌, ◌++◌, if◌then◌else◌, ℕ, Bool, List, [], None, Some, false, true, drop, length, not, IfErr, IfOk, OnOk, OnErr, IsErr, IsSome, vec_capacity, vec_len};
+ghost use Rattle.std.specs.Prelude.{◌≡◌, ◌+◌, ◌≤◌, ◌++◌, if◌then◌else◌, ℕ, Bool, List, [], None, Some, false, true};
+ghost use Rattle.std.specs.Prelude.{drop, length, not, IfErr, IfOk, OnOk, OnErr, IsErr, IsSome, vec_capacity, vec_len};
 ghost use Rattle.droid_frame.specs.Frames.{frame_bytes};
 ghost use Rattle.droid_frame.specs.Replies.{HasReplySpelling};
 ghost use Rattle.droid_frame.specs.ReplyFrames.{reply_frame};
@@ -9,21 +10,22 @@ ghost use Rattle.droid_journal.specs.Faults.{IsOfWriting, MayBeOfWriting};
 ghost use Rattle.droid_journal.specs.Machines.{Answers, extended};
 ghost use Rattle.droid_journal.specs.Opening.{IsReady};
 ghost use Rattle.droid_journal.specs.Standing.{IsSettled, Stands, WroteOne};
-ghost use Rattle.droid_journal_chain.specs.Fronts.{IsFront};
-ghost use Rattle.droid_journal_chain.specs.Records.{Fits, Record, checksum, made, next_check, place_after, record_bytes, turn_mark};
+ghost use Rattle.droid_journal.specs.Fronts.{IsFront};
+ghost use Rattle.droid_journal.specs.Records.{Fits, Record, checksum, made, next_check, place_after, record_bytes};
+ghost use Rattle.droid_journal.specs.Records.{turn_mark};
 
 use crate::frames::{is_carried, request_bytes};
 use crate::journal_fault::Fault;
 use crate::log_file::{FileError, LogFile};
 use crate::machine::Machine;
+use crate::records::checks::{MARK, turn_mark};
+use crate::records::key::{Form, Key};
+use crate::records::place::Place;
+use crate::records::record_writer::put_record;
 use crate::room::{Room, make_rooms, spell_reply};
 use crate::start::Opened;
 use droid_frame::{Frame, Refusal, Reply, mark};
-use droid_journal_chain::{Form, Key, Place, put_record, turn_mark};
 use std::alloc::Global;
-
-/// The bytes of the beginning of a turn: a byte 1 and its mark.
-const MARK: usize = 17;
 
 /// A machine, and the file with the requests that it accepted.
 ///
@@ -54,7 +56,8 @@ pub struct Journal<F: LogFile, M: Machine> {
 impl<F: LogFile + Drop, M: Machine + Drop> Journal<F, M> {
     /// Makes a journal of a file that was opened.
     pub fn new(alloc: Global, file: F, opened: Opened<M>) -> Journal<F, M>
-        ensures settled { (setting : M.Setting) (header : List ℕ) (records : List Record) → IsReady F.has F.kept (M.stands setting) header file opened records
+        ensures settled { (setting : M.Setting) (header : List ℕ) (records : List Record)
+            → IsReady F.has F.kept (M.stands setting) header file opened records
             → IsSettled F.has F.kept (M.stands setting) header result records }
         ensures fault { result.fault ≡ None }
     {
@@ -98,8 +101,12 @@ impl<F: LogFile + Drop, M: Machine + Drop> Journal<F, M> {
         requires capacity { length request.now + 1048699 ≤ vec_capacity self.old.room }
         requires spelled { self.old.reply.items ≡ [] }
         requires left { 1048658 ≤ self.old.reply.left }
-        ensures bytes { self.new.room.items ≡ record_bytes self.old.key self.old.place (made (not self.old.unsynced) request.now (reply_frame version client number reply.now)) }
-        ensures check { result ≡ next_check self.old.key self.old.place (made (not self.old.unsynced) request.now (reply_frame version client number reply.now)) }
+        ensures bytes { self.new.room.items
+            ≡ record_bytes self.old.key self.old.place
+            (made (not self.old.unsynced) request.now (reply_frame version client number reply.now)) }
+        ensures check { result
+            ≡ next_check self.old.key self.old.place
+            (made (not self.old.unsynced) request.now (reply_frame version client number reply.now)) }
         ensures fits { Fits (made (not self.old.unsynced) request.now (reply_frame version client number reply.now)) }
         ensures file { self.new.file ≡ self.old.file }
         ensures machine { self.new.machine ≡ self.old.machine }
@@ -123,10 +130,14 @@ impl<F: LogFile + Drop, M: Machine + Drop> Journal<F, M> {
 
     /// Appends what is lacking of the record that was spelled, which has this check value.
     fn append(&mut self, check: [u8; 16]) -> Result<(), Fault>
-        ensures appended { (s : List ℕ) → F.has self.old.file s → OnOk result (F.has self.new.file (s ++ drop (if self.old.ahead then 17 else 0) self.old.room.items)) }
-        ensures part { (s : List ℕ) → F.has self.old.file s → OnErr result ((part : List ℕ) × F.has self.new.file (s ++ part)
+        ensures appended { (s : List ℕ) → F.has self.old.file s
+            → OnOk result (F.has self.new.file (s ++ drop (if self.old.ahead then 17 else 0) self.old.room.items)) }
+        ensures part { (s : List ℕ) → F.has self.old.file s
+            → OnErr result ((part : List ℕ) × F.has self.new.file (s ++ part)
             × IsFront part (drop (if self.old.ahead then 17 else 0) self.old.room.items)) }
-        ensures place { OnOk result ((self.new.place.at ≡ self.old.place.at + length self.old.room.items) × (self.new.place.check ≡ check) × (self.new.place.records ≡ self.old.place.records + 1)) }
+        ensures place { OnOk result
+            ((self.new.place.at ≡ self.old.place.at + length self.old.room.items) × (self.new.place.check ≡ check)
+            × (self.new.place.records ≡ self.old.place.records + 1)) }
         ensures ahead { OnOk result (self.new.ahead ≡ false) }
         ensures unsynced { OnOk result (self.new.unsynced ≡ true) }
         ensures kept { F.kept self.new.file ≡ F.kept self.old.file }
@@ -170,11 +181,24 @@ impl<F: LogFile + Drop, M: Machine + Drop> Journal<F, M> {
         requires spelled { self.old.reply.items ≡ [] }
         requires left { 1048658 ≤ self.old.reply.left }
         ensures appended { (s : List ℕ) → F.has self.old.file s
-            → OnOk result (F.has self.new.file (s ++ drop (if self.old.ahead then 17 else 0) (record_bytes self.old.key self.old.place (made (not self.old.unsynced) request.now (reply_frame version client number reply.now))))) }
-        ensures part { (s : List ℕ) → F.has self.old.file s → OnErr result ((part : List ℕ) × F.has self.new.file (s ++ part)
-            × IsFront part (drop (if self.old.ahead then 17 else 0) (record_bytes self.old.key self.old.place (made (not self.old.unsynced) request.now (reply_frame version client number reply.now))))) }
-        ensures place { OnOk result (self.new.place ≡ place_after self.old.key self.old.place (made (not self.old.unsynced) request.now (reply_frame version client number reply.now))) }
-        ensures fits { OnOk result (Fits (made (not self.old.unsynced) request.now (reply_frame version client number reply.now))) }
+            → OnOk result
+            (F.has self.new.file
+            (s
+            ++ drop (if self.old.ahead then 17 else 0)
+            (record_bytes self.old.key self.old.place
+            (made (not self.old.unsynced) request.now (reply_frame version client number reply.now))))) }
+        ensures part { (s : List ℕ) → F.has self.old.file s
+            → OnErr result ((part : List ℕ) × F.has self.new.file (s ++ part)
+            × IsFront part
+            (drop (if self.old.ahead then 17 else 0)
+            (record_bytes self.old.key self.old.place
+            (made (not self.old.unsynced) request.now (reply_frame version client number reply.now))))) }
+        ensures place { OnOk result
+            (self.new.place
+            ≡ place_after self.old.key self.old.place
+            (made (not self.old.unsynced) request.now (reply_frame version client number reply.now))) }
+        ensures fits { OnOk result
+            (Fits (made (not self.old.unsynced) request.now (reply_frame version client number reply.now))) }
         ensures ahead { OnOk result (self.new.ahead ≡ false) }
         ensures unsynced { OnOk result (self.new.unsynced ≡ true) }
         ensures kept { F.kept self.new.file ≡ F.kept self.old.file }
@@ -190,13 +214,16 @@ impl<F: LogFile + Drop, M: Machine + Drop> Journal<F, M> {
         }
     }
 
-    /// Handles a request. An accepted one is then written to the file, and not yet synced. Behind the machine's answer nothing
-    /// takes memory.
+    /// Handles a request. An accepted one is then written to the file, and not yet synced. Behind the machine's answer
+    /// nothing takes memory.
     fn take(&mut self, frame: Frame) -> Result<Reply, Fault>
-        ensures taken { (setting : M.Setting) (header : List ℕ) (synced all : List Record) → Stands F.has F.kept (M.stands setting) header self.old synced all
-            → IfOk result (λ reply. (first : Bool) × (accepted : Bool) × Answers (M.gives setting) all frame reply accepted
+        ensures taken { (setting : M.Setting) (header : List ℕ) (synced all : List Record)
+            → Stands F.has F.kept (M.stands setting) header self.old synced all
+            → IfOk result (λ reply.
+            (first : Bool) × (accepted : Bool) × Answers (M.gives setting) all frame reply accepted
             × Stands F.has F.kept (M.stands setting) header self.new synced (extended all first frame reply accepted)) }
-        ensures part { (setting : M.Setting) (header : List ℕ) (synced all : List Record) → Stands F.has F.kept (M.stands setting) header self.old synced all
+        ensures part { (setting : M.Setting) (header : List ℕ) (synced all : List Record)
+            → Stands F.has F.kept (M.stands setting) header self.old synced all
             → OnErr result (WroteOne F.has (M.gives setting) header self.new.file synced all frame) }
         ensures spelled { IfOk result (HasReplySpelling frame.version) }
         ensures kept { F.kept self.new.file ≡ F.kept self.old.file }
@@ -228,19 +255,24 @@ impl<F: LogFile + Drop, M: Machine + Drop> Journal<F, M> {
     }
 
     /// Handles a request and returns its reply. It must not be sent before [`Journal::settle`] returned `Ok`. After a
-    /// fault the reply says that the database failed, nothing is handled, and `settle` returns the fault. A frame that no
-    /// stream can carry is malformed.
+    /// fault the reply says that the database failed, nothing is handled, and `settle` returns the fault. A frame that
+    /// no stream can carry is malformed.
     pub fn handle(&mut self, frame: Frame) -> Reply
-        ensures handled { (setting : M.Setting) (header : List ℕ) (synced all : List Record) → Stands F.has F.kept (M.stands setting) header self.old synced all
-            → self.new.fault ≡ None → (first : Bool) × (accepted : Bool) × Answers (M.gives setting) all frame result accepted
+        ensures handled { (setting : M.Setting) (header : List ℕ) (synced all : List Record)
+            → Stands F.has F.kept (M.stands setting) header self.old synced all
+            → self.new.fault ≡ None
+            → (first : Bool) × (accepted : Bool) × Answers (M.gives setting) all frame result accepted
             × Stands F.has F.kept (M.stands setting) header self.new synced (extended all first frame result accepted) }
-        // Also after a fault, the file has the records of all requests that were accepted before, and then the record of this
-        // request if it was accepted, or the first bytes of that record.
-        ensures part { (setting : M.Setting) (header : List ℕ) (synced all : List Record) → Stands F.has F.kept (M.stands setting) header self.old synced all
-            → self.old.fault ≡ None → IsSome self.new.fault → WroteOne F.has (M.gives setting) header self.new.file synced all frame }
+        // Also after a fault, the file has the records of all requests that were accepted before, and then the record
+        // of this request if it was accepted, or the first bytes of that record.
+        ensures part { (setting : M.Setting) (header : List ℕ) (synced all : List Record)
+            → Stands F.has F.kept (M.stands setting) header self.old synced all
+            → self.old.fault ≡ None → IsSome self.new.fault
+            → WroteOne F.has (M.gives setting) header self.new.file synced all frame }
         ensures spelled { HasReplySpelling frame.version result }
         ensures kept { F.kept self.new.file ≡ F.kept self.old.file }
-        // No request leads to another fault than that the file could not be written: running out of memory ends no journal.
+        // No request leads to another fault than that the file could not be written: running out of memory ends no
+        // journal.
         ensures writing { MayBeOfWriting self.old.fault → MayBeOfWriting self.new.fault }
         // Nothing is written for a request that the machine cannot accept.
         ensures unwritten { (setting : M.Setting) (records : List Record) → M.stands setting self.old.machine records
@@ -260,16 +292,20 @@ impl<F: LogFile + Drop, M: Machine + Drop> Journal<F, M> {
         }
     }
 
-    /// Syncs the file. After `Ok` the replies to all requests so far may be sent. After a fault no reply may be sent any
-    /// more, and every further call returns a fault.
+    /// Syncs the file. After `Ok` the replies to all requests so far may be sent. After a fault no reply may be sent
+    /// any more, and every further call returns a fault.
     ///
-    /// A call with nothing to sync writes the beginning of the next turn instead: its mark says that all before it is on the
-    /// disk, so that from then on damage in the last turn is not taken for a torn end.
+    /// A call with nothing to sync writes the beginning of the next turn instead: its mark says that all before it is
+    /// on the disk, so that from then on damage in the last turn is not taken for a torn end.
     pub fn settle(&mut self) -> Result<(), Fault>
-        ensures settled { (setting : M.Setting) (header : List ℕ) (synced all : List Record) → Stands F.has F.kept (M.stands setting) header self.old synced all
+        ensures settled { (setting : M.Setting) (header : List ℕ) (synced all : List Record)
+            → Stands F.has F.kept (M.stands setting) header self.old synced all
             → OnOk result (IsSettled F.has F.kept (M.stands setting) header self.new all) }
-        ensures same { (s : List ℕ) → F.has self.old.file s → (part : List ℕ) × F.has self.new.file (s ++ part) × IsFront part (turn_mark self.old.key self.old.place.at) }
-        ensures marks { self.old.unsynced ≡ false → self.old.key.form ≡ Form.Present → OnOk result (self.new.ahead ≡ true) }
+        ensures same { (s : List ℕ) → F.has self.old.file s
+            → (part : List ℕ) × F.has self.new.file (s ++ part)
+            × IsFront part (turn_mark self.old.key self.old.place.at) }
+        ensures marks { self.old.unsynced ≡ false → self.old.key.form ≡ Form.Present
+            → OnOk result (self.new.ahead ≡ true) }
         ensures kept { OnErr result (F.kept self.new.file ≡ F.kept self.old.file) }
         ensures fault { OnOk result (self.new.fault ≡ None) }
         ensures closes { OnErr result (IsSome self.new.fault) }
@@ -303,9 +339,12 @@ impl<F: LogFile + Drop, M: Machine + Drop> Journal<F, M> {
     fn begin_turn(&mut self) -> Result<(), Fault>
         requires fault { self.old.fault ≡ None }
         requires unsynced { self.old.unsynced ≡ false }
-        ensures settled { (setting : M.Setting) (header : List ℕ) (synced all : List Record) → Stands F.has F.kept (M.stands setting) header self.old synced all
+        ensures settled { (setting : M.Setting) (header : List ℕ) (synced all : List Record)
+            → Stands F.has F.kept (M.stands setting) header self.old synced all
             → OnOk result (IsSettled F.has F.kept (M.stands setting) header self.new all) }
-        ensures same { (s : List ℕ) → F.has self.old.file s → (part : List ℕ) × F.has self.new.file (s ++ part) × IsFront part (turn_mark self.old.key self.old.place.at) }
+        ensures same { (s : List ℕ) → F.has self.old.file s
+            → (part : List ℕ) × F.has self.new.file (s ++ part)
+            × IsFront part (turn_mark self.old.key self.old.place.at) }
         ensures marks { self.old.key.form ≡ Form.Present → OnOk result (self.new.ahead ≡ true) }
         ensures kept { OnErr result (F.kept self.new.file ≡ F.kept self.old.file) }
         ensures fault { OnOk result (self.new.fault ≡ None) }
@@ -349,8 +388,11 @@ fn lacking(bytes: &[u8], ahead: bool) -> &[u8]
 
 /// Appends what is lacking of these bytes.
 fn append_lacking<F: LogFile>(file: &mut F, bytes: &Vec<u8>, ahead: bool) -> Result<(), FileError>
-    ensures appended { (s : List ℕ) → F.has file.old s → OnOk result (F.has file.new (s ++ drop (if ahead then 17 else 0) bytes.now.items)) }
-    ensures part { (s : List ℕ) → F.has file.old s → OnErr result ((part : List ℕ) × F.has file.new (s ++ part) × IsFront part (drop (if ahead then 17 else 0) bytes.now.items)) }
+    ensures appended { (s : List ℕ) → F.has file.old s
+        → OnOk result (F.has file.new (s ++ drop (if ahead then 17 else 0) bytes.now.items)) }
+    ensures part { (s : List ℕ) → F.has file.old s
+        → OnErr result
+        ((part : List ℕ) × F.has file.new (s ++ part) × IsFront part (drop (if ahead then 17 else 0) bytes.now.items)) }
     ensures kept { F.kept file.new ≡ F.kept file.old }
 {
     let rest = lacking(bytes.as_slice(), ahead);

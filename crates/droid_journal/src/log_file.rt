@@ -1,7 +1,7 @@
 //! A file as the journal sees it.
 
 ghost use Rattle.std.specs.Prelude.{◌≡◌, ◌≤◌, ◌++◌, ℕ, List, length, take, drop, IfOk, IsErr, OnOk, OnErr};
-ghost use Rattle.droid_journal_chain.specs.Fronts.{IsFront};
+ghost use Rattle.droid_journal.specs.Fronts.{IsFront};
 
 /// A call on the file failed.
 #[derive(Clone, Copy)]
@@ -20,14 +20,16 @@ pub trait LogFile {
     /// Nothing was appended yet.
     ghost is_found: { Self → Type 0 };
 
-    /// A sync failed. The system may then hold bytes as written that the disk lacks, so no later sync of this file succeeds.
+    /// A sync failed. The system may then hold bytes as written that the disk lacks, so no later sync of this file
+    /// succeeds.
     ghost failed: { Self → Type 0 };
 
     /// Reads from a place on, until the buffer is full or the file ends, and returns how many bytes were read.
     fn read_at(&self, at: u64, buffer: &mut [u8]) -> Result<usize, FileError>
         requires { is_found self.now }
         ensures bound { IfOk result (λ count. count ≤ length buffer.new) }
-        ensures read { (s : List ℕ) → has self.now s → IfOk result (λ count. take count buffer.new ≡ take (length buffer.old) (drop at s)) };
+        ensures read { (s : List ℕ) → has self.now s
+            → IfOk result (λ count. take count buffer.new ≡ take (length buffer.old) (drop at s)) };
 
     /// Truncates the file to a length. Bytes that are on the disk for sure are never cut off.
     fn cut(&mut self, len: u64) -> Result<(), FileError>
@@ -40,7 +42,8 @@ pub trait LogFile {
     /// Appends bytes. After an error the first of them may have been written.
     fn append(&mut self, bytes: &[u8]) -> Result<(), FileError>
         ensures appended { (s : List ℕ) → has self.old s → OnOk result (has self.new (s ++ bytes.now)) }
-        ensures part { (s : List ℕ) → has self.old s → OnErr result ((part : List ℕ) × has self.new (s ++ part) × IsFront part bytes.now) }
+        ensures part { (s : List ℕ) → has self.old s
+            → OnErr result ((part : List ℕ) × has self.new (s ++ part) × IsFront part bytes.now) }
         ensures kept { kept self.new ≡ kept self.old }
         ensures stays { failed self.old → failed self.new };
 

@@ -4,10 +4,10 @@ ghost use Rattle.std.specs.Prelude.{◌≡◌, List, Bool};
 ghost use Rattle.droid_frame.specs.Frames.{mark_of};
 ghost use Rattle.droid_frame.specs.Replies.{HasReplySpelling};
 ghost use Rattle.droid_frame.specs.Streams.{IsReadable};
-ghost use Rattle.droid_frame.specs.types.frame.Frame.{Frame};
-ghost use Rattle.droid_frame.specs.types.reply.Reply.{Reply};
+ghost use Rattle.droid_frame.specs.declared.frame.Frame.{Frame};
+ghost use Rattle.droid_frame.specs.declared.reply.Reply.{Reply};
 ghost use Rattle.droid_journal.specs.Machines.{extended};
-ghost use Rattle.droid_journal_chain.specs.Records.{Record};
+ghost use Rattle.droid_journal.specs.Records.{Record};
 
 use droid_frame::{Frame, Reply};
 
@@ -35,7 +35,8 @@ pub trait Machine {
     fn handle(&mut self, frame: Frame, mark: [u8; 16]) -> Handled
         requires readable { IsReadable frame }
         requires mark { mark ≡ mark_of frame.kind frame.body }
-        ensures gives { (setting : Setting) (records : List Record) → stands setting self.old records → gives setting records frame result.reply result.accepted }
+        ensures gives { (setting : Setting) (records : List Record) → stands setting self.old records
+            → gives setting records frame result.reply result.accepted }
         ensures stands { (setting : Setting) (records : List Record) (first : Bool) → stands setting self.old records
             → stands setting self.new (extended records first frame result.reply result.accepted) }
         ensures spelled { HasReplySpelling frame.version result.reply };

@@ -1,18 +1,22 @@
 //! Handing a machine the records of a file again.
 
-ghost use Rattle.std.specs.Prelude.{◌≡◌, ◌+◌, ◌<◌, ◌≤◌, ◌∷◌, ◌++◌, ℕ, Bool, List, [], length, true, IfErr, IfNone, IfOk, IfSome, IsErrOf, OnOk};
-ghost use Rattle.droid_frame.specs.types.refusal.Refusal.TheVariants.{Memory};
-ghost use Rattle.droid_frame.specs.types.reply.Reply.TheVariants.{Refused};
+ghost use Rattle.std.specs.Prelude.{◌≡◌, ◌+◌, ◌<◌, ◌≤◌, ◌∷◌, ◌++◌, ℕ, Bool, List, [], length, true, IfErr, IfNone};
+ghost use Rattle.std.specs.Prelude.{IfOk, IfSome, IsErrOf, OnOk};
+ghost use Rattle.droid_frame.specs.declared.refusal.Refusal.TheVariants.{Memory};
+ghost use Rattle.droid_frame.specs.declared.reply.Reply.TheVariants.{Refused};
 ghost use Rattle.droid_journal.specs.Faults.{IsOfReading};
 ghost use Rattle.droid_journal.specs.Replaying.{Fails, GaveOne, Refutes, Replays};
-ghost use Rattle.droid_journal_chain.specs.Chains.{BeginsNoRecord, BeginsWith};
-ghost use Rattle.droid_journal_chain.specs.Records.{Record, checksum, made};
+ghost use Rattle.droid_journal.specs.Chains.{BeginsNoRecord, BeginsWith};
+ghost use Rattle.droid_journal.specs.Records.{Record, checksum, made};
 
-use crate::frames::{frame_of, is_same, reply_bytes};
+use crate::frames::{frame_of, reply_bytes};
 use crate::journal_fault::Fault;
 use crate::machine::Machine;
+use crate::records::comparison::is_same;
+use crate::records::key::Key;
+use crate::records::place::Place;
+use crate::records::record_reader::{Found, record_of};
 use droid_frame::{Refusal, Reply};
-use droid_journal_chain::{Found, Key, Place, record_of};
 use std::alloc::Global;
 
 /// Whether a reply says that memory ran out.
@@ -22,8 +26,8 @@ fn is_out_of_memory(reply: &Reply) -> bool
     matches!(reply, Reply::Refused(Refusal::Memory))
 }
 
-/// Hands a machine the request of a record, whose checksum this is, and checks that it is accepted with the reply of the
-/// record.
+/// Hands a machine the request of a record, whose checksum this is, and checks that it is accepted with the reply of
+/// the record.
 fn replay_one<M: Machine + Drop>(
     alloc: Global,
     machine: &mut M,
@@ -40,7 +44,8 @@ fn replay_one<M: Machine + Drop>(
     ensures fault { IfErr result IsOfReading }
     // A record is reported only if no journal of this machine has it, and by its own number.
     ensures number { (other : ℕ) → IsErrOf result (Fault.Record other) → other ≡ number }
-    ensures refuted { (other : ℕ) → IsErrOf result (Fault.Record other) → (setting : M.Setting) (before : List Record) → M.stands setting machine.old before
+    ensures refuted { (other : ℕ) → IsErrOf result (Fault.Record other) → (setting : M.Setting) (before : List Record)
+        → M.stands setting machine.old before
         → Refutes (M.gives setting) before request.now reply.now }
 {
     let frame = match frame_of(alloc, request) {
@@ -67,7 +72,8 @@ fn replay_one<M: Machine + Drop>(
 fn next_of<'a>(key: Key, place: Place, bytes: &'a [u8]) -> Option<Found<'a>>
     requires at { place.at + length bytes.now < 18446744073709551616 }
     requires records { place.records + length bytes.now < 18446744073709551616 }
-    ensures found { IfSome result (λ x. BeginsWith key place bytes.now (made x.first x.request.now x.reply.now) x.after x.rest.now) }
+    ensures found { IfSome result (λ x.
+        BeginsWith key place bytes.now (made x.first x.request.now x.reply.now) x.after x.rest.now) }
     ensures sum { IfSome result (λ x. x.sum ≡ checksum x.request.now) }
     ensures none { IfNone result (BeginsNoRecord key place bytes.now) }
 {
@@ -86,7 +92,8 @@ pub(crate) fn replay<M: Machine + Drop>(
     requires count { from.records + length bytes.now < 18446744073709551616 }
     ensures replays { IfOk result (λ to. Replays M.stands M.gives key from bytes.now machine.old to machine.new) }
     ensures fault { IfErr result IsOfReading }
-    ensures refuted { (number : ℕ) → IsErrOf result (Fault.Record number) → Fails M.stands M.gives key from bytes.now machine.old number }
+    ensures refuted { (number : ℕ) → IsErrOf result (Fault.Record number)
+        → Fails M.stands M.gives key from bytes.now machine.old number }
 {
     let mut rest = bytes;
     let mut place = from;

@@ -7,7 +7,8 @@ ghost use Rattle.droid_frame.specs.Versions.{IsVersion};
 
 use droid_frame::{Reply, SteadyWrite, write_reply};
 use std::alloc::{AllocError, Global};
-use std::io::{self, Write};
+use std::io;
+use std::io::Write;
 use std::marker::Model;
 
 /// The longest frame of a reply.

@@ -1,23 +1,26 @@
 //! Opening a journal: a machine that stands for the records of a file.
 
-ghost use Rattle.std.specs.Prelude.{◌≡◌, ◌≢◌, ◌+◌, ◌≤◌, if◌then◌else◌, ℕ, List, [], length, take, drop, IfOk, IfErr, IfSome, IsErrOf, IsTrue, OnErr, OnOk};
-ghost use Rattle.droid_journal.specs.Opening.{HasHeader, IsBegun, IsKept, IsReady, Knows, PartWithin, ReadsAll, WasDamaged, WasFound, WasRefuted};
+ghost use Rattle.std.specs.Prelude.{◌≡◌, ◌≢◌, ◌+◌, ◌≤◌, if◌then◌else◌, ℕ, List, [], length, take, drop, IfOk, IfErr};
+ghost use Rattle.std.specs.Prelude.{IfSome, IsErrOf, IsTrue, OnErr, OnOk};
+ghost use Rattle.droid_journal.specs.Opening.{HasHeader, IsBegun, IsKept, IsReady, Knows, PartWithin, ReadsAll};
+ghost use Rattle.droid_journal.specs.Opening.{WasDamaged, WasFound, WasRefuted};
 ghost use Rattle.droid_journal.specs.Replaying.{Gave};
 ghost use Rattle.droid_journal.specs.Turns.{IsTurn};
-ghost use Rattle.droid_journal_chain.specs.Chains.{IsMark, NoneLaterByChance, NotByChance, form_of, journal_bytes, marked_bytes, skipped};
-ghost use Rattle.droid_journal_chain.specs.Fronts.{IsFront};
-ghost use Rattle.droid_journal_chain.specs.Records.{AllFit, Record};
+ghost use Rattle.droid_journal.specs.Chains.{IsMark, NoneLaterByChance, NotByChance, form_of, journal_bytes};
+ghost use Rattle.droid_journal.specs.Chains.{marked_bytes, skipped};
+ghost use Rattle.droid_journal.specs.Fronts.{IsFront};
+ghost use Rattle.droid_journal.specs.Records.{AllFit, Record};
 
 use crate::file_records::{WINDOW, hand_all, is_damaged};
-use crate::frames::is_same;
 use crate::journal_fault::Fault;
 use crate::log_file::LogFile;
 use crate::machine::Machine;
-use droid_journal_chain::{Form, Key, Place, first_place, is_mark, key_of};
+use crate::records::checks::MARK;
+use crate::records::comparison::is_same;
+use crate::records::damage::is_mark;
+use crate::records::key::{Form, Key, first_place, key_of};
+use crate::records::place::Place;
 use std::alloc::Global;
-
-/// The bytes of the beginning of a turn: a byte 1 and its mark.
-const MARK: usize = 17;
 
 /// A machine that stands for the records of a file.
 #[derive(Drop)]
@@ -73,7 +76,8 @@ fn beginning_of<F: LogFile>(file: &F, header: &[u8], buffer: &mut [u8]) -> Resul
     ensures window { length buffer.new ≡ 16777216 }
     ensures begins { (s : List ℕ) → F.has file.now s → IfOk result (Knows header.now s) }
     ensures part { IfOk result (PartWithin header.now) }
-    ensures other { IsErrOf result Fault.Header → (s : List ℕ) → F.has file.now s → (HasHeader header.now s → ⊥) × ((count : ℕ) → IsBegun header.now s count → ⊥) }
+    ensures other { IsErrOf result Fault.Header → (s : List ℕ) → F.has file.now s
+        → (HasHeader header.now s → ⊥) × ((count : ℕ) → IsBegun header.now s count → ⊥) }
     ensures others { (n : ℕ) → (IsErrOf result (Fault.Damage n) → ⊥) × (IsErrOf result (Fault.Record n) → ⊥) }
 {
     let Ok(count) = file.read_at(0, buffer) else {
@@ -86,7 +90,8 @@ fn beginning_of<F: LogFile>(file: &F, header: &[u8], buffer: &mut [u8]) -> Resul
 fn beginning_in(seen: &[u8], header: &[u8]) -> Result<Beginning, Fault>
     requires { length header.now ≤ 4096 }
     ensures begins { (s : List ℕ) → seen.now ≡ take 16777216 s → IfOk result (Knows header.now s) }
-    ensures other { IsErrOf result Fault.Header → (s : List ℕ) → seen.now ≡ take 16777216 s → (HasHeader header.now s → ⊥) × ((count : ℕ) → IsBegun header.now s count → ⊥) }
+    ensures other { IsErrOf result Fault.Header → (s : List ℕ) → seen.now ≡ take 16777216 s
+        → (HasHeader header.now s → ⊥) × ((count : ℕ) → IsBegun header.now s count → ⊥) }
     ensures part { IfOk result (PartWithin header.now) }
     ensures header { IfErr result (λ fault. fault ≡ Fault.Header) }
 {
@@ -105,7 +110,8 @@ fn beginning_in(seen: &[u8], header: &[u8]) -> Result<Beginning, Fault>
 /// Writes the part of the header that a file lacks, and syncs it.
 fn make_header<F: LogFile>(file: &mut F, header: &[u8], count: usize) -> Result<(), Fault>
     requires { count ≤ length header.now }
-    ensures made { (s : List ℕ) → F.has file.old s → IsBegun header.now s count → OnOk result (F.has file.new header.now × (F.kept file.new ≡ header.now)) }
+    ensures made { (s : List ℕ) → F.has file.old s → IsBegun header.now s count
+        → OnOk result (F.has file.new header.now × (F.kept file.new ≡ header.now)) }
     ensures kept { OnErr result (F.kept file.new ≡ F.kept file.old) }
 {
     if file.append(&header[count..]).is_err() {
@@ -121,7 +127,8 @@ fn make_header<F: LogFile>(file: &mut F, header: &[u8], count: usize) -> Result<
 fn cut_behind<F: LogFile>(file: &mut F, end: u64) -> Result<(), Fault>
     requires found { F.is_found file.old }
     requires within { (s : List ℕ) → F.has file.old s → (length (F.kept file.old) ≤ end) × (end ≤ length s) }
-    ensures cut { (s : List ℕ) → F.has file.old s → OnOk result (F.has file.new (take end s) × (F.kept file.new ≡ take end s)) }
+    ensures cut { (s : List ℕ) → F.has file.old s
+        → OnOk result (F.has file.new (take end s) × (F.kept file.new ≡ take end s)) }
     ensures kept { OnErr result (F.kept file.new ≡ F.kept file.old) }
 {
     if file.cut(end).is_err() {
@@ -148,7 +155,8 @@ fn is_begun_at<F: LogFile>(file: &F, key: Key, at: u64) -> Result<bool, Fault>
     requires found { F.is_found file.now }
     ensures mark { (s : List ℕ) → F.has file.now s → IfOk result (λ is. IsTrue is → IsMark key at (drop at s)) }
     ensures form { IfOk result (λ is. IsTrue is → key.form ≡ Form.Present) }
-    ensures none { (s : List ℕ) → F.has file.now s → IfOk result (λ is. key.form ≡ Form.Present → IsMark key at (drop at s) → IsTrue is) }
+    ensures none { (s : List ℕ) → F.has file.now s
+        → IfOk result (λ is. key.form ≡ Form.Present → IsMark key at (drop at s) → IsTrue is) }
     ensures fault { IfErr result (λ fault. fault ≡ Fault.Read) }
 {
     match key.form {
@@ -188,9 +196,12 @@ fn read_all<F: LogFile, M: Machine + Drop>(
     requires header { length header.now ≤ 4096 }
     requires window { length buffer.old ≡ 16777216 }
     ensures read { (s : List ℕ) → F.has file.now s → HasHeader header.now s
-        → IfOk result (λ to. (its : List Record) × ReadsAll M.stands M.gives header.now s machine.old machine.new to its) }
-    ensures damage { (n : ℕ) → IsErrOf result (Fault.Damage n) → (s : List ℕ) → F.has file.now s → HasHeader header.now s → WasDamaged header.now s n }
-    ensures refuted { (n : ℕ) → IsErrOf result (Fault.Record n) → (setting : M.Setting) (s : List ℕ) → F.has file.now s → HasHeader header.now s → M.stands setting machine.old []
+        → IfOk result (λ to.
+        (its : List Record) × ReadsAll M.stands M.gives header.now s machine.old machine.new to its) }
+    ensures damage { (n : ℕ) → IsErrOf result (Fault.Damage n) → (s : List ℕ) → F.has file.now s
+        → HasHeader header.now s → WasDamaged header.now s n }
+    ensures refuted { (n : ℕ) → IsErrOf result (Fault.Record n) → (setting : M.Setting) (s : List ℕ) → F.has file.now s
+        → HasHeader header.now s → M.stands setting machine.old []
         → WasRefuted (M.gives setting) header.now s n }
     ensures others { IsErrOf result Fault.Header → ⊥ }
 {
@@ -226,14 +237,19 @@ fn open_whole<F: LogFile, M: Machine + Drop>(
     requires window { length buffer.old ≡ 16777216 }
     requires begins { (s : List ℕ) → F.has file.old s → HasHeader header.now s }
     requires kept { (s : List ℕ) → F.has file.old s → IsKept header.now (F.kept file.old) }
-    ensures opened { (s : List ℕ) → F.has file.old s → IfOk result (λ opened. (its : List Record) × WasFound header.now s its
-        × ((setting : M.Setting) → M.stands setting machine [] → IsReady F.has F.kept (M.stands setting) header.now file.new opened its × Gave (M.gives setting) [] its)) }
+    ensures opened { (s : List ℕ) → F.has file.old s
+        → IfOk result (λ opened. (its : List Record) × WasFound header.now s its
+        × ((setting : M.Setting) → M.stands setting machine []
+        → IsReady F.has F.kept (M.stands setting) header.now file.new opened its × Gave (M.gives setting) [] its)) }
     // A file that ends with the mark of its last turn stays as it is.
-    ensures stays { (s : List ℕ) → F.has file.old s → (its : List Record) → form_of header.now ≡ Form.Present → AllFit its → s ≡ marked_bytes header.now its → OnOk result (F.has file.new s) }
+    ensures stays { (s : List ℕ) → F.has file.old s → (its : List Record) → form_of header.now ≡ Form.Present
+        → AllFit its → s ≡ marked_bytes header.now its → OnOk result (F.has file.new s) }
     ensures unchanged { IfErr result (λ fault. fault ≢ Fault.Write → file.new ≡ file.old) }
     ensures kept { OnErr result (F.kept file.new ≡ F.kept file.old) }
-    ensures damage { (n : ℕ) → IsErrOf result (Fault.Damage n) → (s : List ℕ) → F.has file.old s → WasDamaged header.now s n }
-    ensures refuted { (n : ℕ) → IsErrOf result (Fault.Record n) → (setting : M.Setting) (s : List ℕ) → F.has file.old s → M.stands setting machine []
+    ensures damage { (n : ℕ) → IsErrOf result (Fault.Damage n) → (s : List ℕ) → F.has file.old s
+        → WasDamaged header.now s n }
+    ensures refuted { (n : ℕ) → IsErrOf result (Fault.Record n) → (setting : M.Setting) (s : List ℕ) → F.has file.old s
+        → M.stands setting machine []
         → WasRefuted (M.gives setting) header.now s n }
     ensures others { IsErrOf result Fault.Header → ⊥ }
 {
@@ -270,8 +286,10 @@ fn open_begun<F: LogFile, M: Machine + Drop>(
 ) -> Result<Opened<M>, Fault>
     requires count { count ≤ length header.now }
     requires begins { (s : List ℕ) → F.has file.old s → IsBegun header.now s count }
-    ensures opened { (s : List ℕ) → F.has file.old s → IfOk result (λ opened. (its : List Record) × WasFound header.now s its
-        × ((setting : M.Setting) → M.stands setting machine [] → IsReady F.has F.kept (M.stands setting) header.now file.new opened its × Gave (M.gives setting) [] its)) }
+    ensures opened { (s : List ℕ) → F.has file.old s
+        → IfOk result (λ opened. (its : List Record) × WasFound header.now s its
+        × ((setting : M.Setting) → M.stands setting machine []
+        → IsReady F.has F.kept (M.stands setting) header.now file.new opened its × Gave (M.gives setting) [] its)) }
     ensures fault { IfErr result (λ fault. fault ≡ Fault.Write) }
     ensures kept { OnErr result (F.kept file.new ≡ F.kept file.old) }
 {
@@ -299,16 +317,22 @@ fn open_by<F: LogFile, M: Machine + Drop>(
     requires header { length header.now ≤ 4096 }
     requires window { length buffer.old ≡ 16777216 }
     requires kept { (s : List ℕ) → F.has file.old s → HasHeader header.now s → IsKept header.now (F.kept file.old) }
-    ensures opened { (s : List ℕ) → F.has file.old s → IfOk result (λ opened. (its : List Record) × WasFound header.now s its
-        × ((setting : M.Setting) → M.stands setting machine [] → IsReady F.has F.kept (M.stands setting) header.now file.new opened its × Gave (M.gives setting) [] its)) }
+    ensures opened { (s : List ℕ) → F.has file.old s
+        → IfOk result (λ opened. (its : List Record) × WasFound header.now s its
+        × ((setting : M.Setting) → M.stands setting machine []
+        → IsReady F.has F.kept (M.stands setting) header.now file.new opened its × Gave (M.gives setting) [] its)) }
     // A file that ends with the mark of its last turn stays as it is.
-    ensures stays { (s : List ℕ) → F.has file.old s → (its : List Record) → form_of header.now ≡ Form.Present → AllFit its → s ≡ marked_bytes header.now its → OnOk result (F.has file.new s) }
+    ensures stays { (s : List ℕ) → F.has file.old s → (its : List Record) → form_of header.now ≡ Form.Present
+        → AllFit its → s ≡ marked_bytes header.now its → OnOk result (F.has file.new s) }
     ensures unchanged { IfErr result (λ fault. fault ≢ Fault.Write → file.new ≡ file.old) }
     ensures kept { OnErr result (F.kept file.new ≡ F.kept file.old) }
-    ensures damage { (n : ℕ) → IsErrOf result (Fault.Damage n) → (s : List ℕ) → F.has file.old s → WasDamaged header.now s n }
-    ensures refuted { (n : ℕ) → IsErrOf result (Fault.Record n) → (setting : M.Setting) (s : List ℕ) → F.has file.old s → M.stands setting machine []
+    ensures damage { (n : ℕ) → IsErrOf result (Fault.Damage n) → (s : List ℕ) → F.has file.old s
+        → WasDamaged header.now s n }
+    ensures refuted { (n : ℕ) → IsErrOf result (Fault.Record n) → (setting : M.Setting) (s : List ℕ) → F.has file.old s
+        → M.stands setting machine []
         → WasRefuted (M.gives setting) header.now s n }
-    ensures other_header { IsErrOf result Fault.Header → (s : List ℕ) → F.has file.old s → (HasHeader header.now s → ⊥) × ((count : ℕ) → IsBegun header.now s count → ⊥) }
+    ensures other_header { IsErrOf result Fault.Header → (s : List ℕ) → F.has file.old s
+        → (HasHeader header.now s → ⊥) × ((count : ℕ) → IsBegun header.now s count → ⊥) }
 {
     let beginning = match beginning_of(file, header, buffer) {
         Ok(beginning) => beginning,
@@ -323,12 +347,12 @@ fn open_by<F: LogFile, M: Machine + Drop>(
     }
 }
 
-/// Makes a machine stand for the records of a file, and cuts the file behind them; `machine` has accepted nothing yet. The
-/// file is made, if it is empty. Whatever a crash left behind what was synced, the machine then stands for the first of the
-/// requests that were accepted, in order, and for every one that was synced.
+/// Makes a machine stand for the records of a file, and cuts the file behind them; `machine` has accepted nothing yet.
+/// The file is made, if it is empty. Whatever a crash left behind what was synced, the machine then stands for the
+/// first of the requests that were accepted, in order, and for every one that was synced.
 ///
-/// Nothing is written or cut before everything was read and found right: after any fault but [`Fault::Write`] the file is
-/// as it was.
+/// Nothing is written or cut before everything was read and found right: after any fault but [`Fault::Write`] the file
+/// is as it was.
 pub fn open<F: LogFile, M: Machine + Drop>(
     alloc: Global,
     file: &mut F,
@@ -339,27 +363,38 @@ pub fn open<F: LogFile, M: Machine + Drop>(
     requires header { length header.now ≤ 4096 }
     // What is kept of a file that has this header was written by a journal.
     requires kept { (s : List ℕ) → F.has file.old s → HasHeader header.now s → IsKept header.now (F.kept file.old) }
-    ensures opened { (s : List ℕ) → F.has file.old s → IfOk result (λ opened. (its : List Record) × WasFound header.now s its
-        × ((setting : M.Setting) → M.stands setting machine [] → IsReady F.has F.kept (M.stands setting) header.now file.new opened its × Gave (M.gives setting) [] its)) }
-    ensures reopened { (setting : M.Setting) (s : List ℕ) (synced written : List Record) → F.has file.old s → M.stands setting machine [] → AllFit synced
+    ensures opened { (s : List ℕ) → F.has file.old s
+        → IfOk result (λ opened. (its : List Record) × WasFound header.now s its
+        × ((setting : M.Setting) → M.stands setting machine []
+        → IsReady F.has F.kept (M.stands setting) header.now file.new opened its × Gave (M.gives setting) [] its)) }
+    ensures reopened { (setting : M.Setting) (s : List ℕ) (synced written : List Record) → F.has file.old s
+        → M.stands setting machine [] → AllFit synced
         → IsFront (journal_bytes header.now synced) s → NotByChance header.now written s
-        → IfOk result (λ opened. (its : List Record) × IsReady F.has F.kept (M.stands setting) header.now file.new opened its × IsFront synced its × IsFront its written) }
+        → IfOk result (λ opened.
+        (its : List Record) × IsReady F.has F.kept (M.stands setting) header.now file.new opened its
+        × IsFront synced its × IsFront its written) }
     // A file that ends with the mark of its last turn stays as it is.
-    ensures stays { (s : List ℕ) → F.has file.old s → (its : List Record) → form_of header.now ≡ Form.Present → AllFit its → s ≡ marked_bytes header.now its → OnOk result (F.has file.new s) }
+    ensures stays { (s : List ℕ) → F.has file.old s → (its : List Record) → form_of header.now ≡ Form.Present
+        → AllFit its → s ≡ marked_bytes header.now its → OnOk result (F.has file.new s) }
     ensures unchanged { IfErr result (λ fault. fault ≢ Fault.Write → file.new ≡ file.old) }
     // After any fault what is on the disk for sure is what it was.
     ensures kept { OnErr result (F.kept file.new ≡ F.kept file.old) }
     // Damage is reported only where the beginning of a later turn stands behind it.
-    ensures damage { (n : ℕ) → IsErrOf result (Fault.Damage n) → (s : List ℕ) → F.has file.old s → WasDamaged header.now s n }
-    // So it is never reported of what a crash leaves of a journal, unless the end of the file has the beginning of a later
-    // turn by chance.
-    ensures lawful { (s : List ℕ) (synced written : List Record) (n : ℕ) → F.has file.old s → AllFit synced → IsFront (journal_bytes header.now synced) s → IsTurn synced written
-        → NoneLaterByChance header.now written s (length (journal_bytes header.now synced)) → IsErrOf result (Fault.Damage n) → ⊥ }
+    ensures damage { (n : ℕ) → IsErrOf result (Fault.Damage n) → (s : List ℕ) → F.has file.old s
+        → WasDamaged header.now s n }
+    // So it is never reported of what a crash leaves of a journal, unless the end of the file has the beginning of a
+    // later turn by chance.
+    ensures lawful { (s : List ℕ) (synced written : List Record) (n : ℕ) → F.has file.old s → AllFit synced
+        → IsFront (journal_bytes header.now synced) s → IsTurn synced written
+        → NoneLaterByChance header.now written s (length (journal_bytes header.now synced))
+        → IsErrOf result (Fault.Damage n) → ⊥ }
     // A record is refused only if no journal of such a machine wrote it behind those before it.
-    ensures refuted { (n : ℕ) → IsErrOf result (Fault.Record n) → (setting : M.Setting) (s : List ℕ) → F.has file.old s → M.stands setting machine []
+    ensures refuted { (n : ℕ) → IsErrOf result (Fault.Record n) → (setting : M.Setting) (s : List ℕ) → F.has file.old s
+        → M.stands setting machine []
         → WasRefuted (M.gives setting) header.now s n }
     // Another header is reported only where the file begins with another, and not where it was not made whole.
-    ensures other_header { IsErrOf result Fault.Header → (s : List ℕ) → F.has file.old s → (HasHeader header.now s → ⊥) × ((count : ℕ) → IsBegun header.now s count → ⊥) }
+    ensures other_header { IsErrOf result Fault.Header → (s : List ℕ) → F.has file.old s
+        → (HasHeader header.now s → ⊥) × ((count : ℕ) → IsBegun header.now s count → ⊥) }
 {
     let mut buffer = vec![in alloc; 0u8; WINDOW]?;
     open_by(alloc, file, header, machine, buffer.as_mut_slice())

@@ -4,7 +4,7 @@ use Rattle.std.specs.Prelude.{is_none}
 use Rattle.std.specs.Option.{option_map}
 use Rattle.std.specs.Str.{is_utf8}
 use Rattle.droid_frame.specs.Reading.{◌>>=◌, text_at}
-use Rattle.droid_frame.specs.types.request.Request.{Request}
+use Rattle.droid_frame.specs.declared.request.Request.{Request}
 use Rattle.droid_lines.specs.InFront.{SameInFront, line_of, with_front, with_words}
 use Rattle.droid_lines.specs.Lines.{head_at, line_value, numbered_line, request_fits, request_value, request_where_fitting, text_line, text_request, unnumbered_line, version_at, where_fitting}
 use Rattle.droid_lines.specs.Requests.{request_words}

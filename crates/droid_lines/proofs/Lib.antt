@@ -1,9 +1,17 @@
 pub mod Criteria
+pub mod Feeds
 pub mod Fitting
 pub mod FrontWords
+pub mod Holding
 pub mod InFront
 pub mod LineCuts
+pub mod LineFaults
 pub mod LineNumbers
+pub mod LineParts
 pub mod LineWords
+pub mod Numbering
+pub mod Passing
+pub mod PassingOn
 pub mod Printing
+pub mod Sent
 pub mod Tallies

@@ -1,12 +1,11 @@
 -- Where an input is cut into lines.
 use Rattle.std.proofs.Common.{◌≡◌, ℕ, ◌+◌, ◌-◌, ◌<◌, ◌≤◌, Bool, true, false, cond, ltb, List, [], ◌∷◌, length, take, drop, Option, Some, None, refl, sym, ◌∙◌, inl, inr, ◌⊎◌, arith}
-use Rattle.std.specs.List.{slice_split, onto_first, position_or_len, position_from, before_first, after_first}
+use Rattle.std.specs.List.{slice_split, onto_first, position_or_len, position_from, before_first, after_first, All}
 use Rattle.std.proofs.lemmas.Bool.{ltb-true, ltb-false}
 use Rattle.std.proofs.lemmas.Iterator.Adapters.{position_from-zero}
 use Rattle.std.proofs.lemmas.List.{take_all, length-drop}
 use Rattle.std.proofs.lemmas.List.Splits.{slice_split_first, slice_split_none}
 use Rattle.std.proofs.lemmas.List.Sums.{fails_before_first}
-use Rattle.std.specs.List.{All}
 use Rattle.droid_lines.specs.Lines.{is_line_feed, without_empty_end, lines_of}
 
 -- a list with an item

@@ -1,8 +1,8 @@
 -- The line of a finished file, from its words.
 use Rattle.std.proofs.Common.{◌≡◌, ℕ, Bool, List, [], ◌∷◌, ◌++◌, length, codes, string_bytes, Result, IfOk, refl, arith}
 use Rattle.std.specs.Prelude.{String}
-use Rattle.droid_frame.specs.types.hash_value.HashValue.{HashValue}
-use Rattle.droid_frame.specs.types.method.Method.{Method}
+use Rattle.droid_frame.specs.declared.hash_value.HashValue.{HashValue}
+use Rattle.droid_frame.specs.declared.method.Method.{Method}
 use Rattle.droid_lines.specs.Printed.{method_text, truth_text, after_commas, hash_text, puids_text, finished_text}
 
 pub finished_is : {Z E : Type 0} (r : Result (String Z) E) (method : Method) (mismatch : Bool) (hash : HashValue) (puids : List (List ℕ)) (word digits formats : List ℕ)

@@ -2,13 +2,14 @@
 use Rattle.std.specs.Prelude.{ℕ, ◌^◌, if◌then◌else◌, Bool, true, false, List, [], ◌∷◌, codes, Option, Some, None}
 use Rattle.std.specs.List.{slice_split}
 use Rattle.std.specs.Str.{bytes_eq}
-use Rattle.droid_frame.specs.types.criterion.Criterion.{Criterion}
-use Rattle.droid_frame.specs.types.criterion.Criterion.TheVariants.{MethodIs, PuidIn, ExtIn, MismatchIs, SizeAtLeast, SizeAtMost, KindIs}
-use Rattle.droid_frame.specs.types.filter.Filter.{Filter}
-use Rattle.droid_frame.specs.types.method.Method.TheVariants.{Unidentified, Signature, Extension}
-use Rattle.droid_frame.specs.types.node_kind.NodeKind.TheVariants.{File, Folder}
-use Rattle.droid_frame.specs.types.request.Request.{Request}
-use Rattle.droid_frame.specs.types.request.Request.TheVariants.{Export}
+use Rattle.droid_frame.specs.declared.criterion.Criterion.{Criterion}
+use Rattle.droid_frame.specs.declared.criterion.Criterion.TheVariants.{MethodIs, PuidIn, ExtIn, MismatchIs, SizeAtLeast}
+use Rattle.droid_frame.specs.declared.criterion.Criterion.TheVariants.{SizeAtMost, KindIs}
+use Rattle.droid_frame.specs.declared.filter.Filter.{Filter}
+use Rattle.droid_frame.specs.declared.method.Method.TheVariants.{Unidentified, Signature, Extension}
+use Rattle.droid_frame.specs.declared.node_kind.NodeKind.TheVariants.{File, Folder}
+use Rattle.droid_frame.specs.declared.request.Request.{Request}
+use Rattle.droid_frame.specs.declared.request.Request.TheVariants.{Export}
 use Rattle.droid_frame.specs.Reading.{◌>>=◌}
 use Rattle.droid_lines.specs.Words.{is_byte, cut_at, first_word, number_below, number_word}
 

@@ -20,15 +20,19 @@ with_front client number line = version_words (version_at line).0 ++ with_words 
 
 -- the request, from this client and under this number
 abbrev pub line_of : ℕ → ℕ → VersionedRequest → Line
-line_of client number asked = record { version = asked.version; client = client; number = number; request = asked.request }
+line_of client number asked =
+    record { version = asked.version; client = client; number = number; request = asked.request }
 
 -- With a client and a number in front, a line has the same request in the same version. It is bad exactly if the line
 -- without them is.
 pub record SameInFront (client_word number_word line : List ℕ) (client number : ℕ) : Type 0 where
-  pub asks : line_value (with_front client_word number_word line) ≡ option_map (line_of client number) (request_value line)
+  pub asks : line_value (with_front client_word number_word line)
+      ≡ option_map (line_of client number) (request_value line)
   pub bad : is_none (line_value (with_front client_word number_word line)) ≡ is_none (request_value line)
 
 -- this holds for every line, every client and every number
 abbrev pub AskTheSame : Type 0
-AskTheSame = (client_word number_word line : List ℕ) (client number : ℕ) → number_below (2 ^ 32) client_word ≡ Some client → number_below (2 ^ 64) number_word ≡ Some number
+AskTheSame =
+    (client_word number_word line : List ℕ) (client number : ℕ) → number_below (2 ^ 32) client_word ≡ Some client
+    → number_below (2 ^ 64) number_word ≡ Some number
     → SameInFront client_word number_word line client number

@@ -1,7 +1,15 @@
+pub mod Along
+pub mod Exchanges
 pub mod Exports
+pub mod Faults
 pub mod InFront
 pub mod Lines
+pub mod Numbering
 pub mod Printed
+pub mod Reading
 pub mod Requests
+pub mod Sending
+pub mod Steps
+pub mod Stopping
 pub mod Tallies
 pub mod Words

@@ -1,13 +1,14 @@
 -- The lines of a script, and the request of each (this project's own rule).
-use Rattle.std.specs.Prelude.{ℕ, ◌^◌, ◌==◌, ◌&&◌, nat_le, if◌then◌else◌, Bool, true, false, List, [], ◌∷◌, length, codes, Option, Some, None}
+use Rattle.std.specs.Prelude.{ℕ, ◌^◌, ◌==◌, ◌&&◌, nat_le, if◌then◌else◌, Bool, true, false, List, [], ◌∷◌, length}
+use Rattle.std.specs.Prelude.{codes, Option, Some, None}
 use Rattle.std.specs.List.{slice_split, list_all}
 use Rattle.std.specs.Str.{bytes_eq}
-use Rattle.droid_frame.specs.types.criterion.Criterion.{Criterion}
-use Rattle.droid_frame.specs.types.criterion.Criterion.TheVariants.{PuidIn, ExtIn}
-use Rattle.droid_frame.specs.types.hash_kind.HashKind.{HashKind}
-use Rattle.droid_frame.specs.types.hash_kind.HashKind.TheVariants as kinds
-use Rattle.droid_frame.specs.types.request.Request.{Request}
-use Rattle.droid_frame.specs.types.request.Request.TheVariants.{CreateProfile, Export}
+use Rattle.droid_frame.specs.declared.criterion.Criterion.{Criterion}
+use Rattle.droid_frame.specs.declared.criterion.Criterion.TheVariants.{PuidIn, ExtIn}
+use Rattle.droid_frame.specs.declared.hash_kind.HashKind.{HashKind}
+use Rattle.droid_frame.specs.declared.hash_kind.HashKind.TheVariants as kinds
+use Rattle.droid_frame.specs.declared.request.Request.{Request}
+use Rattle.droid_frame.specs.declared.request.Request.TheVariants.{CreateProfile, Export}
 use Rattle.droid_frame.specs.Bodies.{request_body}
 use Rattle.droid_frame.specs.Limits.{body_limit}
 use Rattle.droid_frame.specs.Reading.{◌>>=◌, text_at}
@@ -67,7 +68,9 @@ abbrev pub body_fits : ℕ → List ℕ → Bool
 body_fits version body = nat_le (length body) (body_limit version)
 
 unfoldable pub request_fits : ℕ → Request → Bool
-request_fits version request = is_version version && (body_fits version (request_body version request) && (lists_fit request && hash_fits version request))
+request_fits version request =
+    is_version version
+    && (body_fits version (request_body version request) && (lists_fit request && hash_fits version request))
 
 -- ---- the version of a line
 

@@ -3,16 +3,17 @@ use Rattle.std.specs.Prelude.{ℕ, Bool, if◌then◌else◌, List, [], ◌∷�
 use Rattle.std.specs.Fmt.{decimal}
 use Rattle.std.specs.List.{flat_map}
 use Rattle.hex.specs.Hex.{encode_lower}
-use Rattle.droid_frame.specs.types.hash_value.HashValue.{HashValue}
-use Rattle.droid_frame.specs.types.hash_value.HashValue.TheVariants as values
-use Rattle.droid_frame.specs.types.method.Method.{Method}
-use Rattle.droid_frame.specs.types.method.Method.TheVariants.{Unidentified, Signature, Extension}
-use Rattle.droid_frame.specs.types.refusal.Limit.{Limit}
-use Rattle.droid_frame.specs.types.refusal.Limit.TheVariants as limits
-use Rattle.droid_frame.specs.types.refusal.Refusal.{Refusal}
-use Rattle.droid_frame.specs.types.refusal.Refusal.TheVariants.{TooFarAhead, Incomplete, LimitReached}
-use Rattle.droid_frame.specs.types.reply.Reply.{Reply}
-use Rattle.droid_frame.specs.types.reply.Reply.TheVariants.{Made, Node, Taken, Finished, Abandoned, Progress, Part, Refused}
+use Rattle.droid_frame.specs.declared.hash_value.HashValue.{HashValue}
+use Rattle.droid_frame.specs.declared.hash_value.HashValue.TheVariants as values
+use Rattle.droid_frame.specs.declared.method.Method.{Method}
+use Rattle.droid_frame.specs.declared.method.Method.TheVariants.{Unidentified, Signature, Extension}
+use Rattle.droid_frame.specs.declared.refusal.Limit.{Limit}
+use Rattle.droid_frame.specs.declared.refusal.Limit.TheVariants as limits
+use Rattle.droid_frame.specs.declared.refusal.Refusal.{Refusal}
+use Rattle.droid_frame.specs.declared.refusal.Refusal.TheVariants.{TooFarAhead, Incomplete, LimitReached}
+use Rattle.droid_frame.specs.declared.reply.Reply.{Reply}
+use Rattle.droid_frame.specs.declared.reply.Reply.TheVariants.{Made, Node, Taken, Finished, Abandoned, Progress, Part}
+use Rattle.droid_frame.specs.declared.reply.Reply.TheVariants.{Refused}
 use Rattle.droid_frame.specs.Refusals.{refusal_number}
 
 -- the method that found a file's formats
@@ -54,7 +55,9 @@ hash_text (values.Sha256 digest) = encode_lower digest
 -- the line of a finished file: method, mismatch, hash and formats
 unfoldable pub finished_text : Method → Bool → HashValue → List (List ℕ) → List ℕ
 finished_text method mismatch hash puids =
-    codes "finished " ++ (method_text method ++ (codes " " ++ (truth_text mismatch ++ (codes " " ++ (hash_text hash ++ (codes " " ++ puids_text puids))))))
+    codes "finished "
+    ++ (method_text method
+    ++ (codes " " ++ (truth_text mismatch ++ (codes " " ++ (hash_text hash ++ (codes " " ++ puids_text puids))))))
 
 -- the line of a reply; for a part of an export it says how many bytes follow
 unfoldable pub reply_text : Reply → List ℕ
@@ -64,7 +67,8 @@ reply_text (Taken held) = codes "taken " ++ decimal held
 reply_text (Finished method mismatch hash puids) = finished_text method mismatch hash puids
 reply_text Abandoned = codes "abandoned"
 reply_text (Progress held missing) = codes "progress " ++ (decimal held ++ (codes " " ++ decimal missing))
-reply_text (Part as_of total bytes) = codes "part " ++ (decimal as_of ++ (codes " " ++ (decimal total ++ (codes " " ++ decimal (length bytes)))))
+reply_text (Part as_of total bytes) =
+    codes "part " ++ (decimal as_of ++ (codes " " ++ (decimal total ++ (codes " " ++ decimal (length bytes)))))
 reply_text (Refused refusal) = codes "refused " ++ (decimal (refusal_number refusal) ++ detail_text refusal)
 
 -- what a line of a script prints: its reply, or that it is bad

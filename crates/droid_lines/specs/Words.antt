@@ -1,5 +1,6 @@
 -- The words of a line, and the numbers and truth values among them (this project's own rule).
-use Rattle.std.specs.Prelude.{ℕ, ℤ, pos, neg_ℤ, ◌+◌, ◌^◌, ◌==◌, ◌&&◌, nat_lt, if◌then◌else◌, Bool, true, false, List, length, drop, slice_index, codes, Option, Some, None}
+use Rattle.std.specs.Prelude.{ℕ, ℤ, pos, neg_ℤ, ◌+◌, ◌^◌, ◌==◌, ◌&&◌, nat_lt, if◌then◌else◌, Bool, true, false, List}
+use Rattle.std.specs.Prelude.{length, drop, slice_index, codes, Option, Some, None}
 use Rattle.std.specs.List.{position_or_len, before_first, after_first}
 use Rattle.std.specs.Option.{option_map}
 use Rattle.std.specs.Str.{all_ascii_digits, bytes_eq}
@@ -12,7 +13,8 @@ is_byte wanted byte = byte == wanted
 -- the text before the first such byte, and the text after it
 unfoldable pub cut_at : ℕ → List ℕ → Option (List ℕ × List ℕ)
 cut_at byte text =
-    if nat_lt (position_or_len (is_byte byte) text) (length text) then Some (before_first (is_byte byte) text, after_first (is_byte byte) text)
+    if nat_lt (position_or_len (is_byte byte) text) (length text)
+    then Some (before_first (is_byte byte) text, after_first (is_byte byte) text)
     else None
 
 -- the word before the first space, and the text after the space
@@ -33,7 +35,8 @@ first_word text = or_alone text (word_at text)
 -- a number below the bound, written in one or more decimal digits and nothing else
 unfoldable pub number_below : ℕ → List ℕ → Option ℕ
 number_below bound word =
-    if all_ascii_digits word && nat_lt 0 (length word) && nat_lt (digits_value 10 word) bound then Some (digits_value 10 word)
+    if all_ascii_digits word && nat_lt 0 (length word) && nat_lt (digits_value 10 word) bound
+    then Some (digits_value 10 word)
     else None
 
 -- a number of 64 bits with a sign: digits, or `-` and digits

@@ -2,7 +2,9 @@
 
 ghost use Rattle.std.specs.Prelude.{◌≡◌, IfOk};
 ghost use Rattle.std.specs.Option.{option_map};
-ghost use Rattle.droid_lines.specs.Exports.{export_words, export_place, filter_after, filter_words, criteria_after, criteria_words, criterion_word, criterion_of, join_word, method_word, mismatch_word, least_word, most_word, kind_word, list_word};
+ghost use Rattle.droid_lines.specs.Exports.{export_words, export_place, filter_after, filter_words, criteria_after};
+ghost use Rattle.droid_lines.specs.Exports.{criteria_words, criterion_word, criterion_of, join_word, method_word};
+ghost use Rattle.droid_lines.specs.Exports.{mismatch_word, least_word, most_word, kind_word, list_word};
 
 use crate::words::{first_word, name_and_value, u32_in, u32_word, u64_in, u64_word};
 use droid_frame::{Criteria, Criterion, Filter, Method, NodeKind, Request, Text, Texts};

@@ -1,18 +1,27 @@
 //! Requests and replies as lines of text.
 //!
-//! [`parse_line`] reads the request of a line of a script, [`print_reply`] prints a reply as a line.
+//! [`parse_line`] reads the request of a line of a script, [`print_reply`] prints a reply as a line. [`send`] is a
+//! client that sends the requests of lines to a service and prints the replies.
 #![tactic(auto)]
 
+mod exchange;
 mod exports;
 pub mod laws;
 mod line_feeds;
+mod line_reader;
 mod parser;
 mod printer;
+mod reply_text;
 mod requests;
+mod send_fault;
+mod sender;
+pub mod sending_laws;
 mod tally;
 mod words;
 
-pub use line_feeds::{line_end, next_line};
-pub use parser::{Line, VersionedRequest, parse_line, parse_request_line};
+pub use line_feeds::next_line;
+pub use parser::{Line, parse_line};
 pub use printer::{print_answer, print_reply};
+pub use send_fault::{SendFault, frame_fault_name};
+pub use sender::send;
 pub use tally::Tally;

@@ -3,7 +3,8 @@
 ghost use Rattle.std.specs.Prelude.{◌≡◌, IfOk, IfSome, IsTrue};
 ghost use Rattle.std.specs.Option.{option_map};
 ghost use Rattle.droid_frame.specs.Bodies.{Fits};
-ghost use Rattle.droid_lines.specs.Lines.{head_at, line_value, numbered_line, request_fits, request_value, text_line, text_request, unnumbered_line, version_at};
+ghost use Rattle.droid_lines.specs.Lines.{head_at, line_value, numbered_line, request_fits, request_value, text_line};
+ghost use Rattle.droid_lines.specs.Lines.{text_request, unnumbered_line, version_at};
 
 use crate::requests::parse_request;
 use crate::words::{u32_word, u64_word, word};

@@ -1,7 +1,8 @@
 //! The printer of replies.
 
 ghost use Rattle.std.specs.Prelude.{◌≡◌, ◌++◌, IfOk, OnOk, string_bytes};
-ghost use Rattle.droid_lines.specs.Printed.{after_commas, answer_line, detail_text, finished_text, following_bytes, hash_text, limit_text, method_text, puids_text, reply_text};
+ghost use Rattle.droid_lines.specs.Printed.{after_commas, answer_line, detail_text, finished_text, following_bytes};
+ghost use Rattle.droid_lines.specs.Printed.{hash_text, limit_text, method_text, puids_text, reply_text};
 
 use droid_frame::{HashValue, Limit, Method, Refusal, Reply, Text, Texts};
 use std::alloc::{AllocError, Global};

@@ -4,7 +4,10 @@ ghost use Rattle.std.specs.Prelude.{◌≡◌, IfOk, codes};
 ghost use Rattle.std.specs.Option.{option_map};
 ghost use Rattle.std.specs.Result.{result_ok};
 ghost use Rattle.hex.specs.Hex.{decode_of};
-ghost use Rattle.droid_lines.specs.Requests.{create_words, plain_create_words, hashed_create_words, hash_word, folder_words, file_words, piece_words, finish_words, abandon_words, status_words, request_words, node_place, file_sizes, piece_place, file_place, bytes_word};
+ghost use Rattle.droid_lines.specs.Requests.{create_words, plain_create_words, hashed_create_words, hash_word};
+ghost use Rattle.droid_lines.specs.Requests.{folder_words, file_words, piece_words, finish_words, abandon_words};
+ghost use Rattle.droid_lines.specs.Requests.{status_words, request_words, node_place, file_sizes, piece_place};
+ghost use Rattle.droid_lines.specs.Requests.{file_place, bytes_word};
 
 use crate::exports::parse_export;
 use crate::words::{i64_word, truth_in, u32_in, u32_word, u64_word, word};

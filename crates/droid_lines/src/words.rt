@@ -2,7 +2,8 @@
 
 ghost use Rattle.std.specs.Prelude.{◌≡◌, ◌==◌, ◌^◌, slice_index};
 ghost use Rattle.std.specs.Option.{option_map};
-ghost use Rattle.droid_lines.specs.Words.{cut_at, first_word, number_below, signed_number, truth_word, number_word, signed_word};
+ghost use Rattle.droid_lines.specs.Words.{cut_at, first_word, number_below, signed_number, truth_word, number_word};
+ghost use Rattle.droid_lines.specs.Words.{signed_word};
 
 /// Returns the text before the first space, and the text after it.
 pub fn word(text: &str) -> Option<(&str, &str)>

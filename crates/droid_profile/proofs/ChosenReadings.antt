@@ -5,17 +5,17 @@ use Rattle.std.proofs.lemmas.Bool.Decides.{eqb_tells}
 use Rattle.droid_pronom.specs.Registry.{Contents}
 use Rattle.droid_tree.specs.Observation.{Observation}
 use Rattle.droid_tree.specs.declared.skip_reason.Skipped.{Skipped}
-use Rattle.droid_profile_spec.specs.Calls.{Call, folder_calls, reads_of}
-use Rattle.droid_profile_spec.specs.Readings.{Reading, Ending, AtEnd, TooShort, TooLong, NoneCame, OtherFile, NotYet, IsReading, has_ended, is_whole, reads_in, unread}
-use Rattle.droid_profile_spec.specs.declared.options.Options.{Options}
-use Rattle.droid_profile_files.specs.BatchFits.{IsDropped}
-use Rattle.droid_profile_files.specs.FileStates.{AreDistinct, numbers_in}
-use Rattle.droid_profile_files.specs.FilesRead.{AreReads, IsSettled, ReadsSome, Settles}
-use Rattle.droid_profile_files.specs.declared.file_row.FileRow.{FileRow}
-use Rattle.droid_profile_files.specs.declared.file_row.FileState.{FileState}
-use Rattle.droid_profile_files.specs.declared.file_row.FileState.TheVariants.{Waits, InLane, Whole, Dropped}
-use Rattle.droid_profile_files.proofs.Places.{item_at, same_item}
-use Rattle.droid_profile_rows.specs.RowsTaken.{HaveEnded, MayBeRead, Readings, reads_of_files}
+use Rattle.droid_profile.specs.Calls.{Call, folder_calls, reads_of}
+use Rattle.droid_profile.specs.Readings.{Reading, Ending, AtEnd, TooShort, TooLong, NoneCame, OtherFile, NotYet, IsReading, has_ended, is_whole, reads_in, unread}
+use Rattle.droid_profile.specs.declared.options.Options.{Options}
+use Rattle.droid_profile.specs.BatchFits.{IsDropped}
+use Rattle.droid_profile.specs.FileStates.{AreDistinct, numbers_in}
+use Rattle.droid_profile.specs.FilesRead.{AreReads, IsSettled, ReadsSome, Settles}
+use Rattle.droid_profile.specs.declared.lanes.file_row.FileRow.{FileRow}
+use Rattle.droid_profile.specs.declared.lanes.file_row.FileState.{FileState}
+use Rattle.droid_profile.specs.declared.lanes.file_row.FileState.TheVariants.{Waits, InLane, Whole, Dropped}
+use Rattle.droid_profile.proofs.Places.{item_at, same_item}
+use Rattle.droid_profile.specs.RowsTaken.{HaveEnded, MayBeRead, Readings, reads_of_files}
 use Rattle.droid_profile.specs.HandedOut.{AreSettled, WasRead}
 
 -- ---- what holds of each file

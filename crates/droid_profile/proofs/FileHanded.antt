@@ -2,24 +2,24 @@
 use Rattle.std.proofs.Common.{◌≡◌, inl, inr, ℕ, ◌<◌, true, List, [], ◌∷◌, length, slice_get, Some, IsTrue, refl, sym, subst}
 use Rattle.std.specs.List.{AllByRecursion}
 use Rattle.droid_core_spec.specs.Conditions.{is_moment}
-use Rattle.droid_frame.specs.types.record.Record.{Record}
+use Rattle.droid_frame.specs.declared.record.Record.{Record}
 use Rattle.droid_pronom.specs.Registry.{Contents}
 use Rattle.droid_tree.specs.Heard.{Heard}
-use Rattle.droid_profile_spec.specs.Calls.{Call}
-use Rattle.droid_profile_spec.specs.EarlyEnds.{Took, Failed}
-use Rattle.droid_profile_spec.specs.Kids.{found_of, heard_of_file}
-use Rattle.droid_profile_spec.specs.Readings.{Reading, Ending, AtEnd, TooShort, TooLong, NoneCame, OtherFile, NotYet, bytes_of, is_whole}
-use Rattle.droid_profile_spec.specs.declared.fault.ProfileFault.{ProfileFault}
-use Rattle.droid_profile_spec.specs.declared.fault.ProfileFault.TheVariants as faults
-use Rattle.droid_profile_spec.specs.declared.options.Options.{Options}
-use Rattle.droid_profile_spec.specs.declared.recipient.RecipientFault.{RecipientFault}
-use Rattle.droid_profile_files.specs.BatchFits.{whole_record}
-use Rattle.droid_profile_files.specs.FilesRead.{IsSettled, Settles}
-use Rattle.droid_profile_files.specs.declared.file_row.FileRow.{FileRow}
-use Rattle.droid_profile_files.specs.declared.file_row.FileState.{FileState}
-use Rattle.droid_profile_files.specs.declared.file_row.FileState.TheVariants.{Waits, InLane, Whole, Dropped}
-use Rattle.droid_profile_files.proofs.Places.{item_at}
-use Rattle.droid_profile_rows.specs.RowsTaken.{HasMoment, records_by}
+use Rattle.droid_profile.specs.Calls.{Call}
+use Rattle.droid_profile.specs.EarlyEnds.{Took, Failed}
+use Rattle.droid_profile.specs.Kids.{found_of, heard_of_file}
+use Rattle.droid_profile.specs.Readings.{Reading, Ending, AtEnd, TooShort, TooLong, NoneCame, OtherFile, NotYet, bytes_of, is_whole}
+use Rattle.droid_profile.specs.declared.fault.ProfileFault.{ProfileFault}
+use Rattle.droid_profile.specs.declared.fault.ProfileFault.TheVariants as faults
+use Rattle.droid_profile.specs.declared.options.Options.{Options}
+use Rattle.droid_profile.specs.declared.recipient.RecipientFault.{RecipientFault}
+use Rattle.droid_profile.specs.BatchFits.{whole_record}
+use Rattle.droid_profile.specs.FilesRead.{IsSettled, Settles}
+use Rattle.droid_profile.specs.declared.lanes.file_row.FileRow.{FileRow}
+use Rattle.droid_profile.specs.declared.lanes.file_row.FileState.{FileState}
+use Rattle.droid_profile.specs.declared.lanes.file_row.FileState.TheVariants.{Waits, InLane, Whole, Dropped}
+use Rattle.droid_profile.proofs.Places.{item_at}
+use Rattle.droid_profile.specs.RowsTaken.{HasMoment, records_by}
 use Rattle.droid_profile.specs.HandedOut.{HandsFront}
 use Rattle.droid_profile.proofs.ChosenReadings.{all_at, all_from_places, within_list}
 

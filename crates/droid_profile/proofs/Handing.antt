@@ -4,16 +4,16 @@ use Rattle.std.specs.List.{count_by, flat_map}
 use Rattle.std.proofs.lemmas.List.{drop_more, take_more}
 use Rattle.std.proofs.lemmas.List.Concat.{flat_map-append}
 use Rattle.std.proofs.lemmas.List.Folds.{list_all-append}
-use Rattle.droid_frame.specs.types.record.Record.{Record}
+use Rattle.droid_frame.specs.declared.record.Record.{Record}
 use Rattle.droid_tree.specs.Heard.{Heard}
 use Rattle.droid_tree.specs.Observation.{GoesOver}
-use Rattle.droid_profile_spec.specs.EarlyEnds.{AreFirst, TakesFirst, Took, Failed, is_of_record}
-use Rattle.droid_profile_spec.specs.declared.fault.ProfileFault.{ProfileFault}
-use Rattle.droid_profile_spec.specs.declared.recipient.RecipientFault.{RecipientFault}
-use Rattle.droid_profile_spec.proofs.VisitSteps.{given_more}
-use Rattle.droid_profile_files.proofs.BatchEnds.{over_more}
-use Rattle.droid_profile_rows.specs.RowsTaken.{is_kept}
-use Rattle.droid_profile_rows.proofs.StepsMade.{counts_append}
+use Rattle.droid_profile.specs.EarlyEnds.{AreFirst, TakesFirst, Took, Failed, is_of_record}
+use Rattle.droid_profile.specs.declared.fault.ProfileFault.{ProfileFault}
+use Rattle.droid_profile.specs.declared.recipient.RecipientFault.{RecipientFault}
+use Rattle.droid_profile.proofs.VisitSteps.{given_more}
+use Rattle.droid_profile.proofs.BatchEnds.{over_more}
+use Rattle.droid_profile.specs.RowsTaken.{is_kept}
+use Rattle.droid_profile.proofs.StepsMade.{counts_append}
 use Rattle.droid_profile.specs.HandedOut.{Hands, HandsFront}
 
 -- ---- the first of a list

@@ -7,16 +7,16 @@ use Rattle.droid_pronom.specs.Registry.{Contents}
 use Rattle.droid_tree.specs.Heard.{Heard}
 use Rattle.droid_tree.specs.Observation.{Observation, Listed, Unlisted, Opened, Unopened, Read, Unread, Exchanged}
 use Rattle.droid_tree.specs.declared.folder_entry.FolderEntry.{FolderEntry}
-use Rattle.droid_profile_spec.specs.Calls.{Call, OfFolder, OfFile, heard_of_call, heard_of_calls, heard_of_observation, observation_of}
-use Rattle.droid_profile_spec.specs.Kids.{heard_of_file}
-use Rattle.droid_profile_spec.specs.Profiles.{is_of_bytes, is_of_entry}
-use Rattle.droid_profile_spec.specs.Readings.{Reading, Ending, AtEnd, TooShort, TooLong, NoneCame, OtherFile, NotYet}
-use Rattle.droid_profile_spec.specs.declared.options.Options.{Options}
-use Rattle.droid_profile_spec.proofs.VisitSteps.{all_append}
-use Rattle.droid_profile_files.specs.declared.file_row.FileRow.{FileRow}
-use Rattle.droid_profile_rows.specs.RowsTaken.{Readings, heard_at, heard_of_row, reading_of}
-use Rattle.droid_profile_rows.specs.declared.row.Row.{Row}
-use Rattle.droid_profile_rows.specs.declared.row.Row.TheVariants as rows
+use Rattle.droid_profile.specs.Calls.{Call, OfFolder, OfFile, heard_of_call, heard_of_calls, heard_of_observation, observation_of}
+use Rattle.droid_profile.specs.Kids.{heard_of_file}
+use Rattle.droid_profile.specs.Profiles.{is_of_bytes, is_of_entry}
+use Rattle.droid_profile.specs.Readings.{Reading, Ending, AtEnd, TooShort, TooLong, NoneCame, OtherFile, NotYet}
+use Rattle.droid_profile.specs.declared.options.Options.{Options}
+use Rattle.droid_profile.proofs.VisitSteps.{all_append}
+use Rattle.droid_profile.specs.declared.lanes.file_row.FileRow.{FileRow}
+use Rattle.droid_profile.specs.RowsTaken.{Readings, heard_at, heard_of_row, reading_of}
+use Rattle.droid_profile.specs.declared.walk.row.Row.{Row}
+use Rattle.droid_profile.specs.declared.walk.row.Row.TheVariants as rows
 
 pub all_front : {A : Type 0} (P : A → Type 0) (xs ys : List A) → AllByRecursion P (xs ++ ys) → AllByRecursion P xs
 all_front P [] ys all = tt

@@ -6,17 +6,17 @@ use Rattle.droid_pronom.specs.Registry.{Contents}
 use Rattle.droid_tree.specs.Heard.{Heard, Left, Held, TookBytes, TookFolder, TookFile}
 use Rattle.droid_tree.specs.Paths.{below}
 use Rattle.droid_tree.specs.declared.folder_entry.FolderEntry.{FolderEntry}
-use Rattle.droid_profile_spec.specs.Calls.{Call, heard_of_calls}
-use Rattle.droid_profile_spec.specs.EarlyEnds.{AreFirst, is_counted, is_of_record}
-use Rattle.droid_profile_spec.specs.Kids.{Kid, Subfolder, ClosedFolder, AFile, AnotherKind, NoText, RefusedEntry, heard_of_file, heard_of_kid, is_done, numbers_in}
-use Rattle.droid_profile_spec.specs.Readings.{Reading, Ending, AtEnd, TooShort, TooLong, NoneCame, OtherFile, NotYet, has_ended}
-use Rattle.droid_profile_spec.specs.Visits.{Visit, heard_of_listing, heard_of_repeated, heard_of_visit, is_complete, numbers_of}
-use Rattle.droid_profile_spec.specs.declared.options.Options.{Options}
-use Rattle.droid_profile_files.specs.declared.file_row.FileRow.{FileRow}
-use Rattle.droid_profile_rows.specs.RowsTaken.{Readings, heard_at, heard_of_row, is_counted_row, reading_of, records_at, records_by, records_of_row}
-use Rattle.droid_profile_rows.specs.declared.row.Row.{Row}
-use Rattle.droid_profile_rows.specs.declared.row.Row.TheVariants as rows
-use Rattle.droid_profile_rows.proofs.StepsMade.{counts_append}
+use Rattle.droid_profile.specs.Calls.{Call, heard_of_calls}
+use Rattle.droid_profile.specs.EarlyEnds.{AreFirst, is_counted, is_of_record}
+use Rattle.droid_profile.specs.Kids.{Kid, Subfolder, ClosedFolder, AFile, AnotherKind, NoText, RefusedEntry, heard_of_file, heard_of_kid, is_done, numbers_in}
+use Rattle.droid_profile.specs.Readings.{Reading, Ending, AtEnd, TooShort, TooLong, NoneCame, OtherFile, NotYet, has_ended}
+use Rattle.droid_profile.specs.Visits.{Visit, heard_of_listing, heard_of_repeated, heard_of_visit, is_complete, numbers_of}
+use Rattle.droid_profile.specs.declared.options.Options.{Options}
+use Rattle.droid_profile.specs.declared.lanes.file_row.FileRow.{FileRow}
+use Rattle.droid_profile.specs.RowsTaken.{Readings, heard_at, heard_of_row, is_counted_row, reading_of, records_at, records_by, records_of_row}
+use Rattle.droid_profile.specs.declared.walk.row.Row.{Row}
+use Rattle.droid_profile.specs.declared.walk.row.Row.TheVariants as rows
+use Rattle.droid_profile.proofs.StepsMade.{counts_append}
 use Rattle.droid_profile.proofs.Handing.{all_counted}
 use Rattle.droid_profile.proofs.ReportKinds.{OfBytes, of_calls}
 

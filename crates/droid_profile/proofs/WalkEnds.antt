@@ -1,28 +1,28 @@
 -- How a profile ends early.
 use Rattle.std.proofs.Common.{◌≡◌, ◌⊎◌, inl, inr, ℕ, ◌+◌, ◌≤◌, Bool, List, [], ◌∷◌, ◌++◌, length, length-append, map, filter, append-nil, append_assoc, refl, sym, ap, subst, ◌∙◌, arith}
 use Rattle.std.specs.List.{count_by, flat_map, AllByRecursion}
-use Rattle.droid_frame.specs.types.record.Record.{Record}
+use Rattle.droid_frame.specs.declared.record.Record.{Record}
 use Rattle.droid_pronom.specs.Registry.{Contents}
 use Rattle.droid_tree.specs.Heard.{Heard}
 use Rattle.droid_tree.specs.Observation.{Observation, GoesOver}
 use Rattle.droid_tree.specs.Paths.{top}
 use Rattle.droid_tree.specs.declared.folder_entry.FolderEntry.{FolderEntry}
-use Rattle.droid_profile_spec.specs.Calls.{Call, heard_of_calls, observation_of}
-use Rattle.droid_profile_spec.specs.EarlyEnds.{AreBegun, AreFirst, EndsEarly, TakesFirst, TreeStands, Took, is_counted, is_of_record}
-use Rattle.droid_profile_spec.specs.Profiles.{is_of_bytes, is_of_entry}
-use Rattle.droid_profile_spec.specs.Visits.{Visit, IsBegun, IsVisit}
-use Rattle.droid_profile_spec.specs.declared.fault.ProfileFault.{ProfileFault}
-use Rattle.droid_profile_spec.specs.declared.fault.ProfileFault.TheVariants as faults
-use Rattle.droid_profile_spec.specs.declared.options.Options.{Options}
-use Rattle.droid_profile_spec.specs.declared.recipient.RecipientFault.{RecipientFault}
-use Rattle.droid_profile_files.specs.FilesRead.{ReadsAll, ReadsFront}
-use Rattle.droid_profile_files.specs.declared.file_row.FileRow.{FileRow}
-use Rattle.droid_profile_files.proofs.BatchEnds.{over_more}
-use Rattle.droid_profile_rows.specs.RowsTaken.{Readings, heard_of_row, records_of_row}
-use Rattle.droid_profile_rows.specs.ScanFits.{EndsTaking, IsExplained, IsOpen, NoneOpen, Visited, entries_left}
-use Rattle.droid_profile_rows.specs.declared.row.Row.{Row}
-use Rattle.droid_profile_rows.specs.declared.scan.Scan.{Scan}
-use Rattle.droid_profile_rows.proofs.StepsMade.{counts_append}
+use Rattle.droid_profile.specs.Calls.{Call, heard_of_calls, observation_of}
+use Rattle.droid_profile.specs.EarlyEnds.{AreBegun, AreFirst, EndsEarly, TakesFirst, TreeStands, Took, is_counted, is_of_record}
+use Rattle.droid_profile.specs.Profiles.{is_of_bytes, is_of_entry}
+use Rattle.droid_profile.specs.Visits.{Visit, IsBegun, IsVisit}
+use Rattle.droid_profile.specs.declared.fault.ProfileFault.{ProfileFault}
+use Rattle.droid_profile.specs.declared.fault.ProfileFault.TheVariants as faults
+use Rattle.droid_profile.specs.declared.options.Options.{Options}
+use Rattle.droid_profile.specs.declared.recipient.RecipientFault.{RecipientFault}
+use Rattle.droid_profile.specs.FilesRead.{ReadsAll, ReadsFront}
+use Rattle.droid_profile.specs.declared.lanes.file_row.FileRow.{FileRow}
+use Rattle.droid_profile.proofs.BatchEnds.{over_more}
+use Rattle.droid_profile.specs.RowsTaken.{Readings, heard_of_row, records_of_row}
+use Rattle.droid_profile.specs.ScanFits.{EndsTaking, IsExplained, IsOpen, NoneOpen, Visited, entries_left}
+use Rattle.droid_profile.specs.declared.walk.row.Row.{Row}
+use Rattle.droid_profile.specs.declared.walk.scan.Scan.{Scan}
+use Rattle.droid_profile.proofs.StepsMade.{counts_append}
 use Rattle.droid_profile.specs.HandedOut.{AreSettled, HandsFront}
 use Rattle.droid_profile.specs.Walking.{StandsAt}
 use Rattle.droid_profile.proofs.ChosenReadings.{ReadLike, begun_as, read_as}

@@ -5,28 +5,28 @@ use Rattle.std.proofs.lemmas.Bool.Decides.{eqb_tells}
 use Rattle.std.proofs.lemmas.List.{map-append}
 use Rattle.std.proofs.lemmas.List.Concat.{flat_map-append}
 use Rattle.std.proofs.lemmas.List.Folds.{list_all-append}
-use Rattle.droid_frame.specs.types.record.Record.{Record}
+use Rattle.droid_frame.specs.declared.record.Record.{Record}
 use Rattle.droid_pronom.specs.Registry.{Contents}
 use Rattle.droid_tree.specs.Heard.{Heard}
 use Rattle.droid_tree.specs.Observation.{Observation, GoesOver}
 use Rattle.droid_tree.specs.Paths.{top}
 use Rattle.droid_tree.specs.declared.folder_entry.FolderEntry.{FolderEntry}
-use Rattle.droid_profile_spec.specs.Calls.{Call, OfFolder, folder_calls, folder_observed, heard_of_call, heard_of_calls, observation_of, reads_of}
-use Rattle.droid_profile_spec.specs.EarlyEnds.{is_of_record}
-use Rattle.droid_profile_spec.specs.Profiles.{AreCallsOf, ProfilesTree, is_of_entry}
-use Rattle.droid_profile_spec.specs.Readings.{IsReading, unread}
-use Rattle.droid_profile_spec.specs.Visits.{Visit, InTurn, IsBegun, IsVisit}
-use Rattle.droid_profile_spec.specs.declared.options.Options.{Options}
-use Rattle.droid_profile_spec.proofs.VisitSteps.{all_append}
-use Rattle.droid_profile_files.specs.FilesRead.{ReadsAll}
-use Rattle.droid_profile_files.specs.declared.file_row.FileRow.{FileRow}
-use Rattle.droid_profile_files.proofs.BatchEnds.{over_more}
-use Rattle.droid_profile_files.proofs.ReadsSplit.{reads_append}
-use Rattle.droid_profile_rows.specs.RowsTaken.{HaveEnded, Readings, heard_of_row, is_kept, reads_of_files, records_of_row}
-use Rattle.droid_profile_rows.specs.ScanFits.{AddsFew, IsOpen, NoneOpen, ScanFits, Takes, TakesMore, Visited}
-use Rattle.droid_profile_rows.specs.declared.row.Row.{Row}
-use Rattle.droid_profile_rows.specs.declared.scan.Scan.{Scan}
-use Rattle.droid_profile_rows.proofs.StepsMade.{counts_append}
+use Rattle.droid_profile.specs.Calls.{Call, OfFolder, folder_calls, folder_observed, heard_of_call, heard_of_calls, observation_of, reads_of}
+use Rattle.droid_profile.specs.EarlyEnds.{is_of_record}
+use Rattle.droid_profile.specs.Profiles.{AreCallsOf, ProfilesTree, is_of_entry}
+use Rattle.droid_profile.specs.Readings.{IsReading, unread}
+use Rattle.droid_profile.specs.Visits.{Visit, InTurn, IsBegun, IsVisit}
+use Rattle.droid_profile.specs.declared.options.Options.{Options}
+use Rattle.droid_profile.proofs.VisitSteps.{all_append}
+use Rattle.droid_profile.specs.FilesRead.{ReadsAll}
+use Rattle.droid_profile.specs.declared.lanes.file_row.FileRow.{FileRow}
+use Rattle.droid_profile.proofs.BatchEnds.{over_more}
+use Rattle.droid_profile.proofs.ReadsSplit.{reads_append}
+use Rattle.droid_profile.specs.RowsTaken.{HaveEnded, Readings, heard_of_row, is_kept, reads_of_files, records_of_row}
+use Rattle.droid_profile.specs.ScanFits.{AddsFew, IsOpen, NoneOpen, ScanFits, Takes, TakesMore, Visited}
+use Rattle.droid_profile.specs.declared.walk.row.Row.{Row}
+use Rattle.droid_profile.specs.declared.walk.scan.Scan.{Scan}
+use Rattle.droid_profile.proofs.StepsMade.{counts_append}
 use Rattle.droid_profile.specs.HandedOut.{AreSettled, Hands}
 use Rattle.droid_profile.specs.Walking.{StandsAt}
 use Rattle.droid_profile.proofs.ChosenReadings.{ReadLike, all_from_places, none_there, read_as}

@@ -9,11 +9,11 @@ use Rattle.droid_tree.specs.Kinds.{IsNoNode, reason_of_kind}
 use Rattle.droid_tree.specs.declared.folder_entry.EntryKind.{EntryKind}
 use Rattle.droid_tree.specs.declared.folder_entry.EntryKind.TheVariants as kinds
 use Rattle.droid_tree.specs.declared.folder_entry.FolderEntry.{FolderEntry}
-use Rattle.droid_profile_spec.specs.Kids.{Kid, Subfolder, ClosedFolder, AFile, AnotherKind, NoText, RefusedEntry, MayCome, heard_of_file, heard_of_kid, is_done, is_link, is_taken}
-use Rattle.droid_profile_spec.specs.Readings.{Reading, Ending, AtEnd, TooShort, TooLong, NoneCame, OtherFile, NotYet, has_ended, is_whole}
-use Rattle.droid_profile_spec.specs.Visits.{Visit, IsVisit, heard_of_listing, heard_of_repeated, heard_of_visit, is_complete, is_whole_visit}
-use Rattle.droid_profile_spec.specs.declared.options.Options.{Options}
-use Rattle.droid_profile_rows.specs.RowsTaken.{is_kept, is_link_reason}
+use Rattle.droid_profile.specs.Kids.{Kid, Subfolder, ClosedFolder, AFile, AnotherKind, NoText, RefusedEntry, MayCome, heard_of_file, heard_of_kid, is_done, is_link, is_taken}
+use Rattle.droid_profile.specs.Readings.{Reading, Ending, AtEnd, TooShort, TooLong, NoneCame, OtherFile, NotYet, has_ended, is_whole}
+use Rattle.droid_profile.specs.Visits.{Visit, IsVisit, heard_of_listing, heard_of_repeated, heard_of_visit, is_complete, is_whole_visit}
+use Rattle.droid_profile.specs.declared.options.Options.{Options}
+use Rattle.droid_profile.specs.RowsTaken.{is_kept, is_link_reason}
 
 both_true : (a b : Bool) → (a && b) ≡ true → (a ≡ true) × (b ≡ true)
 both_true true b is = (refl, is)

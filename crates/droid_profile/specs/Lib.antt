@@ -1,8 +1,25 @@
+pub mod BatchFits
+pub mod Calls
+pub mod EarlyEnds
+pub mod FileStates
+pub mod FilesRead
 pub mod HandedOut
+pub mod Kids
+pub mod LaneEnds
+pub mod LaneReads
+pub mod LaneSteps
+pub mod ProfileNodes
+pub mod ProfileRecords
+pub mod Profiles
+pub mod Readings
+pub mod RowsPushed
+pub mod RowsTaken
+pub mod ScanFits
+pub mod StepsTaken
+pub mod Taking
+pub mod Texts
+pub mod TurnsLeft
+pub mod Visits
 pub mod Walking
--- what a profile is, re-exported for a crate that writes one
-pub use Rattle.droid_profile_spec.specs.EarlyEnds
-pub use Rattle.droid_profile_spec.specs.ProfileNodes
-pub use Rattle.droid_profile_spec.specs.ProfileRecords
-pub use Rattle.droid_profile_spec.specs.Profiles
-pub use Rattle.droid_profile_spec.specs.declared as types
+pub mod Writers
+pub mod WrittenTrees

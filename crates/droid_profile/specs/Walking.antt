@@ -1,22 +1,24 @@
 -- How far a profile is.
 use Rattle.std.specs.Prelude.{◌≡◌, ◌+◌, ◌≤◌, Bool, List, length, map, filter}
 use Rattle.std.specs.List.{count_by, list_all}
-use Rattle.droid_frame.specs.types.record.Record.{Record}
+use Rattle.droid_frame.specs.declared.record.Record.{Record}
 use Rattle.droid_pronom.specs.Registry.{Contents}
 use Rattle.droid_tree.specs.Heard.{Heard}
 use Rattle.droid_tree.specs.Observation.{Observation, GoesOver}
-use Rattle.droid_profile_spec.specs.Calls.{Call, heard_of_calls, observation_of}
-use Rattle.droid_profile_spec.specs.EarlyEnds.{is_of_record}
-use Rattle.droid_profile_spec.specs.Profiles.{is_of_bytes, is_of_entry}
-use Rattle.droid_profile_spec.specs.declared.options.Options.{Options}
-use Rattle.droid_profile_files.specs.declared.file_row.FileRow.{FileRow}
-use Rattle.droid_profile_rows.specs.RowsTaken.{is_counted_row, is_kept}
-use Rattle.droid_profile_rows.specs.ScanFits.{ScanFits}
-use Rattle.droid_profile_rows.specs.declared.row.Row.{Row}
-use Rattle.droid_profile_rows.specs.declared.scan.Scan.{Scan}
+use Rattle.droid_profile.specs.Calls.{Call, heard_of_calls, observation_of}
+use Rattle.droid_profile.specs.EarlyEnds.{is_of_record}
+use Rattle.droid_profile.specs.Profiles.{is_of_bytes, is_of_entry}
+use Rattle.droid_profile.specs.declared.options.Options.{Options}
+use Rattle.droid_profile.specs.declared.lanes.file_row.FileRow.{FileRow}
+use Rattle.droid_profile.specs.RowsTaken.{is_counted_row, is_kept}
+use Rattle.droid_profile.specs.ScanFits.{ScanFits}
+use Rattle.droid_profile.specs.declared.walk.row.Row.{Row}
+use Rattle.droid_profile.specs.declared.walk.scan.Scan.{Scan}
 
 -- All that was taken was read and handed out, but for these rows and these files, which are few.
-pub record StandsAt {T W R : Type 0} (observes : T → Observation → T → Type 0) (hears : W → Heard → W → Type 0) (takes : R → Record → R → Type 0) (registry : Contents) (options : Options) (whole : Bool) (scan : Scan) (rows : List Row) (files : List FileRow)
+pub record StandsAt {T W R : Type 0} (observes : T → Observation → T → Type 0) (hears : W → Heard → W → Type 0)
+    (takes : R → Record → R → Type 0) (registry : Contents) (options : Options) (whole : Bool) (scan : Scan)
+    (rows : List Row) (files : List FileRow)
     (tree tree_now : T) (watcher watcher_now : W) (recipient recipient_now : R) : Type 0 where
   pub calls : List Call
   pub heard : List Heard

@@ -3,22 +3,24 @@
 ghost use Rattle.std.specs.Prelude.{◌≡◌, ◌&&◌, List, IfErr, IfOk, IsTrue, OnOk, length};
 ghost use Rattle.std.specs.List.{flat_map, AllByRecursion};
 ghost use Rattle.droid_core_spec.specs.Conditions.{is_moment};
-ghost use Rattle.droid_frame.specs.types.reply.Reply.TheVariants as replies;
+ghost use Rattle.droid_frame.specs.declared.reply.Reply.TheVariants as replies;
 ghost use Rattle.droid_pronom.specs.Registry.{Contents};
-ghost use Rattle.droid_profile_spec.specs.Kids.{heard_of_file};
-ghost use Rattle.droid_profile_spec.specs.Readings.{Reading};
-ghost use Rattle.droid_profile_spec.specs.declared.fault.ProfileFault.TheVariants as faults;
-ghost use Rattle.droid_profile_spec.specs.declared.options.Options.{Options};
-ghost use Rattle.droid_profile_spec.specs.declared.recipient.RecipientFault.{RecipientFault};
-ghost use Rattle.droid_profile_files.specs.FilesRead.{IsSettled};
-ghost use Rattle.droid_profile_files.specs.declared.file_row.FileRow.{FileRow};
-ghost use Rattle.droid_profile_rows.specs.RowsTaken.{HasMoment, IsReady, Readings, heard_of_row, is_link_reason, records_by, records_of_row};
+ghost use Rattle.droid_profile.specs.Kids.{heard_of_file};
+ghost use Rattle.droid_profile.specs.Readings.{Reading};
+ghost use Rattle.droid_profile.specs.declared.fault.ProfileFault.TheVariants as faults;
+ghost use Rattle.droid_profile.specs.declared.options.Options.{Options};
+ghost use Rattle.droid_profile.specs.declared.recipient.RecipientFault.{RecipientFault};
+ghost use Rattle.droid_profile.specs.FilesRead.{IsSettled};
+ghost use Rattle.droid_profile.specs.declared.lanes.file_row.FileRow.{FileRow};
+ghost use Rattle.droid_profile.specs.RowsTaken.{HasMoment, IsReady, Readings, heard_of_row, is_link_reason, records_by};
+ghost use Rattle.droid_profile.specs.RowsTaken.{records_of_row};
 ghost use Rattle.droid_profile.specs.HandedOut.{AreSettled, Hands, HandsFront};
 
+use crate::fault::ProfileFault;
+use crate::lanes::file_row::{FileRow, FileState};
+use crate::recipient::Recipient;
+use crate::walk::row::Row;
 use droid_frame::{Record, Reply};
-use droid_profile_files::{FileRow, FileState};
-use droid_profile_rows::Row;
-use droid_profile_spec::{ProfileFault, Recipient};
 use droid_tree::{Skipped, Watcher};
 use std::alloc::{AllocError, Global};
 
@@ -33,10 +35,18 @@ pub(crate) fn hand_out<W: Watcher, R: Recipient>(
     requires ready { AllByRecursion (IsReady (length files.now)) rows.now }
     requires moments { AllByRecursion HasMoment files.now }
     // However the files were read.
-    ensures handed { IfOk result (λ kept. (registry : Contents) (options : Options) (readings : Readings) (first : List FileRow) → AreSettled registry options readings first files.now
-        → Hands W.hears R.takes (flat_map (heard_of_row registry options readings first) rows.now) (flat_map (records_of_row registry options readings first) rows.now) kept watcher.old watcher.new recipient.old recipient.new) }
-    ensures ended { IfErr result (λ fault. (registry : Contents) (options : Options) (readings : Readings) (first : List FileRow) → AreSettled registry options readings first files.now
-        → HandsFront W.hears R.takes R.fails (flat_map (heard_of_row registry options readings first) rows.now) (flat_map (records_of_row registry options readings first) rows.now) fault watcher.old watcher.new recipient.old recipient.new) }
+    ensures handed { IfOk result (λ kept.
+        (registry : Contents) (options : Options) (readings : Readings) (first : List FileRow)
+        → AreSettled registry options readings first files.now
+        → Hands W.hears R.takes (flat_map (heard_of_row registry options readings first) rows.now)
+        (flat_map (records_of_row registry options readings first) rows.now) kept watcher.old watcher.new recipient.old
+        recipient.new) }
+    ensures ended { IfErr result (λ fault.
+        (registry : Contents) (options : Options) (readings : Readings) (first : List FileRow)
+        → AreSettled registry options readings first files.now
+        → HandsFront W.hears R.takes R.fails (flat_map (heard_of_row registry options readings first) rows.now)
+        (flat_map (records_of_row registry options readings first) rows.now) fault watcher.old watcher.new recipient.old
+        recipient.new) }
 {
     let mut whole = true;
     for row in rows {
@@ -63,10 +73,18 @@ fn hand_row<W: Watcher, R: Recipient>(
 ) -> Result<bool, ProfileFault>
     requires ready { IsReady (length files.now) row.now }
     requires moments { AllByRecursion HasMoment files.now }
-    ensures handed { IfOk result (λ kept. (registry : Contents) (options : Options) (readings : Readings) (first : List FileRow) → AreSettled registry options readings first files.now
-        → Hands W.hears R.takes (heard_of_row registry options readings first row.now) (records_of_row registry options readings first row.now) kept watcher.old watcher.new recipient.old recipient.new) }
-    ensures ended { IfErr result (λ fault. (registry : Contents) (options : Options) (readings : Readings) (first : List FileRow) → AreSettled registry options readings first files.now
-        → HandsFront W.hears R.takes R.fails (heard_of_row registry options readings first row.now) (records_of_row registry options readings first row.now) fault watcher.old watcher.new recipient.old recipient.new) }
+    ensures handed { IfOk result (λ kept.
+        (registry : Contents) (options : Options) (readings : Readings) (first : List FileRow)
+        → AreSettled registry options readings first files.now
+        → Hands W.hears R.takes (heard_of_row registry options readings first row.now)
+        (records_of_row registry options readings first row.now) kept watcher.old watcher.new recipient.old
+        recipient.new) }
+    ensures ended { IfErr result (λ fault.
+        (registry : Contents) (options : Options) (readings : Readings) (first : List FileRow)
+        → AreSettled registry options readings first files.now
+        → HandsFront W.hears R.takes R.fails (heard_of_row registry options readings first row.now)
+        (records_of_row registry options readings first row.now) fault watcher.old watcher.new recipient.old
+        recipient.new) }
 {
     match row {
         Row::Left { path, why } => {
@@ -100,10 +118,19 @@ fn hand_file<W: Watcher, R: Recipient>(
     file: &FileRow,
 ) -> Result<bool, ProfileFault>
     requires { HasMoment file.now }
-    ensures handed { IfOk result (λ kept. (registry : Contents) (options : Options) (was : FileRow) (reading : Reading) → IsSettled registry options was file.now reading file.now.state
-        → Hands W.hears R.takes (heard_of_file registry options was.record.path was.entry reading reading.ending) (records_by registry options was reading reading.ending) kept watcher.old watcher.new recipient.old recipient.new) }
-    ensures ended { IfErr result (λ fault. (registry : Contents) (options : Options) (was : FileRow) (reading : Reading) → IsSettled registry options was file.now reading file.now.state
-        → HandsFront W.hears R.takes R.fails (heard_of_file registry options was.record.path was.entry reading reading.ending) (records_by registry options was reading reading.ending) fault watcher.old watcher.new recipient.old recipient.new) }
+    ensures handed { IfOk result (λ kept.
+        (registry : Contents) (options : Options) (was : FileRow) (reading : Reading)
+        → IsSettled registry options was file.now reading file.now.state
+        → Hands W.hears R.takes (heard_of_file registry options was.record.path was.entry reading reading.ending)
+        (records_by registry options was reading reading.ending) kept watcher.old watcher.new recipient.old
+        recipient.new) }
+    ensures ended { IfErr result (λ fault.
+        (registry : Contents) (options : Options) (was : FileRow) (reading : Reading)
+        → IsSettled registry options was file.now reading file.now.state
+        → HandsFront W.hears R.takes R.fails
+        (heard_of_file registry options was.record.path was.entry reading reading.ending)
+        (records_by registry options was reading reading.ending) fault watcher.old watcher.new recipient.old
+        recipient.new) }
 {
     match file.state {
         FileState::Dropped(why) => {
@@ -124,7 +151,8 @@ fn hand_file<W: Watcher, R: Recipient>(
 fn give<R: Recipient>(recipient: &mut R, shown: &Record) -> Result<(), ProfileFault>
     requires { IsTrue (is_moment shown.now.modified) }
     ensures taken { OnOk result (R.takes recipient.old shown.now recipient.new) }
-    ensures failed { IfErr result (λ fault. (why : RecipientFault) × (fault ≡ faults.Recipient why) × R.fails recipient.old shown.now why recipient.new) }
+    ensures failed { IfErr result (λ fault.
+        (why : RecipientFault) × (fault ≡ faults.Recipient why) × R.fails recipient.old shown.now why recipient.new) }
 {
     match recipient.take(shown) {
         Ok(()) => Ok(()),
@@ -134,7 +162,8 @@ fn give<R: Recipient>(recipient: &mut R, shown: &Record) -> Result<(), ProfileFa
 
 /// Returns what a service replies when it has finished the file.
 fn reply_of(alloc: Global, shown: &Record) -> Result<Reply, AllocError>
-    ensures { IfOk result (λ reply. reply ≡ replies.Finished shown.now.method shown.now.mismatch shown.now.hash shown.now.puids) }
+    ensures { IfOk result (λ reply.
+        reply ≡ replies.Finished shown.now.method shown.now.mismatch shown.now.hash shown.now.puids) }
 {
     Ok(Reply::Finished {
         method: shown.method,

@@ -2,16 +2,16 @@
 use Rattle.std.proofs.Common.{◌≡◌, ◌↔◌, ℕ, ◌+◌, ◌-◌, ◌≤◌, min, Bool, List, [], length, ap, sym, ◌∙◌, inl, inr, arith, take, drop}
 use Rattle.std.proofs.lemmas.List.{drop-drop, take-take, drop-take}
 use Rattle.std.specs.List.{AllByRecursion}
-use Rattle.droid_pronom_formats.specs.Registry.{Contents, Signed}
-use Rattle.droid_pronom_formats.specs.Found.{extension_of, Hits, HitsFrom, IsHit, IsBeaten, IsLeft, IsMismatch, IsFoundBy, IsFound}
-use Rattle.droid_pronom_formats.specs.FoundWindows.{HitsWindows, HitsWindowsFrom}
-use Rattle.droid_pronom_formats.specs.declared.identification.Found.{Found}
-use Rattle.droid_pronom_formats.specs.declared.rows.Anchor.{Anchor}
-use Rattle.droid_pronom_formats.specs.declared.rows.Anchor.TheVariants.{Bof, Eof}
-use Rattle.droid_pronom_formats.specs.declared.rows.ByteSequence.{ByteSequence}
-use Rattle.droid_pronom_formats.specs.declared.rows.Priority.{Priority}
-use Rattle.droid_pronom_formats.specs.declared.rows.ListedExtension.{ListedExtension}
-use Rattle.droid_pronom_formats.proofs.Flags.{any_more, all_more}
+use Rattle.droid_pronom.specs.Registry.{Contents, Signed}
+use Rattle.droid_pronom.specs.Found.{extension_of, Hits, HitsFrom, IsHit, IsBeaten, IsLeft, IsMismatch, IsFoundBy, IsFound}
+use Rattle.droid_pronom.specs.FoundWindows.{HitsWindows, HitsWindowsFrom}
+use Rattle.droid_pronom.specs.declared.identification.Found.{Found}
+use Rattle.droid_pronom.specs.declared.rows.Anchor.{Anchor}
+use Rattle.droid_pronom.specs.declared.rows.Anchor.TheVariants.{Bof, Eof}
+use Rattle.droid_pronom.specs.declared.rows.ByteSequence.{ByteSequence}
+use Rattle.droid_pronom.specs.declared.rows.Priority.{Priority}
+use Rattle.droid_pronom.specs.declared.rows.ListedExtension.{ListedExtension}
+use Rattle.droid_pronom.proofs.Flags.{any_more, all_more}
 use Rattle.droid_pronom.proofs.FoundSteps.{chosen_same}
 
 -- ---- the same byte sequences, the same finds

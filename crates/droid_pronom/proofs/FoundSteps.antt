@@ -2,18 +2,18 @@
 use Rattle.std.proofs.Common.{◌≡◌, ◌≢◌, ◌⊎◌, ◌↔◌, ℕ, zero, suc, ◌≤◌, Bool, true, false, IsTrue, List, [], ◌∷◌, length, refl, ap, sym, ◌∙◌, inl, inr, arith}
 use Rattle.std.specs.List.{AllByRecursion, list_any}
 use Rattle.std.specs.Str.{str_to_ascii_lowercase}
-use Rattle.droid_pronom_formats.specs.RegistryFields.{is_puid}
-use Rattle.droid_pronom_formats.specs.Registry.{Contents, AnyOf, IsSigned, IsRegistry}
-use Rattle.droid_frame.specs.types.method.Method.TheVariants as methods
-use Rattle.droid_pronom_formats.specs.declared.identification.Found.{Found}
-use Rattle.droid_pronom_formats.specs.Found.{extension_of, IsHit, IsLeft, IsNamed, IsMismatch, IsFoundBy, Chosen, end, chosen, passed}
-use Rattle.droid_pronom_formats.specs.FoundWindows.{Stands, AreFlagsOf, without}
-use Rattle.droid_pronom_formats.specs.declared.format.Format.{Format}
-use Rattle.droid_pronom_formats.specs.declared.rows.ByteSequence.{ByteSequence}
-use Rattle.droid_pronom_formats.specs.declared.rows.Priority.{Priority}
-use Rattle.droid_pronom_formats.specs.declared.rows.ListedExtension.{ListedExtension}
-use Rattle.droid_pronom_formats.proofs.Flags.{any_more}
-use Rattle.droid_pronom_formats.proofs.MarkSteps.{SaysNamed}
+use Rattle.droid_pronom.specs.RegistryFields.{is_puid}
+use Rattle.droid_pronom.specs.Registry.{Contents, AnyOf, IsSigned, IsRegistry}
+use Rattle.droid_frame.specs.declared.method.Method.TheVariants as methods
+use Rattle.droid_pronom.specs.declared.identification.Found.{Found}
+use Rattle.droid_pronom.specs.Found.{extension_of, IsHit, IsLeft, IsNamed, IsMismatch, IsFoundBy, Chosen, end, chosen, passed}
+use Rattle.droid_pronom.specs.FoundWindows.{Stands, AreFlagsOf, without}
+use Rattle.droid_pronom.specs.declared.format.Format.{Format}
+use Rattle.droid_pronom.specs.declared.rows.ByteSequence.{ByteSequence}
+use Rattle.droid_pronom.specs.declared.rows.Priority.{Priority}
+use Rattle.droid_pronom.specs.declared.rows.ListedExtension.{ListedExtension}
+use Rattle.droid_pronom.proofs.Flags.{any_more}
+use Rattle.droid_pronom.proofs.MarkSteps.{SaysNamed}
 
 -- ---- the formats that are left
 

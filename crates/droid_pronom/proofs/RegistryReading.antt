@@ -9,7 +9,7 @@ use Rattle.csv.specs.declared.reader.Reader.{Reader}
 use Rattle.csv.specs.declared.parser.State.{State}
 use Rattle.csv.proofs.ReadFacts.{rows-more, rows-end}
 use Rattle.droid_frame.specs.Reads.{ConsumesCount}
-use Rattle.droid_pronom_formats.specs.Registry.{Contents}
+use Rattle.droid_pronom.specs.Registry.{Contents}
 use Rattle.droid_pronom.specs.RegistryRecords as faults
 use Rattle.droid_pronom.specs.RegistryRecords.{Draft, RecordFault, Step}
 use Rattle.droid_pronom.specs.RegistryFile.{Outcome, taken, faulty, end, fault_at, taken_count, File, too_long, read}

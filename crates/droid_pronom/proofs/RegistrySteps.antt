@@ -1,11 +1,11 @@
 -- What a record comes to, from what the calls say that judge its parts.
 use Rattle.std.proofs.Common.{◌≡◌, ℕ, List, [], ◌∷◌, length, Option, Some, Result, Ok, Err, IsOk, false, true, sym}
-use Rattle.droid_pronom_pattern.specs.Patterns.{Element}
-use Rattle.droid_pronom_pattern.specs.PatternText.{Spells}
+use Rattle.droid_pattern.specs.Patterns.{Element}
+use Rattle.droid_pattern.specs.PatternText.{Spells}
 use Rattle.droid_pronom.specs.RegistryRecords.{Draft, RecordFault, WithPattern, ReadsAs, Judged, Step, judged, no_text}
 use Rattle.droid_pronom.specs.RegistryRecords as faults
 use Rattle.droid_pronom.specs.RegistryCalls.{Gives, HasOutcome}
-use Rattle.droid_pronom_formats.specs.RegistryFields.{kind_of}
+use Rattle.droid_pronom.specs.RegistryFields.{kind_of}
 use Rattle.csv.specs.Records.{AllText}
 use Rattle.droid_pronom.specs.declared.registry.fault.Refusal.{Refusal}
 use Rattle.droid_pronom.specs.declared.registry.fault.Refusal.TheVariants as refusals

@@ -7,16 +7,16 @@ use Rattle.std.specs.Str.{bytes_eq}
 use Rattle.std.proofs.lemmas.Slice.Eq.{bytes_eq-Decides}
 use Rattle.std.proofs.lemmas.Bool.{false_from_ne_true, cases_Bool}
 use Rattle.std.proofs.lemmas.Option.{same_Some}
-use Rattle.droid_pronom_formats.specs.RegistryFields.{is_puid}
-use Rattle.droid_pronom_formats.specs.Registry.{Contents, Signed, AnyOf, IsSigned, IsRegistry, place_of}
+use Rattle.droid_pronom.specs.RegistryFields.{is_puid}
+use Rattle.droid_pronom.specs.Registry.{Contents, Signed, AnyOf, IsSigned, IsRegistry, place_of}
 use Rattle.std.specs.BTreeMap.{get_by_text}
 use Rattle.std.proofs.Math.ListN.{length-set}
 use Rattle.droid_pronom.specs.declared.registry.Registry.TheInside.{Inside}
 use Rattle.droid_pronom.specs.RegistryGrowth.{with_format, with_signature, extended}
 use Rattle.droid_pronom.specs.RegistryKept.{IsKept, contents}
-use Rattle.droid_pronom_formats.specs.declared.format.Format.{Format}
-use Rattle.droid_pronom_formats.specs.declared.rows.ByteSequence.{ByteSequence}
-use Rattle.droid_pronom_formats.proofs.Flags.{all_push, all_more, any_before, any_last, any_parts, set_here, set_keeps, set_only, unset_push, push_keeps}
+use Rattle.droid_pronom.specs.declared.format.Format.{Format}
+use Rattle.droid_pronom.specs.declared.rows.ByteSequence.{ByteSequence}
+use Rattle.droid_pronom.proofs.Flags.{all_push, all_more, any_before, any_last, any_parts, set_here, set_keeps, set_only, unset_push, push_keeps}
 
 -- ---- the place of a PUID
 

@@ -2,9 +2,9 @@
 use Rattle.std.specs.Prelude.{◌≡◌, ℕ, List, None, Result, Ok, Err, ⊤}
 use Rattle.csv.specs.declared.error.ErrorKind.{ErrorKind}
 use Rattle.csv.specs.declared.error.ErrorKind.TheVariants as csv
-use Rattle.droid_pronom_pattern.specs.Patterns.{Element}
-use Rattle.droid_pronom_pattern.specs.PatternText.{Spells}
-use Rattle.droid_pronom_formats.specs.RegistryFields as kind
+use Rattle.droid_pattern.specs.Patterns.{Element}
+use Rattle.droid_pattern.specs.PatternText.{Spells}
+use Rattle.droid_pronom.specs.RegistryFields as kind
 use Rattle.droid_pronom.specs.RegistryFile.{fault_at}
 use Rattle.droid_pronom.specs.RegistryRecords as record_fault
 use Rattle.droid_pronom.specs.RegistryRecords.{Draft, RecordFault, ReadsAs}

@@ -4,7 +4,7 @@ use Rattle.csv.specs.Machine.{Read, next_record}
 use Rattle.csv.specs.Reading.{default_config, strip_bom}
 use Rattle.csv.specs.declared.parser.State.{State}
 use Rattle.csv.specs.declared.parser.State.TheVariants as st
-use Rattle.droid_pronom_formats.specs.Registry.{Contents, nothing}
+use Rattle.droid_pronom.specs.Registry.{Contents, nothing}
 use Rattle.droid_pronom.specs.RegistryRecords as record_fault
 use Rattle.droid_pronom.specs.RegistryRecords.{Draft, RecordFault, Step}
 use Rattle.droid_pronom.specs.declared.registry.fault.RegistryFault.{RegistryFault}
@@ -25,9 +25,12 @@ empty_draft = record { registry = nothing; sequences = 0; current = None }
 
 -- the number of records so far: each is a row of one of the tables, or a byte sequence
 abbrev pub taken_count : Draft → ℕ
-taken_count draft = length draft.registry.formats + length draft.registry.extensions + length draft.registry.priorities + draft.sequences
+taken_count draft =
+    length draft.registry.formats + length draft.registry.extensions + length draft.registry.priorities
+    + draft.sequences
 
--- The outcome of the remaining bytes, after the records that are in the draft. A record is what `csv` reads next with its default settings.
+-- The outcome of the remaining bytes, after the records that are in the draft. A record is what `csv` reads next with
+-- its default settings.
 pub data Outcome : Draft → State → List ℕ → Result Contents RegistryFault → Type 0 where
   end : {draft : Draft} {state : State} {bytes : List ℕ}
       → next_record default_config state [] [] bytes ≡ None → Outcome draft state bytes (Ok draft.registry)

@@ -1,10 +1,10 @@
 -- What one more record adds to a registry.
 use Rattle.std.specs.Prelude.{List, [], ◌∷◌, ◌++◌}
-use Rattle.droid_pronom_formats.specs.Registry.{Contents, Signed}
-use Rattle.droid_pronom_formats.specs.declared.format.Format.{Format}
-use Rattle.droid_pronom_formats.specs.declared.rows.ListedExtension.{ListedExtension}
-use Rattle.droid_pronom_formats.specs.declared.rows.Priority.{Priority}
-use Rattle.droid_pronom_formats.specs.declared.rows.ByteSequence.{ByteSequence}
+use Rattle.droid_pronom.specs.Registry.{Contents, Signed}
+use Rattle.droid_pronom.specs.declared.format.Format.{Format}
+use Rattle.droid_pronom.specs.declared.rows.ListedExtension.{ListedExtension}
+use Rattle.droid_pronom.specs.declared.rows.Priority.{Priority}
+use Rattle.droid_pronom.specs.declared.rows.ByteSequence.{ByteSequence}
 
 -- one more format
 abbrev pub with_format : Contents → Format → Contents

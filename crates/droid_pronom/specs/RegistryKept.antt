@@ -1,12 +1,17 @@
 -- For proofs: the fields of a registry and its contents.
 use Rattle.std.specs.Prelude.{◌≡◌, ℕ, ◌↔◌, List, length, Some, slice_get, true}
 use Rattle.std.specs.BTreeMap.{get_by_text}
-use Rattle.droid_pronom_formats.specs.Registry.{Contents, IsRegistry, IsSigned, place_of}
+use Rattle.droid_pronom.specs.Registry.{Contents, IsRegistry, IsSigned, place_of}
 use Rattle.droid_pronom.specs.declared.registry.Registry.TheInside.{Inside}
 
 -- the contents that the fields hold
 abbrev pub contents : Inside → Contents
-contents a = record { formats = a.formats.items; extensions = a.extensions.items; priorities = a.priorities.items; signatures = a.signatures.items }
+contents a = record {
+  formats = a.formats.items;
+  extensions = a.extensions.items;
+  priorities = a.priorities.items;
+  signatures = a.signatures.items;
+}
 
 -- the look-up tables agree with the contents
 pub record IsKept (a : Inside) : Type 0 where

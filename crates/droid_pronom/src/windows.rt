@@ -2,15 +2,18 @@
 
 ghost use Rattle.std.specs.Prelude.{◌≡◌, ℕ, List, IfOk, length};
 ghost use Rattle.std.specs.Str.{str_to_ascii_lowercase};
-ghost use Rattle.droid_pronom_formats.specs.Found.{Chosen, IsLeft, IsFoundBy, IsNamed};
-ghost use Rattle.droid_pronom_formats.specs.FoundWindows.{HitsWindows, AreFlagsOf};
+ghost use Rattle.droid_pronom.specs.Found.{Chosen, IsLeft, IsFoundBy, IsNamed};
+ghost use Rattle.droid_pronom.specs.FoundWindows.{HitsWindows, AreFlagsOf};
 
+use crate::identification::Found;
+use crate::letter_case::lower_case;
 use crate::registry::Registry;
+use crate::steps::extension::extension;
+use crate::steps::hits::hit_formats;
+use crate::steps::listings::{is_mismatch, named_formats};
+use crate::steps::priority::{beaten_formats, unbeaten};
+use crate::steps::puids::{is_any_set, puids_of};
 use droid_frame::{Method, Texts};
-use droid_pronom_formats::{
-    Found, beaten_formats, extension, hit_formats, is_any_set, is_mismatch, lower_case,
-    named_formats, puids_of, unbeaten,
-};
 use std::alloc::{AllocError, Global};
 
 /// Returns, for each format, whether it hits and priority leaves it.
@@ -40,7 +43,8 @@ fn named_puids(
     wanted: &str,
     match_all: bool,
 ) -> Result<Texts, AllocError>
-    ensures { (extension : List ℕ) → wanted.now ≡ str_to_ascii_lowercase extension → IfOk result (Chosen (IsNamed registry.now extension match_all) 0 registry.now.formats) }
+    ensures { (extension : List ℕ) → wanted.now ≡ str_to_ascii_lowercase extension
+        → IfOk result (Chosen (IsNamed registry.now extension match_all) 0 registry.now.formats) }
 {
     if wanted.is_empty() {
         return Ok(Texts::new(alloc));

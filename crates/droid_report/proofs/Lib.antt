@@ -1,9 +1,16 @@
 mod Contents
+mod Escaping
+mod Fitting
 mod Grouping
+mod HtmlReading
+mod Letters
 mod Lines
 mod Listing
 mod Names
 mod Numbers
+pub mod Pages
 mod Reading
-mod Texts
+mod RowSteps
+mod TableTexts
+mod TextBytes
 mod Totalling

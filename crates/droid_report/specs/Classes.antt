@@ -1,5 +1,6 @@
 -- Files by year, by size and by depth: for each class how many files are of it.
-use Rattle.std.specs.Prelude.{◌≡◌, ℕ, ◌+◌, ◌<◌, ◌==◌, ◌&&◌, nat_lt, min, position, Bool, false, List, [], ◌∷◌, length, count_by, get_or, replicate, Option, Some, None, if◌then◌else◌}
+use Rattle.std.specs.Prelude.{◌≡◌, ℕ, ◌+◌, ◌<◌, ◌==◌, ◌&&◌, nat_lt, min, position, Bool, false, List, [], ◌∷◌, length}
+use Rattle.std.specs.Prelude.{count_by, get_or, replicate, Option, Some, None, if◌then◌else◌}
 use Rattle.std.specs.Option.{option_map, unwrap_or}
 use Rattle.droid_report.specs.Rows.{Line}
 use Rattle.droid_report.specs.Totals.{held, is_first_of_file}
@@ -11,11 +12,15 @@ use Rattle.droid_report.specs.declared.classes.Classes.{Classes}
 -- the powers of four from 1 to 4 ^ 31
 abbrev pub powers : List ℕ
 powers =
-    0x1 ∷ 0x4 ∷ 0x10 ∷ 0x40 ∷ 0x100 ∷ 0x400 ∷ 0x1000 ∷ 0x4000 ∷ 0x10000 ∷ 0x40000 ∷ 0x100000 ∷ 0x400000 ∷ 0x1000000 ∷ 0x4000000 ∷ 0x10000000 ∷ 0x40000000
-    ∷ 0x100000000 ∷ 0x400000000 ∷ 0x1000000000 ∷ 0x4000000000 ∷ 0x10000000000 ∷ 0x40000000000 ∷ 0x100000000000 ∷ 0x400000000000 ∷ 0x1000000000000 ∷ 0x4000000000000
-    ∷ 0x10000000000000 ∷ 0x40000000000000 ∷ 0x100000000000000 ∷ 0x400000000000000 ∷ 0x1000000000000000 ∷ 0x4000000000000000 ∷ []
+    0x1 ∷ 0x4 ∷ 0x10 ∷ 0x40 ∷ 0x100 ∷ 0x400 ∷ 0x1000 ∷ 0x4000 ∷ 0x10000 ∷ 0x40000 ∷ 0x100000 ∷ 0x400000 ∷ 0x1000000
+    ∷ 0x4000000 ∷ 0x10000000 ∷ 0x40000000
+    ∷ 0x100000000 ∷ 0x400000000 ∷ 0x1000000000 ∷ 0x4000000000 ∷ 0x10000000000 ∷ 0x40000000000 ∷ 0x100000000000
+    ∷ 0x400000000000 ∷ 0x1000000000000 ∷ 0x4000000000000
+    ∷ 0x10000000000000 ∷ 0x40000000000000 ∷ 0x100000000000000 ∷ 0x400000000000000 ∷ 0x1000000000000000
+    ∷ 0x4000000000000000 ∷ []
 
--- the class of a size: the place of the first power of four that is above it, so 0 has class 0, and 4 ^ n has class n + 1
+-- the class of a size: the place of the first power of four that is above it, so 0 has class 0, and 4 ^ n has class n +
+-- 1
 unfoldable pub size_class : ℕ → ℕ
 size_class size = unwrap_or (position (λ power. nat_lt size power) powers) 32
 
@@ -57,4 +62,5 @@ no_files by = replicate (last_class by + 1) 0
 
 pub record IsCountedIn (by : By) (line : Line) (old new : List ℕ) : Type 0 where
   pub same_length : length new ≡ length old
-  pub counts : (class : ℕ) → class < length old → get_or new class 0 ≡ (if is_in by class line then held (get_or old class 0 + 1) else get_or old class 0)
+  pub counts : (class : ℕ) → class < length old
+      → get_or new class 0 ≡ (if is_in by class line then held (get_or old class 0 + 1) else get_or old class 0)

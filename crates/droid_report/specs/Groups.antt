@@ -1,5 +1,6 @@
 -- Rows that are alike: for each format and for each content what its rows come to.
-use Rattle.std.specs.Prelude.{◌≡◌, ◌≢◌, ℕ, ◌+◌, ◌==◌, ◌&&◌, not, Bool, List, [], ◌∷◌, ◌++◌, length, count_by, true, Option, Some, None, codes, decimal, if◌then◌else◌, String, string_bytes}
+use Rattle.std.specs.Prelude.{◌≡◌, ◌≢◌, ℕ, ◌+◌, ◌==◌, ◌&&◌, not, Bool, List, [], ◌∷◌, ◌++◌, length, count_by, true}
+use Rattle.std.specs.Prelude.{Option, Some, None, codes, decimal, if◌then◌else◌, String, string_bytes}
 use Rattle.std.specs.BTreeMap.{BTreeMap, get_by_text}
 use Rattle.std.specs.List.{sum_by}
 use Rattle.std.specs.Option.{option_map, unwrap_or}
@@ -11,8 +12,8 @@ use Rattle.droid_report.specs.declared.groups.GroupSum.{GroupSum}
 use Rattle.droid_report.specs.declared.keys.Alike.{Alike}
 use Rattle.droid_report.specs.declared.keys.Alike.TheVariants as alike
 
--- The text that rows have in common: the PUID, or the hash and the size of a file. Rows without a PUID, and files without a
--- hash, are like no other.
+-- The text that rows have in common: the PUID, or the hash and the size of a file. Rows without a PUID, and files
+-- without a hash, are like no other.
 abbrev pub key_of : Alike → Line → List ℕ
 key_of alike.Format line = text_at line.fields 14
 key_of alike.Content line =
@@ -47,7 +48,8 @@ pub record Summed : Type 0 where
   pub label : List ℕ
 
 abbrev pub summed : GroupSum → Summed
-summed sum = record { count = sum.count; bytes = sum.bytes; first_size = sum.first_size; label = string_bytes sum.label }
+summed sum =
+    record { count = sum.count; bytes = sum.bytes; first_size = sum.first_size; label = string_bytes sum.label }
 
 -- what a table has for a key
 abbrev pub sum_at : BTreeMap (String Global) GroupSum → List ℕ → Option Summed
@@ -64,7 +66,12 @@ size_if test line = if test line then line.facts.size else 0
 -- what the rows that pass a test come to, if this is the first of them: how many they are, and the sum of their sizes
 abbrev pub sum_of : Alike → (Line → Bool) → List Line → Line → Summed
 sum_of alike test lines first =
-    record { count = held (count_by test lines); bytes = held (sum_by (size_if test) lines); first_size = first.facts.size; label = label_of alike first }
+    record {
+      count = held (count_by test lines);
+      bytes = held (sum_by (size_if test) lines);
+      first_size = first.facts.size;
+      label = label_of alike first;
+    }
 
 -- the group of a key, if there are rows with it
 abbrev pub group_of : Alike → List ℕ → List Line → Option Summed
@@ -80,7 +87,13 @@ abbrev pub fresh : Alike → Line → Summed
 fresh alike line = record { count = 0; bytes = 0; first_size = line.facts.size; label = label_of alike line }
 
 abbrev pub grown : Summed → ℕ → Summed
-grown sum size = record { count = held (sum.count + 1); bytes = held (sum.bytes + size); first_size = sum.first_size; label = sum.label }
+grown sum size = record {
+  count = held (sum.count + 1);
+  bytes = held (sum.bytes + size);
+  first_size = sum.first_size;
+  label = sum.label;
+}
 
 abbrev pub sum_after : Alike → List ℕ → Option Summed → Line → Option Summed
-sum_after alike key old line = if has_key alike key line then Some (grown (unwrap_or old (fresh alike line)) line.facts.size) else old
+sum_after alike key old line =
+    if has_key alike key line then Some (grown (unwrap_or old (fresh alike line)) line.facts.size) else old

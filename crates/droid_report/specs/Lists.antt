@@ -1,5 +1,6 @@
 -- Lists of files.
-use Rattle.std.specs.Prelude.{◌≡◌, ℕ, ◌-◌, ◌^◌, ◌&&◌, nat_lt, Bool, List, [], ◌∷◌, ◌++◌, length, filter, take, is_some, if◌then◌else◌}
+use Rattle.std.specs.Prelude.{◌≡◌, ℕ, ◌-◌, ◌^◌, ◌&&◌, nat_lt, Bool, List, [], ◌∷◌, ◌++◌, length, filter, take, is_some}
+use Rattle.std.specs.Prelude.{if◌then◌else◌}
 use Rattle.std.specs.List.{fold, insert, position_or_len}
 use Rattle.droid_report.specs.Lines.{lines_in}
 use Rattle.droid_report.specs.Rows.{Line}
@@ -53,16 +54,20 @@ pub record AreLists (lines : List Line) (lists : Lists) : Type 0 where
 -- ---- for proofs: one row more
 
 abbrev pub first_after : What → ℕ → List Line → Line → List Line
-first_after what limit lines line = if nat_lt (length lines) limit && is_counted what line then lines ++ line ∷ [] else lines
+first_after what limit lines line =
+    if nat_lt (length lines) limit && is_counted what line then lines ++ line ∷ [] else lines
 
 abbrev pub ranked_after : Rank → ℕ → List Line → Line → List Line
 ranked_after rank limit lines line =
-    if is_ranked rank line && nat_lt (place_for rank line lines) limit then take limit (placed rank lines line) else lines
+    if is_ranked rank line && nat_lt (place_for rank line lines) limit then take limit (placed rank lines line)
+    else lines
 
 pub record ListsAfter (line : Line) (old new : Lists) : Type 0 where
-  pub unidentified : lines_in new.unidentified.items ≡ first_after what.Unidentified 200 (lines_in old.unidentified.items) line
+  pub unidentified : lines_in new.unidentified.items
+      ≡ first_after what.Unidentified 200 (lines_in old.unidentified.items) line
   pub mismatches : lines_in new.mismatches.items ≡ first_after what.Mismatches 200 (lines_in old.mismatches.items) line
-  pub several_formats : lines_in new.several_formats.items ≡ first_after what.SeveralFormats 200 (lines_in old.several_formats.items) line
+  pub several_formats : lines_in new.several_formats.items
+      ≡ first_after what.SeveralFormats 200 (lines_in old.several_formats.items) line
   pub largest : lines_in new.largest.items ≡ ranked_after ranks.Largest 50 (lines_in old.largest.items) line
   pub oldest : lines_in new.oldest.items ≡ ranked_after ranks.Oldest 20 (lines_in old.oldest.items) line
   pub newest : lines_in new.newest.items ≡ ranked_after ranks.Newest 20 (lines_in old.newest.items) line

@@ -1,5 +1,6 @@
 -- Groups of rows, the greatest first.
-use Rattle.std.specs.Prelude.{ℕ, ◌+◌, ◌-◌, ◌^◌, Bool, nat_le, List, filter, map, String, string_bytes, IsPermutation, IsSortedByKey}
+use Rattle.std.specs.Prelude.{ℕ, ◌+◌, ◌-◌, ◌^◌, Bool, nat_le, List, filter, map, String, string_bytes, IsPermutation}
+use Rattle.std.specs.Prelude.{IsSortedByKey}
 use Rattle.std.specs.List.{sum_by}
 use Rattle.std.specs.List.Sorted.{IsStableByKey}
 use Rattle.std.specs.Ordering.{nat_cmp}
@@ -18,12 +19,24 @@ pub record Ranked : Type 0 where
   pub saved : ℕ
 
 abbrev pub group_seen : Group → Ranked
-group_seen group = record { key = group.key.now; label = group.label.now; count = group.count; bytes = group.bytes; saved = group.saved }
+group_seen group = record {
+  key = group.key.now;
+  label = group.label.now;
+  count = group.count;
+  bytes = group.bytes;
+  saved = group.saved;
+}
 
 -- the group of an entry of a table: what is saved is the sum without the first
 abbrev pub group_in : String Global × GroupSum → Ranked
 group_in entry =
-    record { key = string_bytes entry.0; label = string_bytes entry.1.label; count = entry.1.count; bytes = entry.1.bytes; saved = entry.1.bytes - entry.1.first_size }
+    record {
+      key = string_bytes entry.0;
+      label = string_bytes entry.1.label;
+      count = entry.1.count;
+      bytes = entry.1.bytes;
+      saved = entry.1.bytes - entry.1.first_size;
+    }
 
 abbrev pub has_at_least : ℕ → String Global × GroupSum → Bool
 has_at_least least entry = nat_le least entry.1.count
@@ -63,4 +76,8 @@ pub record AreRanked (key : Group → ℕ) (groups ranked : List Group) : Type 0
 -- ---- for proofs: one group more
 
 abbrev pub with_group : GroupsTotal → Group → GroupsTotal
-with_group sum group = record { count = held (sum.count + group.count); bytes = held (sum.bytes + group.bytes); saved = held (sum.saved + group.saved) }
+with_group sum group = record {
+  count = held (sum.count + group.count);
+  bytes = held (sum.bytes + group.bytes);
+  saved = held (sum.saved + group.saved);
+}

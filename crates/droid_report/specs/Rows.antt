@@ -1,5 +1,6 @@
 -- The rows of a profile's CSV (docs/CSV.md).
-use Rattle.std.specs.Prelude.{ℕ, ◌+◌, ◌==◌, ◌&&◌, not, Bool, false, List, [], ◌∷◌, ◌++◌, length, Option, Some, None, Result, Ok, Err, codes, if◌then◌else◌}
+use Rattle.std.specs.Prelude.{ℕ, ◌+◌, ◌==◌, ◌&&◌, not, Bool, false, List, [], ◌∷◌, ◌++◌, length, Option, Some, None}
+use Rattle.std.specs.Prelude.{Result, Ok, Err, codes, if◌then◌else◌}
 use Rattle.std.specs.List.{flat_map, list_all}
 use Rattle.std.specs.Option.{unwrap_or}
 use Rattle.std.specs.Str.{bytes_eq, is_utf8}
@@ -24,9 +25,15 @@ joined names = flat_map (λ name. name ++ 44 ∷ []) names
 -- which hash the names of the columns say, if they are those of a profile
 abbrev pub hash_of_names : List ℕ → Option HashColumn
 hash_of_names names =
-    if bytes_eq names (codes "ID,PARENT_ID,URI,FILE_PATH,NAME,METHOD,STATUS,SIZE,TYPE,EXT,LAST_MODIFIED,EXTENSION_MISMATCH,HASH,FORMAT_COUNT,PUID,MIME_TYPE,FORMAT_NAME,FORMAT_VERSION,") then Some Nothing
-    else if bytes_eq names (codes "ID,PARENT_ID,URI,FILE_PATH,NAME,METHOD,STATUS,SIZE,TYPE,EXT,LAST_MODIFIED,EXTENSION_MISMATCH,MD5_HASH,FORMAT_COUNT,PUID,MIME_TYPE,FORMAT_NAME,FORMAT_VERSION,") then Some Md5
-    else if bytes_eq names (codes "ID,PARENT_ID,URI,FILE_PATH,NAME,METHOD,STATUS,SIZE,TYPE,EXT,LAST_MODIFIED,EXTENSION_MISMATCH,SHA256_HASH,FORMAT_COUNT,PUID,MIME_TYPE,FORMAT_NAME,FORMAT_VERSION,") then Some Sha256
+    if bytes_eq names
+    (codes "ID,PARENT_ID,URI,FILE_PATH,NAME,METHOD,STATUS,SIZE,TYPE,EXT,LAST_MODIFIED,EXTENSION_MISMATCH,HASH,FORMAT_COUNT,PUID,MIME_TYPE,FORMAT_NAME,FORMAT_VERSION,")
+    then Some Nothing
+    else if bytes_eq names
+    (codes "ID,PARENT_ID,URI,FILE_PATH,NAME,METHOD,STATUS,SIZE,TYPE,EXT,LAST_MODIFIED,EXTENSION_MISMATCH,MD5_HASH,FORMAT_COUNT,PUID,MIME_TYPE,FORMAT_NAME,FORMAT_VERSION,")
+    then Some Md5
+    else if bytes_eq names
+    (codes "ID,PARENT_ID,URI,FILE_PATH,NAME,METHOD,STATUS,SIZE,TYPE,EXT,LAST_MODIFIED,EXTENSION_MISMATCH,SHA256_HASH,FORMAT_COUNT,PUID,MIME_TYPE,FORMAT_NAME,FORMAT_VERSION,")
+    then Some Sha256
     else None
 
 -- a header has 18 columns, with these names in this order
@@ -114,7 +121,8 @@ with_row draft row (Some facts) =
     Ok (record {
       header = draft.header;
       records = draft.records + 1;
-      lines = draft.lines ++ record { fields = row; facts = facts; is_first = not (has_id (last draft.lines) row) } ∷ [];
+      lines =
+          draft.lines ++ record { fields = row; facts = facts; is_first = not (has_id (last draft.lines) row) } ∷ [];
     })
 
 -- the header first, then the rows

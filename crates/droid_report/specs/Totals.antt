@@ -1,5 +1,6 @@
 -- The totals of a report: sums over the rows of a profile.
-use Rattle.std.specs.Prelude.{◌≡◌, ℕ, ◌+◌, ◌-◌, ◌^◌, ◌==◌, ◌&&◌, nat_lt, not, min, Bool, true, false, List, count_by, if◌then◌else◌}
+use Rattle.std.specs.Prelude.{◌≡◌, ℕ, ◌+◌, ◌-◌, ◌^◌, ◌==◌, ◌&&◌, nat_lt, not, min, Bool, true, false, List, count_by}
+use Rattle.std.specs.Prelude.{if◌then◌else◌}
 use Rattle.std.specs.List.{sum_by}
 use Rattle.droid_report.specs.Rows.{Line}
 use Rattle.droid_report.specs.declared.facts.Kind.{Kind}

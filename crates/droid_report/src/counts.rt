@@ -59,7 +59,8 @@ impl Counts {
 
     /// Counts a row. If memory runs out, some of it may be counted: the counts are of no use then.
     pub fn add(&mut self, alloc: Global, row: &Row) -> Result<(), AllocError>
-        ensures { OnOk result ((lines : List Line) → AreCounts lines self.old → AreCounts (lines ++ line_of row.now ∷ []) self.new) }
+        ensures { OnOk result ((lines : List Line) → AreCounts lines self.old
+            → AreCounts (lines ++ line_of row.now ∷ []) self.new) }
     {
         self.totals.add(row);
         self.classes.add(row);

@@ -37,7 +37,8 @@ impl Drop for Draft {
 
 impl Draft {
     ghost use Rattle.droid_report.specs.Calls.{Gives, IsDraft, Leaves};
-    ghost use Rattle.droid_report.specs.Rows.{Draft as Read, facts_in, finished, hash_of_header, nothing_read, taken, with_header, with_row};
+    ghost use Rattle.droid_report.specs.Rows.{Draft as Read, facts_in, finished, hash_of_header, nothing_read, taken};
+    ghost use Rattle.droid_report.specs.Rows.{with_header, with_row};
 
     /// Makes a draft before the first record.
     pub(crate) fn new(alloc: Global) -> Result<Draft, AllocError>
@@ -63,7 +64,8 @@ impl Draft {
     }
 
     fn take_header(&mut self, alloc: Global, row: &ByteRecord) -> Result<(), ProfileFault>
-        ensures { (old : Read) → IsDraft self.old old → old.header ≡ None → Leaves result self.new (with_header (hash_of_header (fields_of row.now))) }
+        ensures { (old : Read) → IsDraft self.old old → old.header ≡ None
+            → Leaves result self.new (with_header (hash_of_header (fields_of row.now))) }
     {
         match hash_of_header(alloc, row)? {
             Some(hash) => {
@@ -76,7 +78,8 @@ impl Draft {
     }
 
     fn take_row(&mut self, alloc: Global, row: ByteRecord) -> Result<(), ProfileFault>
-        ensures { (old : Read) → IsDraft self.old old → old.header ≢ None → Leaves result self.new (with_row old (fields_of row) (facts_in (fields_of row))) }
+        ensures { (old : Read) → IsDraft self.old old → old.header ≢ None
+            → Leaves result self.new (with_row old (fields_of row) (facts_in (fields_of row))) }
     {
         // No memory holds that many records.
         let Some(record) = self.records.checked_add(1) else {

@@ -46,7 +46,8 @@ pub struct Facts {
     pub formats: u64,
     /// The year of the last change, if it is known.
     pub year: Option<u64>,
-    /// The digits of the last change as one number, such as 20260131235959: a later one is greater. 0 if it is not known.
+    /// The digits of the last change as one number, such as 20260131235959: a later one is greater. 0 if it is not
+    /// known.
     pub moment: u64,
     /// How many slashes the path has.
     pub depth: usize,

@@ -1,6 +1,7 @@
 //! Rows that are alike.
 
-ghost use Rattle.std.specs.Prelude.{◌≡◌, ℕ, List, Some, IfOk, OnOk, false, if◌then◌else◌, option_map, string_bytes, unwrap_or};
+ghost use Rattle.std.specs.Prelude.{◌≡◌, ℕ, List, Some, IfOk, OnOk, false, if◌then◌else◌, option_map, string_bytes};
+ghost use Rattle.std.specs.Prelude.{unwrap_or};
 ghost use Rattle.std.specs.Str.{bytes_eq};
 ghost use Rattle.droid_report.specs.Lines.{line_of};
 ghost use Rattle.droid_report.specs.Groups.{fresh, grown, sum_after, sum_at, summed};
@@ -33,7 +34,8 @@ pub(crate) fn add_row(
     row: &Row,
     alike: Alike,
 ) -> Result<(), AllocError>
-    ensures { OnOk result ((key : List ℕ) → sum_at groups.new key ≡ sum_after alike key (sum_at groups.old key) (line_of row.now)) }
+    ensures { OnOk result ((key : List ℕ)
+        → sum_at groups.new key ≡ sum_after alike key (sum_at groups.old key) (line_of row.now)) }
 {
     let key = key_of(alloc, row, alike)?;
     if key.is_empty() {
@@ -48,14 +50,17 @@ pub(crate) fn add_row(
 /// Removes a group and returns it, if it is there.
 fn taken(groups: &mut Groups, key: &str) -> Option<GroupSum>
     ensures value { option_map summed result ≡ sum_at groups.old key.now }
-    ensures others { (other : List ℕ) → bytes_eq key.now other ≡ false → sum_at groups.new other ≡ sum_at groups.old other }
+    ensures others { (other : List ℕ) → bytes_eq key.now other ≡ false
+        → sum_at groups.new other ≡ sum_at groups.old other }
 {
     groups.remove(key)
 }
 
 /// Sets a group.
 fn put(groups: &mut Groups, key: String, sum: GroupSum) -> Result<(), AllocError>
-    ensures { OnOk result ((other : List ℕ) → sum_at groups.new other ≡ (if bytes_eq (string_bytes key) other then Some (summed sum) else sum_at groups.old other)) }
+    ensures { OnOk result ((other : List ℕ)
+        → sum_at groups.new other
+        ≡ (if bytes_eq (string_bytes key) other then Some (summed sum) else sum_at groups.old other)) }
 {
     groups.insert(key, sum)?;
     Ok(())
@@ -68,7 +73,8 @@ fn sum_with(
     row: &Row,
     alike: Alike,
 ) -> Result<GroupSum, AllocError>
-    ensures { IfOk result (λ sum. summed sum ≡ grown (unwrap_or (option_map summed old) (fresh alike (line_of row.now))) row.now.facts.size) }
+    ensures { IfOk result (λ sum.
+        summed sum ≡ grown (unwrap_or (option_map summed old) (fresh alike (line_of row.now))) row.now.facts.size) }
 {
     match old {
         Some(sum) => Ok(with_size(sum, row.facts.size)),

@@ -1,4 +1,6 @@
-//! Reads the CSV of a profile and counts what is in it.
+//! Reads the CSV of a profile, counts what is in it, and makes a page of the counts.
+//!
+//! `html` has pages as trees of elements: no text can become markup. `view` makes the page's tables.
 #![tactic(auto)]
 
 mod classes;
@@ -10,24 +12,26 @@ mod facts;
 mod fault;
 mod fields;
 mod groups;
+mod html;
+pub mod html_laws;
 mod keys;
 pub mod laws;
 mod lists;
 mod ranks;
 mod report;
 mod row;
+pub mod texts;
 mod totals;
+mod view;
 
-pub use classes::{By, Classes};
-pub use counts::Counts;
 pub use facts::{Facts, HashColumn, Kind, Method};
 pub use fault::ProfileFault;
-pub use groups::{GroupSum, Groups};
+pub use groups::GroupSum;
+pub use html::page::Page;
+pub use html::page_text::Escaped;
+pub use html::tables::{Body, Table};
 pub use keys::Alike;
-pub use lists::Lists;
-pub use ranks::{
-    Group, GroupsTotal, list_groups, rank_by_bytes, rank_by_count, rank_by_saved, together,
-};
+pub use ranks::{GroupsTotal, list_groups, rank_by_count, rank_by_saved};
 pub use report::{Report, read_report};
-pub use row::Row;
-pub use totals::{Totals, What};
+pub use totals::What;
+pub use view::page::report_page;

@@ -84,7 +84,8 @@ impl Lists {
 
 /// Adds a row at the end, if it counts for a total and there is room.
 fn keep_first(list: &mut Vec<Row>, row: &Row, what: What) -> Result<(), AllocError>
-    ensures { OnOk result (lines_in list.new.items ≡ lists.first_after what 200 (lines_in list.old.items) (line_of row.now)) }
+    ensures { OnOk result
+        (lines_in list.new.items ≡ lists.first_after what 200 (lines_in list.old.items) (line_of row.now)) }
 {
     if list.len() >= MOST_ROWS {
         return Ok(());
@@ -107,7 +108,8 @@ fn push_row(list: &mut Vec<Row>, row: &Row) -> Result<(), AllocError>
 
 /// Adds a row in its place, if it is among the first of the order.
 fn keep_ranked(list: &mut Vec<Row>, row: &Row, rank: Rank, limit: usize) -> Result<(), AllocError>
-    ensures { OnOk result (lines_in list.new.items ≡ lists.ranked_after rank limit (lines_in list.old.items) (line_of row.now)) }
+    ensures { OnOk result
+        (lines_in list.new.items ≡ lists.ranked_after rank limit (lines_in list.old.items) (line_of row.now)) }
 {
     if !is_ranked(row, rank) {
         return Ok(());

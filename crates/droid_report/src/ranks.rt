@@ -1,7 +1,8 @@
 //! Groups of rows, the greatest first.
 
 ghost use Rattle.std.specs.Prelude.{◌≡◌, IfOk, map};
-ghost use Rattle.droid_report.specs.Ranks.{AreRanked, by_bytes, by_count, by_saved, group_seen, groups_in, together, with_group};
+ghost use Rattle.droid_report.specs.Ranks.{AreRanked, by_bytes, by_count, by_saved, group_seen, groups_in, together};
+ghost use Rattle.droid_report.specs.Ranks.{with_group};
 
 use crate::groups::Groups;
 use std::alloc::{AllocError, Global};
@@ -62,7 +63,8 @@ pub fn rank_by_bytes(groups: Vec<Group<'_>>) -> Result<Vec<Group<'_>>, AllocErro
     Ok(ranked)
 }
 
-/// Sorts groups: those whose rows but the first have the most bytes come first. Groups with as many stay in their order.
+/// Sorts groups: those whose rows but the first have the most bytes come first. Groups with as many stay in their
+/// order.
 pub fn rank_by_saved(groups: Vec<Group<'_>>) -> Result<Vec<Group<'_>>, AllocError>
     ensures { IfOk result (λ ranked. AreRanked by_saved groups.entry.items ranked.items) }
 {

@@ -29,7 +29,8 @@ pub struct Report {
 /// An error names the first malformed record. The text of the columns that a report prints has to be UTF-8.
 pub fn read_report(alloc: Global, text: &[u8]) -> Result<Report, ProfileFault>
     // The result is that of the records that `csv` reads, unless memory runs out.
-    ensures { (records : List (List (List ℕ))) → AreRecords default_config st.StartRecord (strip_bom text.now) records → Gives result (profile_of records) }
+    ensures { (records : List (List (List ℕ))) → AreRecords default_config st.StartRecord (strip_bom text.now) records
+        → Gives result (profile_of records) }
 {
     match Draft::new(alloc) {
         Ok(draft) => read_rows(alloc, text, draft),
@@ -40,7 +41,8 @@ pub fn read_report(alloc: Global, text: &[u8]) -> Result<Report, ProfileFault>
 /// Reads the records.
 fn read_rows(alloc: Global, text: &[u8], draft: Draft) -> Result<Report, ProfileFault>
     requires { IsDraft draft nothing_read }
-    ensures { (records : List (List (List ℕ))) → AreRecords default_config st.StartRecord (strip_bom text.now) records → Gives result (profile_of records) }
+    ensures { (records : List (List (List ℕ))) → AreRecords default_config st.StartRecord (strip_bom text.now) records
+        → Gives result (profile_of records) }
 {
     // `Draft::take` judges the number of fields, so the reader accepts any number.
     let reader = ReaderBuilder::new()

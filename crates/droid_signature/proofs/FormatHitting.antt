@@ -3,19 +3,19 @@ use Rattle.std.proofs.Common.{◌≡◌, ◌∙◌, ◌==◌, ℕ, zero, suc, �
 use Rattle.std.specs.List.{AllByRecursion, slice_get}
 use Rattle.std.proofs.lemmas.Bool.{eqb-false, eqb-true}
 use Rattle.std.proofs.lemmas.Option.{same_Some}
-use Rattle.droid_signature_combinations.specs.Found.{Hits, IsHit}
-use Rattle.droid_signature_combinations.specs.Registry.{AnyOf, Signed}
-use Rattle.droid_signature_combinations.proofs.Flags.{any_before, any_last, any_parts}
-use Rattle.droid_signature_combinations.specs.SignatureRows.{combination, flat, rows_below, ways_of}
-use Rattle.droid_signature_combinations.specs.Signatures.{IsOnlySignature, LeavesSignature, Named, TakesSignature, all_signatures, ids_of, signatures_of}
-use Rattle.droid_signature_combinations.proofs.Hitting.{complete_at, sound_at}
-use Rattle.droid_signature_combinations.specs.RegistryTables.{SequenceRow, SignatureRow, registry_of, sequence_of, signed}
-use Rattle.droid_signature_combinations.specs.Meaning.{FormatHits, SignatureHits}
-use Rattle.droid_signature_combinations.specs.Records.{FileRecord, SignatureRecord}
-use Rattle.droid_signature_combinations.specs.Formats.{Placed, puid_in}
-use Rattle.droid_signature_combinations.specs.Holders.{holder_of, holding}
-use Rattle.droid_signature_combinations.specs.table_types.ids.Holder.TheVariants.{Only}
-use Rattle.droid_signature_combinations.specs.table_types.left_out.LeftOut.{LeftOut}
+use Rattle.droid_pronom.specs.Found.{Hits, IsHit}
+use Rattle.droid_pronom.specs.Registry.{AnyOf, Signed}
+use Rattle.droid_pronom.proofs.Flags.{any_before, any_last, any_parts}
+use Rattle.droid_signature.specs.SignatureRows.{combination, flat, rows_below, ways_of}
+use Rattle.droid_signature.specs.Signatures.{IsOnlySignature, LeavesSignature, Named, TakesSignature, all_signatures, ids_of, signatures_of}
+use Rattle.droid_signature.proofs.Hitting.{complete_at, sound_at}
+use Rattle.droid_signature.specs.RegistryTables.{SequenceRow, SignatureRow, registry_of, sequence_of, signed}
+use Rattle.droid_signature_file.specs.Meaning.{FormatHits, SignatureHits}
+use Rattle.droid_signature_file.specs.Records.{FileRecord, SignatureRecord}
+use Rattle.droid_signature.specs.Formats.{Placed, puid_in}
+use Rattle.droid_signature.specs.Holders.{holder_of, holding}
+use Rattle.droid_signature.specs.declared.ids.Holder.TheVariants.{Only}
+use Rattle.droid_signature.specs.declared.left_out.LeftOut.{LeftOut}
 use Rattle.droid_signature.specs.Conversion.{HasAllSignatures, HitsAs, IsSignatureOf, Parts, left_of, tables_of}
 use Rattle.droid_signature.proofs.Members.{Among, among_all, among_any, any_left, any_map, any_right, any_split, any_value, as_row, by_place_among, by_place_parts, map_any, sifted_any, sifted_each, singles_among, singles_parts, there_any, without}
 use Rattle.droid_signature.proofs.Validity.{signature_at}

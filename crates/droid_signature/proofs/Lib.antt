@@ -1,6 +1,23 @@
-pub mod Members
-pub mod Validity
+pub mod Counting
+mod CsvReading
+pub mod FieldTexts
 pub mod FormatHitting
+pub mod FormatIds
+pub mod Further
+pub mod Hitting
+pub mod Holdings
+pub mod Keepings
 pub mod Made
+pub mod Members
 pub mod Naming
 pub mod Omitting
+pub mod OutcomeLists
+pub mod PickRows
+pub mod PlaceMaps
+pub mod RowSteps
+pub mod RowTexts
+pub mod Sifting
+pub mod Signing
+pub mod SpelledTexts
+pub mod StepsOfTables
+pub mod Validity

@@ -1,14 +1,14 @@
 -- What the code makes.
 use Rattle.std.proofs.Common.{◌≡◌, ◌∙◌, ℕ, ◌≤◌, List, ◌++◌, length, Ok, sym, ap, subst, append_assoc}
 use Rattle.std.proofs.lemmas.List.{length-map}
-use Rattle.droid_signature_combinations.specs.RegistryFile.{File}
-use Rattle.droid_signature_combinations.specs.SignatureRows.{flat}
-use Rattle.droid_signature_combinations.specs.RegistryTables.{extension_lines, file_of, format_lines, priority_lines, registry_of, signature_lines}
-use Rattle.droid_signature_combinations.proofs.StepsOfTables.{tables_read}
-use Rattle.droid_signature_combinations.specs.Records.{FileRecord}
-use Rattle.droid_signature_combinations.specs.Formats.{formats_of}
-use Rattle.droid_signature_combinations.specs.table_types.left_out.LeftOut.{LeftOut}
-use Rattle.droid_signature_combinations.specs.Views.{kept_of}
+use Rattle.droid_pronom.specs.RegistryFile.{File}
+use Rattle.droid_signature.specs.SignatureRows.{flat}
+use Rattle.droid_signature.specs.RegistryTables.{extension_lines, file_of, format_lines, priority_lines, registry_of, signature_lines}
+use Rattle.droid_signature.proofs.StepsOfTables.{tables_read}
+use Rattle.droid_signature_file.specs.Records.{FileRecord}
+use Rattle.droid_signature.specs.Formats.{formats_of}
+use Rattle.droid_signature.specs.declared.left_out.LeftOut.{LeftOut}
+use Rattle.droid_signature.specs.Views.{kept_of}
 use Rattle.droid_signature.specs.AllTables.{AreTablesOf, all_left, all_text, kept_in, taken_in}
 use Rattle.droid_signature.specs.Conversion.{IsConversion, Parts, tables_of}
 use Rattle.droid_signature.specs.declared.conversion.Taken.{Taken}

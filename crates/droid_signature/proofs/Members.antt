@@ -1,10 +1,10 @@
 -- What is among the items of a list, and among what they become.
 use Rattle.std.proofs.Common.{◌≡◌, ◌⊎◌, ℕ, zero, suc, ◌+◌, ◌<◌, ◌≤◌, List, [], ◌∷◌, ◌++◌, length, map, Some, inl, inr, length-append, refl, sym, ap, subst, arith}
 use Rattle.std.specs.List.{AllByRecursion, slice_get}
-use Rattle.droid_signature_combinations.specs.Registry.{AnyOf}
-use Rattle.droid_signature_combinations.proofs.Flags.{all_push, any_before, any_last, any_parts}
-use Rattle.droid_signature_combinations.specs.Sifting.{Sifted, by_place, left_out, none, taken}
-use Rattle.droid_signature_combinations.specs.table_types.left_out.LeftOut.{LeftOut}
+use Rattle.droid_pronom.specs.Registry.{AnyOf}
+use Rattle.droid_pronom.proofs.Flags.{all_push, any_before, any_last, any_parts}
+use Rattle.droid_signature.specs.Sifting.{Sifted, by_place, left_out, none, taken}
+use Rattle.droid_signature.specs.declared.left_out.LeftOut.{LeftOut}
 
 -- x is one of them
 abbrev pub Among : {X : Type 0} → X → List X → Type 0

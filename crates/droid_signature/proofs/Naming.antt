@@ -5,7 +5,7 @@ use Rattle.std.specs.Ordering.{is_eq, nat_cmp}
 use Rattle.std.proofs.lemmas.Bool.{eqb-true, ltb-true}
 use Rattle.std.proofs.lemmas.List.{append-nil, take_more}
 use Rattle.std.proofs.lemmas.List.Concat.{flat_map-append}
-use Rattle.droid_signature_combinations.specs.Records.{FormatRecord, SignatureRecord}
+use Rattle.droid_signature_file.specs.Records.{FormatRecord, SignatureRecord}
 use Rattle.droid_signature.specs.Unnamed.{ids_named, is_named, unnamed_among}
 
 pub same_key : (k q : ℕ) → is_eq (nat_cmp k q) ≡ (k == q)

@@ -4,7 +4,7 @@ use Rattle.std.specs.Prelude.{unwrap_or}
 use Rattle.std.specs.Ordering.{is_eq, nat_cmp}
 use Rattle.std.proofs.lemmas.Bool.{eqb-true}
 use Rattle.std.proofs.lemmas.List.Sums.{sum_by_push}
-use Rattle.droid_signature_combinations.specs.table_types.left_out.LeftOut.{LeftOut}
+use Rattle.droid_signature.specs.declared.left_out.LeftOut.{LeftOut}
 use Rattle.droid_signature.specs.AllLeftOut.{Adds, AreCountsOf, count_at, count_of, holder_of, is_of, is_place}
 use Rattle.droid_signature.specs.declared.omissions.Counts.{Counts}
 use Rattle.droid_signature.proofs.Naming.{same_key}

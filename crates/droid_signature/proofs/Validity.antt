@@ -3,22 +3,22 @@ use Rattle.std.proofs.Common.{◌≡◌, ◌∙◌, ℕ, zero, suc, ◌+◌, ◌
 use Rattle.std.specs.Bool.{IsTrue}
 use Rattle.std.specs.List.{AllByRecursion, slice_get}
 use Rattle.std.proofs.lemmas.List.{append-nil}
-use Rattle.droid_signature_combinations.specs.Registry.{Contents, IsRegistry, place_of}
-use Rattle.droid_signature_combinations.specs.RegistryFields.{is_puid}
-use Rattle.droid_signature_combinations.specs.pronom_types.format.Format.{Format}
-use Rattle.droid_signature_combinations.proofs.RegistryTables.{rules_format}
-use Rattle.droid_signature_combinations.proofs.Flags.{all_push}
-use Rattle.droid_signature_combinations.specs.SignatureRows.{AreRowsFor, combination, flat, rows_below, ways_of}
-use Rattle.droid_signature_combinations.specs.Signatures.{LeavesSignature, Named, TakesSignature, all_signatures, signatures_of}
-use Rattle.droid_signature_combinations.proofs.Signing.{combination_length, flat_push, rows_length, rows_sequences}
-use Rattle.droid_signature_combinations.specs.RegistryTables.{AreTables, ExtensionFits, FormatFits, FormatsFit, PriorityFits, SequenceFits, SequenceRow, SignatureFits, SignatureRow, sequence_count}
-use Rattle.droid_signature_combinations.specs.Records.{ByteSequenceRecord, FileRecord, SignatureRecord}
-use Rattle.droid_signature_combinations.specs.Extensions.{Extension, LeavesExtension, TakesExtension, all_extensions, extensions_of}
-use Rattle.droid_signature_combinations.specs.Formats.{LeavesFormat, Placed, TakesFormat, format_of, formats_of, placed, puid_in}
-use Rattle.droid_signature_combinations.specs.Priorities.{LeavesPriority, Priority, TakesPriority, all_priorities, priorities_of}
-use Rattle.droid_signature_combinations.specs.Sifting.{Sifted, by_place, left_out, none, taken}
-use Rattle.droid_signature_combinations.specs.table_types.left_out.LeftOut.{LeftOut}
-use Rattle.droid_signature_combinations.proofs.Keepings.{formats_push}
+use Rattle.droid_pronom.specs.Registry.{Contents, IsRegistry, place_of}
+use Rattle.droid_pronom.specs.RegistryFields.{is_puid}
+use Rattle.droid_pronom.specs.declared.format.Format.{Format}
+use Rattle.droid_pronom.proofs.RegistryTables.{rules_format}
+use Rattle.droid_pronom.proofs.Flags.{all_push}
+use Rattle.droid_signature.specs.SignatureRows.{AreRowsFor, combination, flat, rows_below, ways_of}
+use Rattle.droid_signature.specs.Signatures.{LeavesSignature, Named, TakesSignature, all_signatures, signatures_of}
+use Rattle.droid_signature.proofs.Signing.{combination_length, flat_push, rows_length, rows_sequences}
+use Rattle.droid_signature.specs.RegistryTables.{AreTables, ExtensionFits, FormatFits, FormatsFit, PriorityFits, SequenceFits, SequenceRow, SignatureFits, SignatureRow, sequence_count}
+use Rattle.droid_signature_file.specs.Records.{ByteSequenceRecord, FileRecord, SignatureRecord}
+use Rattle.droid_signature.specs.Extensions.{Extension, LeavesExtension, TakesExtension, all_extensions, extensions_of}
+use Rattle.droid_signature.specs.Formats.{LeavesFormat, Placed, TakesFormat, format_of, formats_of, placed, puid_in}
+use Rattle.droid_signature.specs.Priorities.{LeavesPriority, Priority, TakesPriority, all_priorities, priorities_of}
+use Rattle.droid_signature.specs.Sifting.{Sifted, by_place, left_out, none, taken}
+use Rattle.droid_signature.specs.declared.left_out.LeftOut.{LeftOut}
+use Rattle.droid_signature.proofs.Keepings.{formats_push}
 use Rattle.droid_signature.specs.Conversion.{Parts, tables_of}
 use Rattle.droid_signature.proofs.Members.{Among, at_place, by_place_parts, sifted_few, sifted_rows, singles_parts}
 

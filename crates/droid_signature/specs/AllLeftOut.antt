@@ -1,14 +1,15 @@
--- All that a registry does not have of a signature file: the items that are left out, the formats that are left without a signature, and
--- the signatures that no format names.
-use Rattle.std.specs.Prelude.{ℕ, ◌+◌, ◌-◌, ◌^◌, ◌==◌, ◌&&◌, nat_lt, min, Bool, false, List, [], ◌∷◌, ◌++◌, length, map, count_by, Option, Some, None, unwrap_or, if◌then◌else◌, ◌≡◌}
+-- All that a registry does not have of a signature file: the items that are left out, the formats that are left without
+-- a signature, and the signatures that no format names.
+use Rattle.std.specs.Prelude.{ℕ, ◌+◌, ◌-◌, ◌^◌, ◌==◌, ◌&&◌, nat_lt, min, Bool, false, List, [], ◌∷◌, ◌++◌, length, map}
+use Rattle.std.specs.Prelude.{count_by, Option, Some, None, unwrap_or, if◌then◌else◌, ◌≡◌}
 use Rattle.std.specs.BTreeMap.{get_by}
 use Rattle.std.specs.Ordering.{nat_cmp}
-use Rattle.droid_signature_combinations.specs.Records.{FileRecord, FormatRecord}
-use Rattle.droid_signature_combinations.specs.Sifting.{by_place}
-use Rattle.droid_signature_combinations.specs.table_types.left_out.Item.{Item}
-use Rattle.droid_signature_combinations.specs.table_types.left_out.Item.TheVariants as items
-use Rattle.droid_signature_combinations.specs.table_types.left_out.LeftOut.{LeftOut}
-use Rattle.droid_signature_combinations.specs.table_types.left_out.Why.TheVariants as why
+use Rattle.droid_signature_file.specs.Records.{FileRecord, FormatRecord}
+use Rattle.droid_signature.specs.Sifting.{by_place}
+use Rattle.droid_signature.specs.declared.left_out.Item.{Item}
+use Rattle.droid_signature.specs.declared.left_out.Item.TheVariants as items
+use Rattle.droid_signature.specs.declared.left_out.LeftOut.{LeftOut}
+use Rattle.droid_signature.specs.declared.left_out.Why.TheVariants as why
 use Rattle.droid_signature.specs.Unnamed.{unnamed}
 use Rattle.droid_signature.specs.declared.omissions.Counts.{Counts}
 
@@ -66,4 +67,5 @@ pub record AreCountsOf (left : List LeftOut) (map : Counts) : Type 0 where
 
 -- it has one more at a place
 pub record Adds (place : ℕ) (old new : Counts) : Type 0 where
-  pub each : (other : ℕ) → count_at new other ≡ (if place == other then min (count_at old place + 1) (2 ^ 64 - 1) else count_at old other)
+  pub each : (other : ℕ)
+      → count_at new other ≡ (if place == other then min (count_at old place + 1) (2 ^ 64 - 1) else count_at old other)

@@ -1,21 +1,21 @@
 -- The registry of a whole signature file.
 use Rattle.std.specs.Prelude.{◌≡◌, ℕ, ◌-◌, ◌^◌, ◌<◌, ◌≤◌, min, List, ◌++◌, length, Ok, Some, slice_get}
 use Rattle.std.specs.List.{AllByRecursion}
-use Rattle.droid_signature_combinations.specs.Found.{Hits, IsHit}
-use Rattle.droid_signature_combinations.specs.Registry.{Contents}
-use Rattle.droid_signature_combinations.specs.RegistryFile.{File}
-use Rattle.droid_signature_combinations.specs.SignatureRows.{flat}
-use Rattle.droid_signature_combinations.specs.Signatures.{LeavesSignature, TakesSignature, all_signatures}
-use Rattle.droid_signature_combinations.specs.RegistryTables.{ExtensionRow, PriorityRow, SignatureRow, Tables, file_of, registry_of}
-use Rattle.droid_signature_combinations.specs.Meaning.{FormatHits}
-use Rattle.droid_signature_combinations.specs.Records.{FileRecord}
-use Rattle.droid_signature_combinations.specs.Extensions.{LeavesExtension, TakesExtension, all_extensions}
-use Rattle.droid_signature_combinations.specs.Formats.{LeavesFormat, Placed, TakesFormat, formats_of, placed}
-use Rattle.droid_signature_combinations.specs.Priorities.{LeavesPriority, TakesPriority, all_priorities}
-use Rattle.droid_signature_combinations.specs.Sifting.{Sifted}
-use Rattle.droid_signature_combinations.specs.table_types.left_out.Item.TheVariants as items
-use Rattle.droid_signature_combinations.specs.table_types.left_out.LeftOut.{LeftOut}
-use Rattle.droid_signature_combinations.specs.table_types.left_out.Why.{Why}
+use Rattle.droid_pronom.specs.Found.{Hits, IsHit}
+use Rattle.droid_pronom.specs.Registry.{Contents}
+use Rattle.droid_pronom.specs.RegistryFile.{File}
+use Rattle.droid_signature.specs.SignatureRows.{flat}
+use Rattle.droid_signature.specs.Signatures.{LeavesSignature, TakesSignature, all_signatures}
+use Rattle.droid_signature.specs.RegistryTables.{ExtensionRow, PriorityRow, SignatureRow, Tables, file_of, registry_of}
+use Rattle.droid_signature_file.specs.Meaning.{FormatHits}
+use Rattle.droid_signature_file.specs.Records.{FileRecord}
+use Rattle.droid_signature.specs.Extensions.{LeavesExtension, TakesExtension, all_extensions}
+use Rattle.droid_signature.specs.Formats.{LeavesFormat, Placed, TakesFormat, formats_of, placed}
+use Rattle.droid_signature.specs.Priorities.{LeavesPriority, TakesPriority, all_priorities}
+use Rattle.droid_signature.specs.Sifting.{Sifted}
+use Rattle.droid_signature.specs.declared.left_out.Item.TheVariants as items
+use Rattle.droid_signature.specs.declared.left_out.LeftOut.{LeftOut}
+use Rattle.droid_signature.specs.declared.left_out.Why.{Why}
 use Rattle.droid_signature.specs.declared.conversion.Taken.{Taken}
 
 -- a signature of the format at a place of the file is left out
@@ -28,8 +28,8 @@ pub record IsSignatureOf (place : ℕ) (it : LeftOut) : Type 0 where
 abbrev pub HasAllSignatures : ℕ → List LeftOut → Type 0
 HasAllSignatures place left = AllByRecursion (λ it. IsSignatureOf place it → ⊥) left
 
--- The parts of a registry: the formats of the file that it has, in order, and its other tables. Each item of the file is taken or
--- left out, for a reason that is true.
+-- The parts of a registry: the formats of the file that it has, in order, and its other tables. Each item of the file
+-- is taken or left out, for a reason that is true.
 pub record Parts (file : FileRecord) : Type 0 where
   pub kept : List Placed
   pub extensions : List ExtensionRow
@@ -41,20 +41,30 @@ pub record Parts (file : FileRecord) : Type 0 where
   pub left_signatures : List LeftOut
   pub formats_sifted : Sifted TakesFormat LeavesFormat (placed file.formats) kept left_formats
   pub extensions_sifted : Sifted TakesExtension LeavesExtension (all_extensions kept) extensions left_extensions
-  pub priorities_sifted : Sifted (TakesPriority kept) (LeavesPriority kept) (all_priorities kept) priorities left_priorities
-  pub signatures_sifted : Sifted (TakesSignature file.signatures) (LeavesSignature file.signatures) (all_signatures kept) signatures left_signatures
+  pub priorities_sifted : Sifted (TakesPriority kept) (LeavesPriority kept) (all_priorities kept) priorities
+      left_priorities
+  pub signatures_sifted : Sifted (TakesSignature file.signatures) (LeavesSignature file.signatures)
+      (all_signatures kept) signatures left_signatures
 
 abbrev pub tables_of : {file : FileRecord} → Parts file → Tables
-tables_of parts = record { formats = formats_of parts.kept; extensions = parts.extensions; priorities = parts.priorities; signatures = flat parts.signatures }
+tables_of parts = record {
+  formats = formats_of parts.kept;
+  extensions = parts.extensions;
+  priorities = parts.priorities;
+  signatures = flat parts.signatures;
+}
 
 abbrev pub left_of : {file : FileRecord} → Parts file → List LeftOut
 left_of parts = parts.left_formats ++ parts.left_extensions ++ parts.left_priorities ++ parts.left_signatures
 
--- The format at a place of the registry hits only files that it hits by the signature file, and all of them if none of its
--- signatures is left out, under every scan limit.
-pub record HitsAs (file : FileRecord) (registry : Contents) (left : List LeftOut) (place : ℕ) (it : Placed) : Type 0 where
-  pub only : (bytes : List ℕ) (scan_limit : ℕ) → IsHit (Hits bytes scan_limit) registry place → FormatHits file bytes scan_limit it.format
-  pub all : HasAllSignatures it.place left → (bytes : List ℕ) (scan_limit : ℕ) → FormatHits file bytes scan_limit it.format → IsHit (Hits bytes scan_limit) registry place
+-- The format at a place of the registry hits only files that it hits by the signature file, and all of them if none of
+-- its signatures is left out, under every scan limit.
+pub record HitsAs (file : FileRecord) (registry : Contents) (left : List LeftOut) (place : ℕ) (it : Placed)
+    : Type 0 where
+  pub only : (bytes : List ℕ) (scan_limit : ℕ) → IsHit (Hits bytes scan_limit) registry place
+      → FormatHits file bytes scan_limit it.format
+  pub all : HasAllSignatures it.place left → (bytes : List ℕ) (scan_limit : ℕ)
+      → FormatHits file bytes scan_limit it.format → IsHit (Hits bytes scan_limit) registry place
 
 -- A registry file is made of a signature file.
 pub record IsMadeOf (file : FileRecord) (csv : List ℕ) (left : List LeftOut) : Type 0 where
@@ -66,7 +76,8 @@ pub record IsMadeOf (file : FileRecord) (csv : List ℕ) (left : List LeftOut) :
   -- all that is left out is listed
   pub reported : left ≡ left_of parts
   -- each format hits as in the signature file
-  pub hits : (place : ℕ) (it : Placed) → slice_get parts.kept place ≡ Some it → HitsAs file (registry_of (tables_of parts)) left place it
+  pub hits : (place : ℕ) (it : Placed) → slice_get parts.kept place ≡ Some it
+      → HitsAs file (registry_of (tables_of parts)) left place it
 
 -- how much of the file the registry has; of signatures up to the greatest number of 64 bits
 pub record AreCounts {file : FileRecord} (parts : Parts file) (taken : Taken) : Type 0 where

@@ -1,16 +1,22 @@
--- What the crates below define, passed on.
-pub use Rattle.droid_signature_combinations.specs.Records
-pub use Rattle.droid_signature_combinations.specs.record_types
-pub use Rattle.droid_signature_combinations.specs.xml_types
-pub use Rattle.droid_signature_combinations.specs.file_types
-pub use Rattle.droid_signature_combinations.specs.FileOutcomes
-pub use Rattle.droid_signature_combinations.specs.reason_types
-pub use Rattle.droid_signature_combinations.specs.table_types
--- The registry of a whole signature file.
-pub mod Conversion
--- The signatures that no format names.
-pub mod Unnamed
--- All that a registry does not have of a signature file.
 pub mod AllLeftOut
--- For proofs: all tables.
 pub mod AllTables
+pub mod Combinations
+pub mod Conversion
+pub mod Csv
+pub mod Extensions
+pub mod Formats
+pub mod Holders
+pub mod Holdings
+pub mod Keepings
+pub mod Outcomes
+pub mod PlaceMaps
+pub mod Priorities
+pub mod RegistryTables
+pub mod RowSteps
+pub mod Sifting
+pub mod SignatureRows
+pub mod SignatureTables
+pub mod Signatures
+pub mod Tables
+pub mod Unnamed
+pub mod Views

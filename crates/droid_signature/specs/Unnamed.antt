@@ -3,7 +3,7 @@ use Rattle.std.specs.Prelude.{◌≡◌, ℕ, ◌==◌, Bool, List, [], ◌∷�
 use Rattle.std.specs.BTreeMap.{get_by}
 use Rattle.std.specs.List.{flat_map, list_any}
 use Rattle.std.specs.Ordering.{nat_cmp}
-use Rattle.droid_signature_combinations.specs.Records.{FileRecord, FormatRecord, SignatureRecord}
+use Rattle.droid_signature_file.specs.Records.{FileRecord, FormatRecord, SignatureRecord}
 use Rattle.droid_signature.specs.declared.nameless_signatures.Named.{Named}
 
 -- the IDs that formats name
@@ -16,7 +16,8 @@ is_named ids id = list_any (λ other. other == id) ids
 -- the IDs of the signatures whose ID is none of these
 abbrev pub unnamed_among : List ℕ → List SignatureRecord → List ℕ
 unnamed_among ids [] = []
-unnamed_among ids (signature ∷ signatures) = (if is_named ids signature.id then [] else signature.id ∷ []) ++ unnamed_among ids signatures
+unnamed_among ids (signature ∷ signatures) =
+    (if is_named ids signature.id then [] else signature.id ∷ []) ++ unnamed_among ids signatures
 
 abbrev pub unnamed : FileRecord → List ℕ
 unnamed file = unnamed_among (ids_named file.formats) file.signatures

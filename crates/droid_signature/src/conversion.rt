@@ -5,8 +5,9 @@ ghost use Rattle.droid_signature.specs.Conversion.{IsConversion, IsTooLong};
 ghost use Rattle.droid_signature.specs.AllTables.{taken_in};
 ghost use Rattle.droid_signature.specs.declared.conversion.ConversionFault.TheVariants as faults;
 
+use crate::left_out::LeftOut;
 use crate::tables::{AllTables, left_out_of, tables_of, text_of};
-use droid_signature_combinations::{LeftOut, SignatureFile};
+use droid_signature_file::SignatureFile;
 use std::alloc::{AllocError, AllocFailed, Global};
 
 /// The most bytes of a registry file.
@@ -60,9 +61,9 @@ pub struct Converted {
 
 /// Makes a registry of a signature file.
 ///
-/// `Registry::parse` reads the registry file. Its formats are those of the signature file, with name, version, media type,
-/// extensions and priorities, and each hits only files that it hits by the signature file, under every scan limit. It hits all
-/// of them, if none of its signatures is left out. What is left out is listed, with the reason.
+/// `Registry::parse` reads the registry file. Its formats are those of the signature file, with name, version, media
+/// type, extensions and priorities, and each hits only files that it hits by the signature file, under every scan
+/// limit. It hits all of them, if none of its signatures is left out. What is left out is listed, with the reason.
 pub fn convert(alloc: Global, file: &SignatureFile) -> Result<Converted, ConversionFault>
     ensures made { IfOk result (λ made. IsConversion file.now made.csv.items made.left_out.items made.taken) }
     ensures short { IfOk result (λ made. length made.csv.items ≤ 16777216) }

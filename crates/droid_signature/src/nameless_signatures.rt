@@ -3,7 +3,7 @@
 ghost use Rattle.std.specs.Prelude.{◌≡◌, ◌++◌, ◌∷◌, [], ℕ, List, IfOk, OnOk, if◌then◌else◌};
 ghost use Rattle.droid_signature.specs.Unnamed.{AreNamed, ids_named, is_named, unnamed, unnamed_among};
 
-use droid_signature_combinations::{FileFormat, InternalSignature, SignatureFile};
+use droid_signature_file::{FileFormat, InternalSignature, SignatureFile};
 use std::alloc::{AllocError, Global};
 use std::collections::BTreeMap;
 
@@ -74,7 +74,8 @@ fn others(
     signatures: &[InternalSignature],
     named: &Named,
 ) -> Result<Vec<u32>, AllocError>
-    ensures { IfOk result (λ others. (ids : List ℕ) → AreNamed named.now ids → others.items ≡ unnamed_among ids signatures.now) }
+    ensures { IfOk result (λ others.
+        (ids : List ℕ) → AreNamed named.now ids → others.items ≡ unnamed_among ids signatures.now) }
 {
     let mut others = Vec::new(alloc);
     for signature in signatures {
@@ -84,7 +85,8 @@ fn others(
 }
 
 fn add_other(others: &mut Vec<u32>, named: &Named, id: u32) -> Result<(), AllocError>
-    ensures { OnOk result ((ids : List ℕ) → AreNamed named.now ids → others.new.items ≡ others.old.items ++ (if is_named ids id then [] else id ∷ [])) }
+    ensures { OnOk result ((ids : List ℕ) → AreNamed named.now ids
+        → others.new.items ≡ others.old.items ++ (if is_named ids id then [] else id ∷ [])) }
 {
     if !named.has(id) {
         others.push(id)?;

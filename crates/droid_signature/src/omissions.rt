@@ -1,19 +1,21 @@
 //! All that a registry does not have of a signature file.
 
 ghost use Rattle.std.specs.Prelude.{◌≡◌, ◌+◌, ◌-◌, ◌^◌, ◌++◌, ◌∷◌, [], List, map, min, IfOk, OnOk};
-ghost use Rattle.droid_signature_combinations.specs.table_types.left_out.LeftOut.{LeftOut};
+ghost use Rattle.droid_signature.specs.declared.left_out.LeftOut.{LeftOut};
 ghost use Rattle.droid_signature.specs.AllLeftOut as spec;
-ghost use Rattle.droid_signature.specs.AllLeftOut.{AreCountsOf, all_left_out, holder_of, is_without, unnamed_item, without};
+ghost use Rattle.droid_signature.specs.AllLeftOut.{AreCountsOf, all_left_out, holder_of, is_without, unnamed_item};
+ghost use Rattle.droid_signature.specs.AllLeftOut.{without};
 
+use crate::left_out::{Item, LeftOut, Why};
 use crate::nameless_signatures::unnamed_signatures;
 use crate::tables::push_all;
-use droid_signature_combinations::{FileFormat, Item, LeftOut, SignatureFile, Why};
+use droid_signature_file::{FileFormat, SignatureFile};
 use std::alloc::{AllocError, Global};
 use std::collections::BTreeMap;
 
-/// Returns all that a registry does not have of a signature file: what [`convert`](crate::convert) left out, and behind it
-/// the formats of the registry that have signatures in the file and none in the registry, and the signatures that no format
-/// names.
+/// Returns all that a registry does not have of a signature file: what [`convert`](crate::conversion::convert) left
+/// out, and behind it the formats of the registry that have signatures in the file and none in the registry, and the
+/// signatures that no format names.
 pub fn all_left_out(
     alloc: Global,
     file: &SignatureFile,
@@ -59,7 +61,8 @@ impl Counts {
 
     /// Counts one more, if it is a signature of a format.
     fn note(&mut self, it: &LeftOut) -> Result<(), AllocError>
-        ensures { OnOk result ((left : List LeftOut) → AreCountsOf left self.old → AreCountsOf (left ++ it.now ∷ []) self.new) }
+        ensures { OnOk result ((left : List LeftOut) → AreCountsOf left self.old
+            → AreCountsOf (left ++ it.now ∷ []) self.new) }
     {
         match holder_of(it) {
             Some(place) => self.add(place)?,
@@ -95,7 +98,7 @@ fn one_more(count: u64) -> u64
     count.saturating_add(1)
 }
 
-/// Returns the place of the format of which a signature is left out, if it is a signature of one.
+/// Returns the place of the format whose signature was left out, if a signature was.
 fn holder_of(it: &LeftOut) -> Option<usize>
     ensures { result ≡ holder_of it.now.format it.now.item }
 {
@@ -111,7 +114,8 @@ fn push_without(
     formats: &[FileFormat],
     counts: &Counts,
 ) -> Result<(), AllocError>
-    ensures { OnOk result ((left : List LeftOut) → AreCountsOf left counts.now → all.new.items ≡ all.old.items ++ without left formats.now) }
+    ensures { OnOk result ((left : List LeftOut) → AreCountsOf left counts.now
+        → all.new.items ≡ all.old.items ++ without left formats.now) }
 {
     for place in 0..formats.len() {
         push_if_without(all, place, &formats[place], counts.at(place))?;

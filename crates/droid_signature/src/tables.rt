@@ -3,10 +3,15 @@
 ghost use Rattle.std.specs.Prelude.{◌≡◌, ◌++◌, IfOk, OnOk};
 ghost use Rattle.droid_signature.specs.AllTables.{AreTablesOf, all_left, all_text};
 
-use droid_signature_combinations::{
-    Keeping, LeftOut, Outcomes, SignatureFile, SignatureTable, Table, ids_of, keep_formats,
-    list_extensions, list_priorities, list_signatures,
-};
+use crate::extensions::list_extensions;
+use crate::formats::{Keeping, keep_formats};
+use crate::left_out::LeftOut;
+use crate::outcomes::Outcomes;
+use crate::priorities::{ids_of, list_priorities};
+use crate::signature_list::list_signatures;
+use crate::signature_table::SignatureTable;
+use crate::table::Table;
+use droid_signature_file::SignatureFile;
 use std::alloc::{AllocError, Global};
 
 /// The tables of a registry.

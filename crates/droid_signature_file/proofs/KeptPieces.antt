@@ -4,7 +4,7 @@ use Rattle.std.specs.Prelude.{Some, None, Result, Ok, if◌then◌else◌}
 use Rattle.droid_xml.specs.Documents.{IsDocument, Place, next_at, start_of}
 use Rattle.droid_xml.specs.Pieces.{Part, Start, End, Text, Data, Reference, Comment, Instruction}
 use Rattle.droid_xml.proofs.Reading.{HasRead, begun, read_more, read_whole}
-use Rattle.droid_signature_spec.specs.Records.{FileRecord}
+use Rattle.droid_signature_file.specs.Records.{FileRecord}
 use Rattle.droid_signature_file.specs.Signatures.{said, signature_file}
 use Rattle.droid_signature_file.specs.declared.fault.Wrong.{Wrong}
 use Rattle.droid_signature_file.specs.Tables.{depth_after, depth_behind, is_table, kept_piece, meaningful}

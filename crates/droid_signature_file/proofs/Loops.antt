@@ -14,7 +14,7 @@ use Rattle.droid_xml.specs.declared.attributes.Attribute.{Attribute}
 use Rattle.droid_xml.specs.declared.pieces.Piece.{Piece}
 use Rattle.droid_signature_file.specs.Elements.{deeper, inner_len, value_of}
 use Rattle.droid_signature_file.specs.Unknown.{again, again_at, innermost, name_of}
-use Rattle.droid_signature_spec.specs.declared.whole_file.UnknownName.{UnknownName}
+use Rattle.droid_signature_file.specs.declared.whole_file.UnknownName.{UnknownName}
 use Rattle.droid_signature_file.specs.declared.kinds.Kind.{Kind}
 
 -- the item at a place, and those behind it

@@ -1,5 +1,6 @@
 -- The elements and the text that stand directly in an element, from the pieces of an XML document.
-use Rattle.std.specs.Prelude.{ℕ, zero, suc, ◌+◌, ◌++◌, Bool, true, false, not, if◌then◌else◌, List, [], ◌∷◌, take, filter, Option, Some, None}
+use Rattle.std.specs.Prelude.{ℕ, zero, suc, ◌+◌, ◌++◌, Bool, true, false, not, if◌then◌else◌, List, [], ◌∷◌, take}
+use Rattle.std.specs.Prelude.{filter, Option, Some, None}
 use Rattle.std.specs.Char.{encode_utf8}
 use Rattle.std.specs.Str.{bytes_eq}
 use Rattle.droid_xml.specs.Attributes.{Setting}
@@ -75,7 +76,8 @@ node tag parts = record { name = tag.name; attributes = tag.attributes; inside =
 abbrev pub nodes_from : ℕ → List Part → List Node
 nodes_from skip [] = []
 nodes_from (suc skip) (part ∷ parts) = nodes_from skip parts
-nodes_from zero (part ∷ parts) = choose (tag_of part) (λ tag. node tag parts ∷ nodes_from (len_of part parts) parts) (nodes_from zero parts)
+nodes_from zero (part ∷ parts) =
+    choose (tag_of part) (λ tag. node tag parts ∷ nodes_from (len_of part parts) parts) (nodes_from zero parts)
 
 -- the text of a piece
 abbrev pub word : Part → List ℕ

@@ -4,7 +4,7 @@ use Rattle.droid_xml.specs.Documents.{IsDocument, HasProblem}
 use Rattle.droid_xml.specs.LineEnds.{with_line_feeds}
 use Rattle.droid_xml.specs.Pieces.{Part}
 use Rattle.droid_xml.specs.Views.{part, setting}
-use Rattle.droid_signature_spec.specs.Records.{FileRecord}
+use Rattle.droid_signature_file.specs.Records.{FileRecord}
 use Rattle.droid_signature_file.specs.Elements.{Node}
 use Rattle.droid_signature_file.specs.Signatures.{signature_file}
 use Rattle.droid_signature_file.specs.declared.fault.FileFault.{FileFault}
@@ -16,7 +16,11 @@ use Rattle.droid_signature_file.specs.declared.node.Node as code
 
 -- the element that a value stands for
 abbrev pub node_of : code.Node → Node
-node_of node = record { name = node.element.now.name.now; attributes = map setting node.element.now.attributes.items; inside = map part node.inside.now }
+node_of node = record {
+  name = node.element.now.name.now;
+  attributes = map setting node.element.now.attributes.items;
+  inside = map part node.inside.now;
+}
 
 -- what was returned, seen by view, is what the definition gives, unless memory ran out
 abbrev pub Stops : {A : Type 0} → Stop → Result A Wrong → Type 0

@@ -1,5 +1,6 @@
 -- What the elements of a DROID signature file say (its format as The National Archives publishes it).
-use Rattle.std.specs.Prelude.{ℕ, ◌^◌, ◌-◌, ◌&&◌, nat_lt, Bool, if◌then◌else◌, List, [], ◌∷◌, length, drop, take, codes, unwrap_or, Option, Some, None, Result, Ok, Err}
+use Rattle.std.specs.Prelude.{ℕ, ◌^◌, ◌-◌, ◌&&◌, nat_lt, Bool, if◌then◌else◌, List, [], ◌∷◌, length, drop, take, codes}
+use Rattle.std.specs.Prelude.{unwrap_or, Option, Some, None, Result, Ok, Err}
 use Rattle.std.specs.Char.{is_ascii_digit, is_ascii_whitespace}
 use Rattle.std.specs.List.{prefix_len, suffix_len, list_all, flat_map}
 use Rattle.std.specs.Str.{bytes_eq}
@@ -8,12 +9,13 @@ use Rattle.droid_xml.specs.Pieces.{Part}
 use Rattle.droid_signature_file.specs.Elements.{Node, nodes_from, words_from, value_of, is_named, inside_named}
 use Rattle.droid_signature_file.specs.Tables.{meaningful}
 use Rattle.droid_signature_file.specs.Unknown.{Tally, tally}
-use Rattle.droid_signature_spec.specs.Records.{ByteSequenceRecord, FileRecord, FormatRecord, SignatureRecord, SubSequenceRecord}
-use Rattle.droid_signature_spec.specs.declared.subsequence.OffsetRange.{OffsetRange}
-use Rattle.droid_signature_spec.specs.declared.subsequence.Fragment.{Fragment}
-use Rattle.droid_signature_spec.specs.declared.format.FormatAttributes.{FormatAttributes}
-use Rattle.droid_signature_spec.specs.declared.sequence.Reference.{Reference}
-use Rattle.droid_signature_spec.specs.declared.sequence.Reference.TheVariants.{Beginning, End, Other}
+use Rattle.droid_signature_file.specs.Records.{ByteSequenceRecord, FileRecord, FormatRecord, SignatureRecord}
+use Rattle.droid_signature_file.specs.Records.{SubSequenceRecord}
+use Rattle.droid_signature_file.specs.declared.subsequence.OffsetRange.{OffsetRange}
+use Rattle.droid_signature_file.specs.declared.subsequence.Fragment.{Fragment}
+use Rattle.droid_signature_file.specs.declared.format.FormatAttributes.{FormatAttributes}
+use Rattle.droid_signature_file.specs.declared.sequence.Reference.{Reference}
+use Rattle.droid_signature_file.specs.declared.sequence.Reference.TheVariants.{Beginning, End, Other}
 use Rattle.droid_signature_file.specs.declared.fault.Wrong.{Wrong}
 use Rattle.droid_signature_file.specs.declared.fault.Wrong.TheVariants as wrongs
 
@@ -109,7 +111,8 @@ sub_sequence element = do
 -- from where offsets count
 abbrev pub reference : Option (List ℕ) → Reference
 reference None = Other
-reference (Some text) = if bytes_eq text (codes "BOFoffset") then Beginning else if bytes_eq text (codes "EOFoffset") then End else Other
+reference (Some text) =
+    if bytes_eq text (codes "BOFoffset") then Beginning else if bytes_eq text (codes "EOFoffset") then End else Other
 
 unfoldable pub byte_sequence : Node → Result ByteSequenceRecord Wrong
 byte_sequence element = do

@@ -1,14 +1,15 @@
--- The names of elements and attributes that a signature file has beside those that are known here. What stands in an unknown
--- element is not looked at.
-use Rattle.std.specs.Prelude.{ℕ, zero, suc, ◌+◌, ◌-◌, ◌^◌, min, ◌||◌, ◌&&◌, nat_lt, Bool, true, false, if◌then◌else◌, List, [], ◌∷◌, ◌++◌, length, map, codes, Option, Some, None}
+-- The names of elements and attributes that a signature file has beside those that are known here. What stands in an
+-- unknown element is not looked at.
+use Rattle.std.specs.Prelude.{ℕ, zero, suc, ◌+◌, ◌-◌, ◌^◌, min, ◌||◌, ◌&&◌, nat_lt, Bool, true, false, if◌then◌else◌}
+use Rattle.std.specs.Prelude.{List, [], ◌∷◌, ◌++◌, length, map, codes, Option, Some, None}
 use Rattle.std.specs.List.{fold, position_or_len}
 use Rattle.std.specs.Str.{bytes_eq}
 use Rattle.droid_xml.specs.declared.attributes.Attribute.{Attribute}
 use Rattle.droid_xml.specs.Pieces.{Part, Start, End, Text, Data, Reference, Comment, Instruction}
 use Rattle.droid_xml.specs.Tags.{Tag}
-use Rattle.droid_signature_spec.specs.declared.whole_file.UnknownName.{UnknownName}
-use Rattle.droid_signature_spec.specs.declared.whole_file.UnknownPart.{UnknownPart}
-use Rattle.droid_signature_spec.specs.declared.whole_file.UnknownPart.TheVariants as parts
+use Rattle.droid_signature_file.specs.declared.whole_file.UnknownName.{UnknownName}
+use Rattle.droid_signature_file.specs.declared.whole_file.UnknownPart.{UnknownPart}
+use Rattle.droid_signature_file.specs.declared.whole_file.UnknownPart.TheVariants as parts
 use Rattle.droid_signature_file.specs.declared.kinds.Kind.{Kind}
 use Rattle.droid_signature_file.specs.declared.kinds.Kind.TheVariants as kinds
 
@@ -16,7 +17,8 @@ use Rattle.droid_signature_file.specs.declared.kinds.Kind.TheVariants as kinds
 abbrev pub capped : ℕ → ℕ
 capped n = min n (2 ^ 64 - 1)
 
--- the names, each with how often it stands there, in the order in which they come first; and how many names came beyond the first 64
+-- the names, each with how often it stands there, in the order in which they come first; and how many names came beyond
+-- the first 64
 pub record Tally : Type 0 where
   pub names : List UnknownName
   pub unlisted : ℕ
@@ -30,7 +32,8 @@ kind_in kinds.Root name =
     if bytes_eq name (codes "InternalSignatureCollection") then Some kinds.SignatureCollection
     else if bytes_eq name (codes "FileFormatCollection") then Some kinds.FormatCollection
     else None
-kind_in kinds.SignatureCollection name = if bytes_eq name (codes "InternalSignature") then Some kinds.Signature else None
+kind_in kinds.SignatureCollection name =
+    if bytes_eq name (codes "InternalSignature") then Some kinds.Signature else None
 kind_in kinds.Signature name = if bytes_eq name (codes "ByteSequence") then Some kinds.ByteSequence else None
 kind_in kinds.ByteSequence name = if bytes_eq name (codes "SubSequence") then Some kinds.SubSequence else None
 kind_in kinds.SubSequence name =
@@ -49,15 +52,20 @@ kind_in kinds.Word name = None
 
 -- whether an element may have an attribute of this name
 abbrev pub has_attribute : Kind → List ℕ → Bool
-has_attribute kinds.Root name = bytes_eq name (codes "Version") || bytes_eq name (codes "DateCreated") || bytes_eq name (codes "xmlns")
+has_attribute kinds.Root name =
+    bytes_eq name (codes "Version") || bytes_eq name (codes "DateCreated") || bytes_eq name (codes "xmlns")
 has_attribute kinds.SignatureCollection name = false
 has_attribute kinds.Signature name = bytes_eq name (codes "ID") || bytes_eq name (codes "Specificity")
 has_attribute kinds.ByteSequence name = bytes_eq name (codes "Reference")
-has_attribute kinds.SubSequence name = bytes_eq name (codes "Position") || bytes_eq name (codes "SubSeqMinOffset") || bytes_eq name (codes "SubSeqMaxOffset")
-has_attribute kinds.Fragment name = bytes_eq name (codes "Position") || bytes_eq name (codes "MinOffset") || bytes_eq name (codes "MaxOffset")
+has_attribute kinds.SubSequence name =
+    bytes_eq name (codes "Position") || bytes_eq name (codes "SubSeqMinOffset")
+    || bytes_eq name (codes "SubSeqMaxOffset")
+has_attribute kinds.Fragment name =
+    bytes_eq name (codes "Position") || bytes_eq name (codes "MinOffset") || bytes_eq name (codes "MaxOffset")
 has_attribute kinds.FormatCollection name = false
 has_attribute kinds.Format name =
-    bytes_eq name (codes "ID") || bytes_eq name (codes "PUID") || bytes_eq name (codes "Name") || bytes_eq name (codes "Version") || bytes_eq name (codes "MIMEType")
+    bytes_eq name (codes "ID") || bytes_eq name (codes "PUID") || bytes_eq name (codes "Name")
+    || bytes_eq name (codes "Version") || bytes_eq name (codes "MIMEType")
 has_attribute kinds.Word name = false
 
 -- whether two are the same kind of part
@@ -84,12 +92,14 @@ again_at (suc place) (known ∷ names) = known ∷ again_at place names
 -- one more name that is not listed: as a new one, or beyond the first 64
 abbrev pub noted_new : UnknownPart → List ℕ → Tally → Tally
 noted_new part name found =
-    if nat_lt (length found.names) 64 then record found { names = found.names ++ record { part = part; name = name; count = 1 } ∷ [] }
+    if nat_lt (length found.names) 64
+    then record found { names = found.names ++ record { part = part; name = name; count = 1 } ∷ [] }
     else record found { unlisted = capped (found.unlisted + 1) }
 
 abbrev pub noted_at : ℕ → UnknownPart → List ℕ → Tally → Tally
 noted_at place part name found =
-    if nat_lt place (length found.names) then record found { names = again_at place found.names } else noted_new part name found
+    if nat_lt place (length found.names) then record found { names = again_at place found.names }
+    else noted_new part name found
 
 -- one more name: at its place, or as a new one
 unfoldable pub noted : UnknownPart → List ℕ → Tally → Tally

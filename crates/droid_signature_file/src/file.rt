@@ -12,15 +12,15 @@ use crate::from_node::read_collected;
 use crate::node::{Node, first_node};
 use crate::pieces::pieces_of;
 use crate::tally::{Tally, unknown_names};
-use droid_signature_spec::SignatureFile;
+use crate::whole_file::SignatureFile;
 use droid_xml::{Fault, Piece, with_line_feeds};
 use std::alloc::Global;
 
 /// Reads a signature file.
 ///
-/// `Document` comes where the bytes are no XML document without a document type declaration, `NotASignatureFile` where they
-/// are one, but not of a signature file. Search tables, comments and processing instructions are passed over, and names that
-/// are not known are counted: an unknown element with all in it once.
+/// `Document` comes where the bytes are no XML document without a document type declaration, `NotASignatureFile` where
+/// they are one, but not of a signature file. Search tables, comments and processing instructions are passed over, and
+/// names that are not known are counted: an unknown element with all in it once.
 pub fn read(alloc: Global, bytes: &[u8]) -> Result<SignatureFile, FileFault>
     ensures { Reads bytes.now result }
 {

@@ -6,10 +6,11 @@ ghost use Rattle.droid_signature_file.specs.Outcomes.{Gives, node_of};
 ghost use Rattle.droid_signature_file.specs.Signatures as spec;
 
 use crate::fault::Stop;
+use crate::format::{FileFormat, FormatAttributes};
 use crate::from_node::{FromNode, read_each};
 use crate::node::Node;
 use crate::numbers::wanted;
-use droid_signature_spec::{FileFormat, FormatAttributes, Text};
+use droid_frame::Text;
 use std::alloc::{AllocError, Global};
 
 impl FromNode for FileFormat {

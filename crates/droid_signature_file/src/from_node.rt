@@ -49,7 +49,8 @@ fn add_each<T: FromNode>(
     pieces: &[Piece<'_>],
     name: &str,
 ) -> Result<(), Stop>
-    ensures { Adds result all.old.items all.new.items (every T.says (filter (is_named name.now) (nodes_from 0 (map part pieces.now)))) }
+    ensures { Adds result all.old.items all.new.items
+        (every T.says (filter (is_named name.now) (nodes_from 0 (map part pieces.now)))) }
 {
     let mut at = 0;
     'elements: loop {
@@ -61,8 +62,8 @@ fn add_each<T: FromNode>(
     }
 }
 
-/// Adds the next element that stands directly among the pieces from a place on, if it has this name. Returns the place behind
-/// it, or `None` if there is no element.
+/// Adds the next element that stands directly among the pieces from a place on, if it has this name. Returns the place
+/// behind it, or `None` if there is no element.
 fn add_next<T: FromNode>(
     alloc: Global,
     all: &mut Vec<T>,
@@ -71,7 +72,8 @@ fn add_next<T: FromNode>(
     name: &str,
 ) -> Result<Option<usize>, Stop>
     requires { at ≤ length pieces.now }
-    ensures added { Steps result all.old.items all.new.items (λ at. every T.says (filter (is_named name.now) (nodes_from 0 (map part (drop at pieces.now))))) at }
+    ensures added { Steps result all.old.items all.new.items
+        (λ at. every T.says (filter (is_named name.now) (nodes_from 0 (map part (drop at pieces.now))))) at }
     ensures later { IfOk result (λ next. IfSome next (λ next. (at < next) × (next ≤ length pieces.now))) }
 {
     match first_node(&pieces[at..]) {
@@ -90,7 +92,8 @@ fn add_named<T: FromNode>(
     node: &Node<'_, '_>,
     name: &str,
 ) -> Result<(), Stop>
-    ensures { Adds result all.old.items all.new.items (every T.says (filter (is_named name.now) (node_of node.now ∷ []))) }
+    ensures { Adds result all.old.items all.new.items
+        (every T.says (filter (is_named name.now) (node_of node.now ∷ []))) }
 {
     if node.element.name != name {
         return Ok(());
@@ -128,7 +131,9 @@ fn add_collected<T: FromNode>(
     collection: &str,
     name: &str,
 ) -> Result<(), Stop>
-    ensures { Adds result all.old.items all.new.items (every T.says (flat_map (inside_named name.now) (filter (is_named collection.now) (nodes_from 0 (map part pieces.now))))) }
+    ensures { Adds result all.old.items all.new.items
+        (every T.says
+        (flat_map (inside_named name.now) (filter (is_named collection.now) (nodes_from 0 (map part pieces.now))))) }
 {
     let mut at = 0;
     'elements: loop {
@@ -140,8 +145,8 @@ fn add_collected<T: FromNode>(
     }
 }
 
-/// Adds the elements of a name that stand directly in the next element that stands directly among the pieces from a place on,
-/// if that has the name of a collection. Returns the place behind it, or `None` if there is no element.
+/// Adds the elements of a name that stand directly in the next element that stands directly among the pieces from a
+/// place on, if that has the name of a collection. Returns the place behind it, or `None` if there is no element.
 fn add_next_inside<T: FromNode>(
     alloc: Global,
     all: &mut Vec<T>,
@@ -151,7 +156,12 @@ fn add_next_inside<T: FromNode>(
     name: &str,
 ) -> Result<Option<usize>, Stop>
     requires { at ≤ length pieces.now }
-    ensures added { Steps result all.old.items all.new.items (λ at. every T.says (flat_map (inside_named name.now) (filter (is_named collection.now) (nodes_from 0 (map part (drop at pieces.now)))))) at }
+    ensures added { Steps result all.old.items all.new.items
+        (λ at.
+        every T.says
+        (flat_map (inside_named name.now)
+        (filter (is_named collection.now) (nodes_from 0 (map part (drop at pieces.now))))))
+        at }
     ensures later { IfOk result (λ next. IfSome next (λ next. (at < next) × (next ≤ length pieces.now))) }
 {
     match first_node(&pieces[at..]) {
@@ -171,7 +181,8 @@ fn add_inside<T: FromNode>(
     collection: &str,
     name: &str,
 ) -> Result<(), Stop>
-    ensures { Adds result all.old.items all.new.items (every T.says (flat_map (inside_named name.now) (filter (is_named collection.now) (node_of it.now ∷ [])))) }
+    ensures { Adds result all.old.items all.new.items
+        (every T.says (flat_map (inside_named name.now) (filter (is_named collection.now) (node_of it.now ∷ [])))) }
 {
     if it.element.name != collection {
         return Ok(());

@@ -1,6 +1,7 @@
 //! Elements, and what stands directly in them.
 
-ghost use Rattle.std.specs.Prelude.{◌≡◌, ◌+◌, ◌<◌, ◌≤◌, ◌^◌, ◌++◌, ◌∷◌, [], IfOk, IfSome, MatchOption, OnOk, drop, length, map, string_bytes};
+ghost use Rattle.std.specs.Prelude.{◌≡◌, ◌+◌, ◌<◌, ◌≤◌, ◌^◌, ◌++◌, ◌∷◌, [], IfOk, IfSome, MatchOption, OnOk, drop};
+ghost use Rattle.std.specs.Prelude.{length, map, string_bytes};
 ghost use Rattle.std.specs.List.{position_or_len};
 ghost use Rattle.std.specs.Option.{option_map};
 ghost use Rattle.droid_xml.specs.Views.{part, setting, tag};
@@ -64,7 +65,9 @@ fn value_of<'a>(attributes: &'a [Attribute<'_>], name: &str) -> Option<&'a str>
 
 /// Returns the first element that stands directly among the pieces, and the place behind it.
 pub(crate) fn first_node<'a, 'b>(pieces: &'a [Piece<'b>]) -> Option<(Node<'a, 'b>, usize)>
-    ensures found { MatchOption result (spec.nodes_from 0 (map part pieces.entry.now) ≡ []) (λ found. spec.nodes_from 0 (map part pieces.entry.now) ≡ node_of found.0 ∷ spec.nodes_from 0 (map part (drop found.1 pieces.entry.now))) }
+    ensures found { MatchOption result (spec.nodes_from 0 (map part pieces.entry.now) ≡ []) (λ found.
+        spec.nodes_from 0 (map part pieces.entry.now)
+        ≡ node_of found.0 ∷ spec.nodes_from 0 (map part (drop found.1 pieces.entry.now))) }
     ensures some { IfSome result (λ found. 0 < found.1) }
     ensures inside { IfSome result (λ found. found.1 ≤ length pieces.entry.now) }
 {
@@ -121,7 +124,8 @@ fn inside_of<'a, 'b>(element: &Element<'_>, behind: &'a [Piece<'b>]) -> &'a [Pie
     &behind[..inner_len(behind)]
 }
 
-/// Returns how many of the pieces behind a piece belong to the element that it begins. A piece that begins no element has none.
+/// Returns how many of the pieces behind a piece belong to the element that it begins. A piece that begins no element
+/// has none.
 fn len_of(piece: &Piece<'_>, behind: &[Piece<'_>]) -> usize
     ensures value { drop result behind.now ≡ drop (spec.len_of (part piece.now) (map part behind.now)) behind.now }
     ensures few { result ≤ length behind.now }

@@ -12,7 +12,8 @@ use std::alloc::Global;
 
 /// Reads the pieces of a document that mean something. The whole document is read. Its line ends are line feeds.
 pub(crate) fn pieces_of(alloc: Global, text: &[u8]) -> Result<Vec<Piece<'_>>, Fault>
-    ensures found { IfOk result (λ pieces. (parts : List Part) × IsDocument text.now parts × (map part pieces.items ≡ meaningful 0 parts)) }
+    ensures found { IfOk result (λ pieces.
+        (parts : List Part) × IsDocument text.now parts × (map part pieces.items ≡ meaningful 0 parts)) }
     ensures fault { IfErr result (λ fault. IsFaultOf text.now fault) }
 {
     let mut reader = Reader::new(alloc, text)?;
@@ -34,7 +35,8 @@ pub(crate) fn pieces_of(alloc: Global, text: &[u8]) -> Result<Vec<Piece<'_>>, Fa
 
 /// Adds a piece, if it is kept where `depth` elements are open in a search table.
 fn add_kept<'a>(pieces: &mut Vec<Piece<'a>>, depth: u64, piece: Piece<'a>) -> Result<(), Fault>
-    ensures added { OnOk result (map part pieces.new.items ≡ map part pieces.old.items ++ kept_piece depth (part piece.entry)) }
+    ensures added { OnOk result
+        (map part pieces.new.items ≡ map part pieces.old.items ++ kept_piece depth (part piece.entry)) }
     ensures fault { IfErr result IsMemory }
 {
     if is_kept(depth, &piece) {

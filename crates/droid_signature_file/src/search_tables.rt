@@ -13,7 +13,8 @@ pub(crate) fn is_table(name: &str) -> bool
     name == "Shift" || name == "DefaultShift"
 }
 
-/// Returns how many elements are open in a search table behind a piece, the table itself included. Before it `depth` were.
+/// Returns how many elements are open in a search table behind a piece, the table itself included. Before it `depth`
+/// were.
 pub(crate) fn depth_behind(depth: u64, piece: &Piece<'_>) -> u64
     requires { depth + 1 < 2 ^ 64 }
     ensures { result ≡ spec.depth_behind depth (part piece.now) }

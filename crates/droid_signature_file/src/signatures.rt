@@ -9,9 +9,10 @@ use crate::fault::{Stop, Wrong};
 use crate::from_node::{FromNode, read_each};
 use crate::node::Node;
 use crate::numbers::{optional, wanted};
-use droid_signature_spec::{
-    Fragment, InternalSignature, OffsetRange, Reference, SequenceRecord, SubSequence, Text,
-};
+use crate::sequence::{Reference, SequenceRecord};
+use crate::signature::InternalSignature;
+use crate::subsequence::{Fragment, OffsetRange, SubSequence};
+use droid_frame::Text;
 use std::alloc::Global;
 
 impl FromNode for InternalSignature {

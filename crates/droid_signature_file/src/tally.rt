@@ -6,7 +6,8 @@ ghost use Rattle.droid_xml.specs.Views.{part, tag};
 ghost use Rattle.droid_signature_file.specs.Unknown as spec;
 
 use crate::kinds::{Kind, kind_outside};
-use droid_signature_spec::{Text, UnknownName, UnknownPart};
+use crate::whole_file::{UnknownName, UnknownPart};
+use droid_frame::Text;
 use droid_xml::{Attribute, Element, Piece};
 use std::alloc::{AllocError, Global};
 use std::marker::Model;
@@ -121,7 +122,8 @@ impl Counting {
 
     /// Counts an unknown element, unless the element outside is unknown too.
     fn note_element(&mut self, alloc: Global, name: &str) -> Result<(), AllocError>
-        ensures { OnOk result (self.new ≡ record self.old { found = spec.noted_element self.old.stack name.now self.old.found }) }
+        ensures { OnOk result
+            (self.new ≡ record self.old { found = spec.noted_element self.old.stack name.now self.old.found }) }
     {
         match self.innermost() {
             Some(Some(_)) => self.found.note(alloc, UnknownPart::Element, name),

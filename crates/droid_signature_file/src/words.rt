@@ -7,7 +7,7 @@ use crate::fault::Stop;
 use crate::from_node::FromNode;
 use crate::node::Node;
 use crate::numbers::{number, trimmed};
-use droid_signature_spec::Text;
+use droid_frame::Text;
 use std::alloc::Global;
 
 impl FromNode for Text {

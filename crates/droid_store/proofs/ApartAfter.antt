@@ -3,11 +3,11 @@ use Rattle.std.proofs.Common.{◌≡◌, inl, inr, ℕ, ◌<◌, ◌≤◌, ◌=
 use Rattle.std.proofs.lemmas.Bool.{cases_Bool, and_parts, eqb-true}
 use Rattle.std.proofs.lemmas.Slice.Eq.{bytes_eq-Decides}
 use Rattle.std.specs.List.{AllByRecursion}
-use Rattle.droid_frame.specs.types.hash_kind.HashKind.{HashKind}
-use Rattle.droid_frame.specs.types.hash_value.HashValue.{HashValue}
-use Rattle.droid_frame.specs.types.method.Method.{Method}
-use Rattle.droid_store_sql.specs.KeyedRows.{changed_where}
-use Rattle.droid_store_sql.proofs.AtMostOne.{one_after_none, fewer, as_many}
+use Rattle.droid_frame.specs.declared.hash_kind.HashKind.{HashKind}
+use Rattle.droid_frame.specs.declared.hash_value.HashValue.{HashValue}
+use Rattle.droid_frame.specs.declared.method.Method.{Method}
+use Rattle.droid_store.specs.KeyedRows.{changed_where}
+use Rattle.droid_store.proofs.AtMostOne.{one_after_none, fewer, as_many}
 use Rattle.droid_store.specs.declared.rows.Entry.{Entry}
 use Rattle.droid_store.specs.declared.rows.ProfileRow.{ProfileRow}
 use Rattle.droid_store.specs.Changes.{with_reply, with_profile, with_node, counted, finished, with_finished, without_node, IsNext}

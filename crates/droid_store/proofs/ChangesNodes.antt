@@ -8,18 +8,18 @@ use Rattle.sqlite.specs.Term.{holds}
 use Rattle.sqlite.specs.Cast.{cast_row}
 use Rattle.sqlite.specs.Table.{Table}
 use Rattle.sqlite.specs.State.{State, Executes}
-use Rattle.droid_store_sql.specs.KeyedRows.{changed_where}
-use Rattle.droid_store_sql.proofs.AtMostOne.{filter_seen, changed_seen}
-use Rattle.droid_store_sql.proofs.Changes.{updates, deletes}
-use Rattle.droid_store_sql.proofs.Comparisons.{equal_numbers, all_of_two}
-use Rattle.droid_store_sql.proofs.RowEdits.{written, removed}
-use Rattle.droid_store_sql.proofs.Rising.{rising_filter, rising_map, changed_keeps}
-use Rattle.droid_store_sql.proofs.SeenRows.{few_seen}
-use Rattle.droid_store_sql.proofs.Selects.{selects}
-use Rattle.droid_store_sql.proofs.Values.{cast_int}
+use Rattle.droid_store.specs.KeyedRows.{changed_where}
+use Rattle.droid_store.proofs.AtMostOne.{filter_seen, changed_seen}
+use Rattle.droid_store.proofs.Changes.{updates, deletes}
+use Rattle.droid_store.proofs.Comparisons.{equal_numbers, all_of_two}
+use Rattle.droid_store.proofs.RowEdits.{written, removed}
+use Rattle.droid_store.proofs.Rising.{rising_filter, rising_map, changed_keeps}
+use Rattle.droid_store.proofs.SeenRows.{few_seen}
+use Rattle.droid_store.proofs.Selects.{selects}
+use Rattle.droid_store.proofs.Values.{cast_int}
 use Rattle.droid_frame.specs.Hashes.{hash_bytes}
-use Rattle.droid_frame.specs.types.hash_value.HashValue.{HashValue}
-use Rattle.droid_frame.specs.types.method.Method.{Method}
+use Rattle.droid_frame.specs.declared.hash_value.HashValue.{HashValue}
+use Rattle.droid_frame.specs.declared.method.Method.{Method}
 use Rattle.droid_store.specs.declared.statements.TheConstants.{FINISH_NODE, REMOVE_NODE}
 use Rattle.droid_store.specs.Changes.{IsWord, finished, with_finished, without_node}
 use Rattle.droid_frame.specs.Fields.{method_number}

@@ -3,7 +3,7 @@ use Rattle.std.proofs.Common.{◌≡◌, None, sym, subst, ap, ◌∙◌}
 use Rattle.droid_store_trees.specs.declared.storage.TreeStore.{TreeStore}
 use Rattle.sqlite.specs.Held.{Held, state}
 use Rattle.droid_store_trees.specs.Over.{over_trees}
-use Rattle.droid_store_sql.specs.Transactions.{Settled}
+use Rattle.droid_store.specs.Transactions.{Settled}
 use Rattle.droid_store.specs.declared.rows.Counts.{Counts}
 use Rattle.droid_store.specs.Kept.{kept, Holds, AreApart}
 use Rattle.droid_store.specs.Ranges.{AreReadable}

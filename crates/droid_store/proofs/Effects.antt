@@ -4,14 +4,14 @@ use Rattle.sqlite.specs.declared.types.Value.TheVariants.{Null, Blob}
 use Rattle.sqlite.specs.Order.{Row}
 use Rattle.sqlite.specs.declared.error.Error.{Error}
 use Rattle.sqlite.specs.State.{State, Executes, ExecutesInside}
-use Rattle.droid_store_sql.specs.KeyedRows.{numbered_from}
-use Rattle.droid_store_sql.proofs.Inserts.{inserts}
-use Rattle.droid_store_sql.proofs.RowEdits.{added, added_next}
-use Rattle.droid_store_sql.proofs.Rising.{rising_numbered, numbered_append, next_numbered, numbered_below}
-use Rattle.droid_store_sql.proofs.Transactions.{steps, committed_kept}
-use Rattle.droid_store_sql.proofs.Values.{cast_null, cast_int}
+use Rattle.droid_store.specs.KeyedRows.{numbered_from}
+use Rattle.droid_store.proofs.Inserts.{inserts}
+use Rattle.droid_store.proofs.RowEdits.{added, added_next}
+use Rattle.droid_store.proofs.Rising.{rising_numbered, numbered_append, next_numbered, numbered_below}
+use Rattle.droid_store.proofs.Transactions.{steps, committed_kept}
+use Rattle.droid_store.proofs.Values.{cast_null, cast_int}
 use Rattle.droid_frame.specs.Hashes.{hash_kind_number}
-use Rattle.droid_frame.specs.types.hash_kind.HashKind.{HashKind}
+use Rattle.droid_frame.specs.declared.hash_kind.HashKind.{HashKind}
 use Rattle.droid_store.specs.declared.rows.Entry.{Entry}
 use Rattle.droid_store.specs.declared.rows.ProfileRow.{ProfileRow}
 use Rattle.droid_store.specs.declared.statements.TheConstants.{ADD_PROFILE, ADD_REPLY}

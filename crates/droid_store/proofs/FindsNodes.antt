@@ -7,10 +7,10 @@ use Rattle.sqlite.specs.declared.error.Error.TheVariants.{QueryReturnedNoRows}
 use Rattle.sqlite.specs.Order.{Row}
 use Rattle.sqlite.specs.Term.{holds}
 use Rattle.sqlite.specs.State.{State, QueriesRow}
-use Rattle.droid_store_sql.specs.Transactions.{Settled}
-use Rattle.droid_store_sql.proofs.Comparisons.{equal_numbers, equal_texts, all_of_two, all_of_three}
-use Rattle.droid_store_sql.proofs.LookUps.{looks_up}
-use Rattle.droid_store_sql.proofs.SeenRows.{finds_seen, none_shown}
+use Rattle.droid_store.specs.Transactions.{Settled}
+use Rattle.droid_store.proofs.Comparisons.{equal_numbers, equal_texts, all_of_two, all_of_three}
+use Rattle.droid_store.proofs.LookUps.{looks_up}
+use Rattle.droid_store.proofs.SeenRows.{finds_seen, none_shown}
 use Rattle.droid_store.specs.declared.statements.TheConstants.{FIND_NODE, FIND_CHILD}
 use Rattle.droid_store.specs.Encoded.{number, node_row}
 use Rattle.droid_store.specs.Kept.{Holds, AreApart}

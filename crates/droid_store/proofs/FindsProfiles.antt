@@ -9,14 +9,14 @@ use Rattle.sqlite.specs.Query.{IsSureAnswer}
 use Rattle.sqlite.specs.Program.{overlay}
 use Rattle.sqlite.specs.Term.{holds}
 use Rattle.sqlite.specs.State.{State, QueriesRow}
-use Rattle.droid_store_sql.specs.KeyedRows.{numbered_from}
-use Rattle.droid_store_sql.specs.Transactions.{Settled}
-use Rattle.droid_store_sql.proofs.Comparisons.{equal_numbers, all_of_one}
-use Rattle.droid_store_sql.proofs.LookUps.{looks_up}
-use Rattle.droid_store_sql.proofs.Numbered.{few_with_key, find_numbered, find_no_zero}
-use Rattle.droid_store_sql.proofs.Rising.{rising_numbered}
-use Rattle.droid_store_sql.proofs.Selects.{selects_first}
-use Rattle.droid_store_sql.proofs.SeenRows.{none_shown}
+use Rattle.droid_store.specs.KeyedRows.{numbered_from}
+use Rattle.droid_store.specs.Transactions.{Settled}
+use Rattle.droid_store.proofs.Comparisons.{equal_numbers, all_of_one}
+use Rattle.droid_store.proofs.LookUps.{looks_up}
+use Rattle.droid_store.proofs.Numbered.{few_with_key, find_numbered, find_no_zero}
+use Rattle.droid_store.proofs.Rising.{rising_numbered}
+use Rattle.droid_store.proofs.Selects.{selects_first}
+use Rattle.droid_store.proofs.SeenRows.{none_shown}
 use Rattle.droid_store.specs.declared.rows.ProfileRow.{ProfileRow}
 use Rattle.droid_store.specs.declared.statements.TheConstants.{FIND_PROFILE}
 use Rattle.droid_store.specs.Encoded.{number, profile_row}

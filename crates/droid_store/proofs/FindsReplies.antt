@@ -6,12 +6,12 @@ use Rattle.sqlite.specs.declared.error.Error.TheVariants.{QueryReturnedNoRows}
 use Rattle.sqlite.specs.Order.{Row}
 use Rattle.sqlite.specs.Term.{holds}
 use Rattle.sqlite.specs.State.{State, QueriesRow}
-use Rattle.droid_store_sql.specs.KeyedRows.{numbered_from}
-use Rattle.droid_store_sql.specs.Transactions.{Settled}
-use Rattle.droid_store_sql.proofs.Comparisons.{equal_numbers, all_of_two}
-use Rattle.droid_store_sql.proofs.LookUps.{looks_up}
-use Rattle.droid_store_sql.proofs.Rising.{numbered_values}
-use Rattle.droid_store_sql.proofs.SeenRows.{finds_seen, none_shown}
+use Rattle.droid_store.specs.KeyedRows.{numbered_from}
+use Rattle.droid_store.specs.Transactions.{Settled}
+use Rattle.droid_store.proofs.Comparisons.{equal_numbers, all_of_two}
+use Rattle.droid_store.proofs.LookUps.{looks_up}
+use Rattle.droid_store.proofs.Rising.{numbered_values}
+use Rattle.droid_store.proofs.SeenRows.{finds_seen, none_shown}
 use Rattle.droid_store.specs.declared.rows.Entry.{Entry}
 use Rattle.droid_store.specs.declared.statements.TheConstants.{FIND_REPLY}
 use Rattle.droid_store.specs.Encoded.{number, reply_row}

@@ -10,13 +10,13 @@ use Rattle.sqlite.specs.Listing.{understood}
 use Rattle.sqlite.specs.Order.{Row}
 use Rattle.sqlite.specs.State.{State, IsUnchanged, FailsToQuery}
 use Rattle.sqlite.proofs.Callers.{IsPlain, EndsIn, command_of, given_begin, begins_shown, begun_plain, unchanged_then}
-use Rattle.droid_frame.specs.types.record.Record.{Record}
+use Rattle.droid_frame.specs.declared.record.Record.{Record}
 use Rattle.droid_store_trees.specs.declared.storage.TreeStore.{TreeStore}
 use Rattle.droid_store_trees.specs.Over.{over_trees}
-use Rattle.droid_store_sql.specs.Transactions.{Settled}
-use Rattle.droid_store_sql.specs.MemoryFaults.{IsOutOfMemory}
-use Rattle.droid_store_sql.proofs.Transactions.{settled_unchanged, query_failed}
-use Rattle.droid_store_sql.proofs.MemoryFaults.{in_memory}
+use Rattle.droid_store.specs.Transactions.{Settled}
+use Rattle.droid_store.specs.MemoryFaults.{IsOutOfMemory}
+use Rattle.droid_store.proofs.Transactions.{settled_unchanged, query_failed}
+use Rattle.droid_store.proofs.MemoryFaults.{in_memory}
 use Rattle.droid_store.specs.declared.statements.TheConstants.{LIST_RECORDS}
 use Rattle.droid_store.specs.Changes.{IsWord}
 use Rattle.droid_store.specs.Encoded.{number}

@@ -4,10 +4,10 @@ use Rattle.std.specs.List.{list_all}
 use Rattle.sqlite.specs.Order.{Row}
 use Rattle.sqlite.specs.Term.{holds, col}
 use Rattle.sqlite.specs.State.{State, Shown}
-use Rattle.droid_store_sql.specs.Transactions.{Settled}
-use Rattle.droid_store_sql.proofs.Comparisons.{equal_numbers, different_numbers}
-use Rattle.droid_store_sql.proofs.Listings.{reads_rows}
-use Rattle.droid_store_sql.proofs.SeenRows.{lists_seen}
+use Rattle.droid_store.specs.Transactions.{Settled}
+use Rattle.droid_store.proofs.Comparisons.{equal_numbers, different_numbers}
+use Rattle.droid_store.proofs.Listings.{reads_rows}
+use Rattle.droid_store.proofs.SeenRows.{lists_seen}
 use Rattle.droid_store.specs.declared.rows.NodeState.{NodeState}
 use Rattle.droid_store.specs.declared.rows.NodeState.TheVariants.{Folder, Unfinished, Finished}
 use Rattle.droid_store.specs.declared.statements.TheConstants.{LIST_RECORDS}

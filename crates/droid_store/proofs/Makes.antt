@@ -2,8 +2,8 @@
 use Rattle.std.proofs.Common.{ℕ, [], ◌∷◌, Ok, Err, Result, OnOk, refl, sym, ◌∙◌}
 use Rattle.sqlite.specs.State.{State, Executes}
 use Rattle.sqlite.specs.declared.error.Error.{Error}
-use Rattle.droid_store_sql.specs.Transactions.{Settled}
-use Rattle.droid_store_sql.proofs.Creates.{creates}
+use Rattle.droid_store.specs.Transactions.{Settled}
+use Rattle.droid_store.proofs.Creates.{creates}
 use Rattle.droid_store.specs.declared.statements.TheConstants.{MAKE_PROFILES, MAKE_NODES, MAKE_REPLIES}
 use Rattle.droid_store.specs.Kept.{Holds, HasEmpty}
 use Rattle.droid_store.specs.Rows.{no_rows}

@@ -9,8 +9,8 @@ use Rattle.sqlite.specs.Compile.{table_defined_by}
 use Rattle.sqlite_tied.specs.Compute.{everything}
 use Rattle.sqlite.specs.Listing.{understood, reads_listing}
 use Rattle.sqlite.proofs.Callers.{IsPlain, command_of, statement_of}
-use Rattle.droid_store_sql.specs.Queries.{select, equals, differs, rising_by}
-use Rattle.droid_store_sql.specs.MemoryFaults.{IsWhole}
+use Rattle.droid_store.specs.Queries.{select, equals, differs, rising_by}
+use Rattle.droid_store.specs.MemoryFaults.{IsWhole}
 use Rattle.droid_store.specs.declared.statements.TheConstants.{MAKE_PROFILES, MAKE_NODES, MAKE_REPLIES, ADD_PROFILE, ADD_NODE, ADD_REPLY, COUNT_NODES, FINISH_NODE, REMOVE_NODE, FIND_PROFILE, FIND_NODE, FIND_CHILD, FIND_REPLY, LIST_RECORDS}
 use Rattle.droid_store.specs.Tables.{profiles, nodes, replies, no_schema, first_schema, second_schema, store_schema}
 

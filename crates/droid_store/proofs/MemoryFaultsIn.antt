@@ -18,18 +18,18 @@ use Rattle.sqlite.specs.State.{State, ExecutesInside}
 use Rattle.sqlite.specs.Tree.{with_tree}
 use Rattle.sqlite.specs.View.{IsStorable}
 use Rattle.sqlite.proofs.Callers.{statement_of}
-use Rattle.droid_store_sql.specs.KeyedRows.{numbered_from, next_key}
-use Rattle.droid_store_sql.specs.MemoryFaults.{IsOutOfMemory, InMemory, IsSure}
-use Rattle.droid_store_sql.proofs.FreeEdits.{free_by, small_one, brings, brings_next, fresh_last, storable}
-use Rattle.droid_store_sql.proofs.Inserts.{insert_edit}
-use Rattle.droid_store_sql.proofs.Rising.{rising_numbered, numbered_append, next_numbered, numbered_below}
-use Rattle.droid_store_sql.proofs.RowEdits.{added_next}
-use Rattle.droid_store_sql.proofs.RowOrder.{below_next}
-use Rattle.droid_store_sql.proofs.SureEdits.{edit_sure, insert_sure}
-use Rattle.droid_store_sql.proofs.Values.{cast_null, cast_int}
-use Rattle.droid_store_sql.proofs.MemoryFaults.{inside_runs_out, insert_is_edit}
+use Rattle.droid_store.specs.KeyedRows.{numbered_from, next_key}
+use Rattle.droid_store.specs.MemoryFaults.{IsOutOfMemory, InMemory, IsSure}
+use Rattle.droid_store.proofs.FreeEdits.{free_by, small_one, brings, brings_next, fresh_last, storable}
+use Rattle.droid_store.proofs.Inserts.{insert_edit}
+use Rattle.droid_store.proofs.Rising.{rising_numbered, numbered_append, next_numbered, numbered_below}
+use Rattle.droid_store.proofs.RowEdits.{added_next}
+use Rattle.droid_store.proofs.RowOrder.{below_next}
+use Rattle.droid_store.proofs.SureEdits.{edit_sure, insert_sure}
+use Rattle.droid_store.proofs.Values.{cast_null, cast_int}
+use Rattle.droid_store.proofs.MemoryFaults.{inside_runs_out, insert_is_edit}
 use Rattle.droid_frame.specs.Hashes.{hash_kind_number}
-use Rattle.droid_frame.specs.types.hash_kind.HashKind.{HashKind}
+use Rattle.droid_frame.specs.declared.hash_kind.HashKind.{HashKind}
 use Rattle.droid_store.specs.declared.rows.Entry.{Entry}
 use Rattle.droid_store.specs.declared.rows.NodeState.{NodeState}
 use Rattle.droid_store.specs.declared.rows.ProfileRow.{ProfileRow}

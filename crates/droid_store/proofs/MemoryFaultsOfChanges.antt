@@ -19,20 +19,20 @@ use Rattle.sqlite.specs.Term.{col}
 use Rattle.sqlite.specs.Tree.{Trees, with_tree}
 use Rattle.sqlite.proofs.Callers.{statement_of}
 use Rattle.droid_frame.specs.Hashes.{hash_bytes, hash_kind_number}
-use Rattle.droid_frame.specs.types.hash_value.HashValue.{HashValue}
-use Rattle.droid_frame.specs.types.method.Method.{Method}
-use Rattle.droid_store_sql.specs.KeyedRows.{numbered_from, changed_where}
-use Rattle.droid_store_sql.specs.MemoryFaults.{IsOutOfMemory, InMemory, IsSure}
-use Rattle.droid_store_sql.proofs.AtMostOne.{filter_seen, changed_seen}
-use Rattle.droid_store_sql.proofs.Comparisons.{equal_numbers}
-use Rattle.droid_store_sql.proofs.RewrittenRows.{never_overflows, rewrite_sure, remove_sure}
-use Rattle.droid_store_sql.proofs.Rising.{rising_numbered}
-use Rattle.droid_store_sql.proofs.RowEdits.{written, removed}
-use Rattle.droid_store_sql.proofs.SeenRows.{few_seen}
-use Rattle.droid_store_sql.proofs.Selects.{selects, filter_few}
-use Rattle.droid_store_sql.proofs.SureEdits.{update_sure, delete_sure}
-use Rattle.droid_store_sql.proofs.Values.{cast_null, cast_int}
-use Rattle.droid_store_sql.proofs.MemoryFaults.{inside_runs_out, update_is_edit, delete_is_edit}
+use Rattle.droid_frame.specs.declared.hash_value.HashValue.{HashValue}
+use Rattle.droid_frame.specs.declared.method.Method.{Method}
+use Rattle.droid_store.specs.KeyedRows.{numbered_from, changed_where}
+use Rattle.droid_store.specs.MemoryFaults.{IsOutOfMemory, InMemory, IsSure}
+use Rattle.droid_store.proofs.AtMostOne.{filter_seen, changed_seen}
+use Rattle.droid_store.proofs.Comparisons.{equal_numbers}
+use Rattle.droid_store.proofs.RewrittenRows.{never_overflows, rewrite_sure, remove_sure}
+use Rattle.droid_store.proofs.Rising.{rising_numbered}
+use Rattle.droid_store.proofs.RowEdits.{written, removed}
+use Rattle.droid_store.proofs.SeenRows.{few_seen}
+use Rattle.droid_store.proofs.Selects.{selects, filter_few}
+use Rattle.droid_store.proofs.SureEdits.{update_sure, delete_sure}
+use Rattle.droid_store.proofs.Values.{cast_null, cast_int}
+use Rattle.droid_store.proofs.MemoryFaults.{inside_runs_out, update_is_edit, delete_is_edit}
 use Rattle.droid_store.specs.declared.rows.ProfileRow.{ProfileRow}
 use Rattle.droid_store.specs.declared.statements.TheConstants.{COUNT_NODES, FINISH_NODE, REMOVE_NODE}
 use Rattle.droid_store.specs.Changes.{finished, with_finished, without_node}

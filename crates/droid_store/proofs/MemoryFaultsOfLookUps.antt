@@ -8,10 +8,10 @@ use Rattle.sqlite.specs.Order.{Row}
 use Rattle.sqlite.specs.Term.{col}
 use Rattle.sqlite.specs.State.{State, QueriesRow, FailsToQuery}
 use Rattle.sqlite.specs.Tree.{Trees}
-use Rattle.droid_store_sql.specs.Queries.{rising_by}
-use Rattle.droid_store_sql.specs.MemoryFaults.{IsOutOfMemory, InMemory}
-use Rattle.droid_store_sql.proofs.RewrittenRows.{never_overflows}
-use Rattle.droid_store_sql.proofs.MemoryFaults.{row_runs_out, query_runs_out}
+use Rattle.droid_store.specs.Queries.{rising_by}
+use Rattle.droid_store.specs.MemoryFaults.{IsOutOfMemory, InMemory}
+use Rattle.droid_store.proofs.RewrittenRows.{never_overflows}
+use Rattle.droid_store.proofs.MemoryFaults.{row_runs_out, query_runs_out}
 use Rattle.droid_store.specs.declared.statements.TheConstants.{FIND_PROFILE, FIND_NODE, FIND_CHILD, FIND_REPLY, LIST_RECORDS}
 use Rattle.droid_store.specs.Encoded.{number}
 use Rattle.droid_store.specs.Kept.{Holds}

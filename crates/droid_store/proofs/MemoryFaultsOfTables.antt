@@ -12,10 +12,10 @@ use Rattle.sqlite.specs.State.{State, mode_of, Executes}
 use Rattle.sqlite_tied.specs.Compute.{everything}
 use Rattle.sqlite_trees.specs.Sound.{fits_kind}
 use Rattle.sqlite_schema.specs.Names.{same_name}
-use Rattle.droid_store_sql.specs.NewTables.{IsNewTable}
-use Rattle.droid_store_sql.specs.MemoryFaults.{IsOutOfMemory, InMemory, IsSure}
-use Rattle.droid_store_sql.proofs.SureTables.{create_sure}
-use Rattle.droid_store_sql.proofs.MemoryFaults.{executes_runs_out, create_is_edit}
+use Rattle.droid_store.specs.NewTables.{IsNewTable}
+use Rattle.droid_store.specs.MemoryFaults.{IsOutOfMemory, InMemory, IsSure}
+use Rattle.droid_store.proofs.SureTables.{create_sure}
+use Rattle.droid_store.proofs.MemoryFaults.{executes_runs_out, create_is_edit}
 use Rattle.droid_store.specs.declared.statements.TheConstants.{MAKE_PROFILES, MAKE_NODES, MAKE_REPLIES}
 use Rattle.droid_store.specs.Tables.{profiles, nodes, replies, no_schema, first_schema, second_schema}
 use Rattle.droid_store.proofs.Meanings.{profiles_is, profiles_plain, profiles_whole, nodes_is, nodes_plain, nodes_whole, replies_is, replies_plain, replies_whole}

@@ -6,15 +6,15 @@ use Rattle.std.specs.List.{AllByRecursion}
 use Rattle.sqlite.specs.declared.types.Value.TheVariants.{Null, Int, Text, Blob}
 use Rattle.sqlite.specs.Order.{Row}
 use Rattle.sqlite.specs.State.{State, Executes}
-use Rattle.droid_store_sql.specs.KeyedRows.{numbered_from, next_key, AreRising, changed_where}
-use Rattle.droid_store_sql.proofs.Changes.{updates}
-use Rattle.droid_store_sql.proofs.Comparisons.{equal_numbers}
-use Rattle.droid_store_sql.proofs.Inserts.{inserts}
-use Rattle.droid_store_sql.proofs.RowEdits.{added_next, written}
-use Rattle.droid_store_sql.proofs.RowOrder.{below_next}
-use Rattle.droid_store_sql.proofs.Rising.{rising_last, rising_numbered}
-use Rattle.droid_store_sql.proofs.Selects.{selects}
-use Rattle.droid_store_sql.proofs.Values.{cast_null, cast_int}
+use Rattle.droid_store.specs.KeyedRows.{numbered_from, next_key, AreRising, changed_where}
+use Rattle.droid_store.proofs.Changes.{updates}
+use Rattle.droid_store.proofs.Comparisons.{equal_numbers}
+use Rattle.droid_store.proofs.Inserts.{inserts}
+use Rattle.droid_store.proofs.RowEdits.{added_next, written}
+use Rattle.droid_store.proofs.RowOrder.{below_next}
+use Rattle.droid_store.proofs.Rising.{rising_last, rising_numbered}
+use Rattle.droid_store.proofs.Selects.{selects}
+use Rattle.droid_store.proofs.Values.{cast_null, cast_int}
 use Rattle.droid_frame.specs.Hashes.{hash_kind_number}
 use Rattle.droid_store.specs.declared.rows.NodeState.{NodeState}
 use Rattle.droid_store.specs.declared.rows.ProfileRow.{ProfileRow}

@@ -2,7 +2,7 @@
 use Rattle.std.proofs.Common.{◌≡◌, inl, inr, ℕ, ◌<◌, ◌≤◌, ◌==◌, List, [], ◌∷◌, length, filter, not, refl, sym, subst, ◌∙◌, arith}
 use Rattle.std.proofs.lemmas.Bool.{cases_Bool, and_parts, eqb-true}
 use Rattle.std.specs.List.{AllByRecursion}
-use Rattle.droid_store_sql.specs.KeyedRows.{AreRising}
+use Rattle.droid_store.specs.KeyedRows.{AreRising}
 use Rattle.droid_store.specs.Kept.{AreInOrder}
 use Rattle.droid_store.specs.Rows.{Node, is_node, is_listed, is_unfinished}
 

@@ -16,8 +16,8 @@ use Rattle.sqlite.specs.Steps.{FailsToOpen}
 use Rattle.sqlite.proofs.ListingLemmas.{empty_is_sound}
 use Rattle.droid_store_trees.specs.declared.storage.TreeStore.{TreeStore}
 use Rattle.droid_store_trees.specs.Over.{over_trees}
-use Rattle.droid_store_sql.specs.Transactions.{Settled}
-use Rattle.droid_store_sql.specs.MemoryFaults.{IsOutOfMemory}
+use Rattle.droid_store.specs.Transactions.{Settled}
+use Rattle.droid_store.specs.MemoryFaults.{IsOutOfMemory}
 use Rattle.droid_store.specs.Kept.{HasEmpty}
 use Rattle.droid_store.specs.Tables.{no_schema}
 

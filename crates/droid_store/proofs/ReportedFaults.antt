@@ -7,7 +7,7 @@ use Rattle.sqlite.specs.declared.types.Value.{Value}
 use Rattle.sqlite.specs.declared.types.Value.TheVariants.{Int, Text, Blob}
 use Rattle.sqlite.specs.Order.{Row, column}
 use Rattle.sqlite.specs.Reading.{IsReadError}
-use Rattle.droid_store_sql.specs.MemoryFaults.{IsOutOfMemory}
+use Rattle.droid_store.specs.MemoryFaults.{IsOutOfMemory}
 use Rattle.droid_store.specs.declared.fault.StoreFault.{StoreFault}
 use Rattle.droid_store.specs.declared.fault.StoreFault.TheVariants.{Memory}
 use Rattle.droid_store.specs.Faults.{fault_of}

@@ -3,8 +3,8 @@ use Rattle.std.proofs.Common.{◌≡◌, true, sym, subst, Result, Ok, Err, OnOk
 use Rattle.droid_store_trees.specs.declared.storage.TreeStore.{TreeStore}
 use Rattle.sqlite.specs.Held.{Held, state}
 use Rattle.droid_store_trees.specs.Over.{over_trees}
-use Rattle.droid_store_sql.specs.Transactions.{Settled, Within}
-use Rattle.droid_store_sql.proofs.Transactions.{begins}
+use Rattle.droid_store.specs.Transactions.{Settled, Within}
+use Rattle.droid_store.proofs.Transactions.{begins}
 use Rattle.droid_store.specs.Kept.{Holds}
 use Rattle.droid_store.specs.Rows.{Rows}
 

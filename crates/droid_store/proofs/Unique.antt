@@ -11,10 +11,10 @@ use Rattle.sqlite_value.specs.Keys.{plain, first_key}
 use Rattle.sqlite.specs.Order.{Row}
 use Rattle.sqlite.specs.Table.{Table}
 use Rattle.sqlite.specs.Tree.{Trees}
-use Rattle.droid_store_sql.specs.KeyedRows.{numbered_from}
-use Rattle.droid_store_sql.proofs.Clashes.{each, unclashed}
-use Rattle.droid_store_sql.proofs.Comparisons.{equal_numbers, equal_texts, all_of_two, all_of_three}
-use Rattle.droid_store_sql.proofs.SeenRows.{few_seen}
+use Rattle.droid_store.specs.KeyedRows.{numbered_from}
+use Rattle.droid_store.proofs.Clashes.{each, unclashed}
+use Rattle.droid_store.proofs.Comparisons.{equal_numbers, equal_texts, all_of_two, all_of_three}
+use Rattle.droid_store.proofs.SeenRows.{few_seen}
 use Rattle.droid_store.specs.declared.rows.Entry.{Entry}
 use Rattle.droid_store.specs.Encoded.{node_row, reply_row}
 use Rattle.droid_store.specs.Kept.{AreApart, HasKeys}

@@ -1,10 +1,11 @@
 -- What each command makes of the rows (this project's own).
-use Rattle.std.specs.Prelude.{◌≡◌, ◌≢◌, ℕ, zero, suc, ℤ, ◌+◌, Bool, false, not, if◌then◌else◌, List, [], ◌∷◌, ◌++◌, map, filter, All, Some, option_map}
+use Rattle.std.specs.Prelude.{◌≡◌, ◌≢◌, ℕ, zero, suc, ℤ, ◌+◌, Bool, false, not, if◌then◌else◌, List, [], ◌∷◌, ◌++◌, map}
+use Rattle.std.specs.Prelude.{filter, All, Some, option_map}
 use Rattle.droid_frame.specs.Hashes.{hash_bytes, hash_value_kind}
-use Rattle.droid_frame.specs.types.hash_kind.HashKind.{HashKind}
-use Rattle.droid_frame.specs.types.hash_value.HashValue.{HashValue}
-use Rattle.droid_frame.specs.types.method.Method.{Method}
-use Rattle.droid_frame.specs.types.method.Method.TheVariants.{Unidentified}
+use Rattle.droid_frame.specs.declared.hash_kind.HashKind.{HashKind}
+use Rattle.droid_frame.specs.declared.hash_value.HashValue.{HashValue}
+use Rattle.droid_frame.specs.declared.method.Method.{Method}
+use Rattle.droid_frame.specs.declared.method.Method.TheVariants.{Unidentified}
 use Rattle.droid_store.specs.declared.rows.Entry.{Entry}
 use Rattle.droid_store.specs.declared.rows.NodeState.{NodeState}
 use Rattle.droid_store.specs.declared.rows.NodeState.TheVariants.{Folder, Unfinished, Finished}
@@ -17,7 +18,10 @@ with_reply e rows = record rows { replies = rows.replies ++ e ∷ [] }
 
 abbrev pub with_profile : ℕ → Bool → HashKind → Rows → Rows
 with_profile scan_limit match_all hash rows =
-    record rows { profiles = rows.profiles ++ record { scan_limit = scan_limit; match_all = match_all; nodes = 0; hash = hash } ∷ [] }
+    record rows {
+      profiles =
+          rows.profiles ++ record { scan_limit = scan_limit; match_all = match_all; nodes = 0; hash = hash } ∷ [];
+    }
 
 -- the profile with this number has accepted this many nodes
 abbrev pub counted : ℕ → ℕ → List ProfileRow → List ProfileRow
@@ -52,15 +56,19 @@ abbrev pub new_folder : ℕ → ℕ → ℕ → ℤ → List ℕ → List ℕ �
 new_folder profile id parent modified name path = new_node profile id parent modified Folder 0 0 name path
 
 abbrev pub new_file : ℕ → ℕ → ℕ → ℤ → ℕ → ℕ → List ℕ → List ℕ → Node
-new_file profile id parent modified size piece_size name path = new_node profile id parent modified Unfinished size piece_size name path
+new_file profile id parent modified size piece_size name path =
+    new_node profile id parent modified Unfinished size piece_size name path
 
 abbrev pub finished : Method → Bool → HashValue → List (List ℕ) → Node → Node
-finished method mismatch hash puids n = record n { state = Finished; method = method; mismatch = mismatch; hash = hash_bytes hash; puids = puids }
+finished method mismatch hash puids n =
+    record n { state = Finished; method = method; mismatch = mismatch; hash = hash_bytes hash; puids = puids }
 
 -- with this node finished and no other changed
 abbrev pub with_finished : ℕ → ℕ → Method → Bool → HashValue → List (List ℕ) → Rows → Rows
 with_finished profile file method mismatch hash puids rows =
-    record rows { nodes = map (λ n. if is_node profile file n then finished method mismatch hash puids n else n) rows.nodes }
+    record rows {
+      nodes = map (λ n. if is_node profile file n then finished method mismatch hash puids n else n) rows.nodes;
+    }
 
 -- without this node; its profile still counts it
 abbrev pub without_node : ℕ → ℕ → Rows → Rows

@@ -7,10 +7,10 @@ use Rattle.sqlite.specs.Order.{Row, column}
 use Rattle.sqlite.specs.Effect.{Database}
 use Rattle.droid_frame.specs.Fields.{method_number}
 use Rattle.droid_frame.specs.Hashes.{hash_kind_number}
-use Rattle.droid_frame.specs.types.hash_kind.HashKind.{HashKind}
-use Rattle.droid_frame.specs.types.hash_kind.HashKind.TheVariants as kinds
-use Rattle.droid_frame.specs.types.method.Method.{Method}
-use Rattle.droid_frame.specs.types.method.Method.TheVariants.{Unidentified, Signature, Extension}
+use Rattle.droid_frame.specs.declared.hash_kind.HashKind.{HashKind}
+use Rattle.droid_frame.specs.declared.hash_kind.HashKind.TheVariants as kinds
+use Rattle.droid_frame.specs.declared.method.Method.{Method}
+use Rattle.droid_frame.specs.declared.method.Method.TheVariants.{Unidentified, Signature, Extension}
 use Rattle.droid_store.specs.declared.rows.Entry.{Entry}
 use Rattle.droid_store.specs.declared.rows.NodeState.{NodeState}
 use Rattle.droid_store.specs.declared.rows.NodeState.TheVariants.{Folder, Unfinished, Finished}
@@ -69,7 +69,9 @@ words_of (byte ∷ bytes) = slice_split (λ b. b == 32) (byte ∷ bytes)
 -- ---- rows, each after its own number
 
 abbrev pub profile_row : ℕ × ProfileRow → Row
-profile_row p = number p.0 ∷ Null ∷ number p.1.scan_limit ∷ flag p.1.match_all ∷ number p.1.nodes ∷ number (hash_kind_number p.1.hash) ∷ []
+profile_row p =
+    number p.0 ∷ Null ∷ number p.1.scan_limit ∷ flag p.1.match_all ∷ number p.1.nodes
+    ∷ number (hash_kind_number p.1.hash) ∷ []
 
 abbrev pub node_row : ℕ × Node → Row
 node_row n =
@@ -91,12 +93,18 @@ node_row n =
 
 abbrev pub reply_row : ℕ × Entry → Row
 reply_row e =
-    number e.0 ∷ Null ∷ number e.1.client ∷ number e.1.number ∷ number e.1.version ∷ number e.1.kind ∷ Blob e.1.mark ∷ Blob e.1.body ∷ []
+    number e.0 ∷ Null ∷ number e.1.client ∷ number e.1.number ∷ number e.1.version ∷ number e.1.kind ∷ Blob e.1.mark
+    ∷ Blob e.1.body ∷ []
 
 -- ---- and back
 
 abbrev pub profile_in : Row → ProfileRow
-profile_in r = record { scan_limit = number_in (column r 2); match_all = flag_in (column r 3); nodes = number_in (column r 4); hash = hash_kind_in (column r 5) }
+profile_in r = record {
+  scan_limit = number_in (column r 2);
+  match_all = flag_in (column r 3);
+  nodes = number_in (column r 4);
+  hash = hash_kind_in (column r 5);
+}
 
 abbrev pub node_in : Row → Node
 node_in r = record {

@@ -1,5 +1,6 @@
 -- How the tables hold the rows.
-use Rattle.std.specs.Prelude.{◌≡◌, ◌≤◌, ◌<◌, ℕ, List, [], ◌∷◌, map, filter, length, Result, None, OnOk, OnErr, IfErr, option_map, unwrap_or}
+use Rattle.std.specs.Prelude.{◌≡◌, ◌≤◌, ◌<◌, ℕ, List, [], ◌∷◌, map, filter, length, Result, None, OnOk, OnErr, IfErr}
+use Rattle.std.specs.Prelude.{option_map, unwrap_or}
 use Rattle.sqlite.specs.declared.error.Error.{Error}
 use Rattle.std.specs.List.{AllByRecursion}
 use Rattle.sqlite.specs.Effect.{Database}
@@ -9,9 +10,9 @@ use Rattle.sqlite.specs.State.{State}
 use Rattle.droid_store_trees.specs.Over.{over_trees}
 use Rattle.droid_store_trees.specs.declared.storage.TreeStore.{TreeStore}
 use Rattle.droid_store.specs.Changes.{IsWord}
-use Rattle.droid_store_sql.specs.KeyedRows.{numbered_from, AreRising}
-use Rattle.droid_store_sql.specs.Transactions.{Within}
-use Rattle.droid_store_sql.specs.MemoryFaults.{IsOutOfMemory}
+use Rattle.droid_store.specs.KeyedRows.{numbered_from, AreRising}
+use Rattle.droid_store.specs.Transactions.{Within}
+use Rattle.droid_store.specs.MemoryFaults.{IsOutOfMemory}
 use Rattle.droid_store.specs.Encoded.{profile_row, node_row, reply_row, rows_in}
 use Rattle.droid_store.specs.Rows.{Node, Rows, is_child, is_for, profile_at}
 use Rattle.droid_store.specs.Tables.{store_schema}
@@ -59,7 +60,8 @@ pub record HasEmpty (wanted : Schema) (trees : List ℕ) (db : Database) : Type 
 
 -- a step in a transaction: if it succeeds, the transaction sees the rows `after`
 abbrev pub Steps : {U : Type 0} → State → State → Result U Error → Rows → Rows → Type 0
-Steps old new r before after = (saved : Rows) → Within old (Holds before) (Holds saved) → OnOk r (Within new (Holds after) (Holds saved))
+Steps old new r before after =
+    (saved : Rows) → Within old (Holds before) (Holds saved) → OnOk r (Within new (Holds after) (Holds saved))
 
 -- and if it fails, a rollback still restores the saved rows
 abbrev pub Saves : {U : Type 0} → State → State → Result U Error → Rows → Type 0
@@ -67,4 +69,5 @@ Saves old new r before = (saved : Rows) → Within old (Holds before) (Holds sav
 
 -- and it fails only if memory runs out
 abbrev pub FailsForMemory : {U : Type 0} → State → State → Result U Error → Rows → Type 0
-FailsForMemory old new r before = (saved : Rows) → Within old (Holds before) (Holds saved) → old.step_limit ≡ None → IfErr r IsOutOfMemory
+FailsForMemory old new r before =
+    (saved : Rows) → Within old (Holds before) (Holds saved) → old.step_limit ≡ None → IfErr r IsOutOfMemory

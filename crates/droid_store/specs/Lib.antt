@@ -3,10 +3,15 @@ pub mod CommandChanges
 pub mod Encoded
 pub mod Faults
 pub mod Kept
+pub mod KeyedRows
+pub mod MemoryFaults
+pub mod NewTables
 pub mod Nodes
+pub mod Queries
 pub mod Ranges
 pub mod RecordOrder
 pub mod Rows
 pub mod Shown
 pub mod Sizes
 pub mod Tables
+pub mod Transactions

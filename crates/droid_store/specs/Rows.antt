@@ -1,13 +1,14 @@
 -- The rows of a store (this project's own definition).
-use Rattle.std.specs.Prelude.{ℕ, zero, suc, ℤ, ◌==◌, ◌&&◌, Bool, true, false, not, List, [], map, filter, find, length, if◌then◌else◌, Option, None}
+use Rattle.std.specs.Prelude.{ℕ, zero, suc, ℤ, ◌==◌, ◌&&◌, Bool, true, false, not, List, [], map, filter, find, length}
+use Rattle.std.specs.Prelude.{if◌then◌else◌, Option, None}
 use Rattle.std.specs.List.{slice_get, count_by}
 use Rattle.std.specs.Str.{bytes_eq}
-use Rattle.droid_frame.specs.types.hash_value.HashValue.{HashValue}
-use Rattle.droid_frame.specs.types.hash_value.HashValue.TheVariants as hashes
-use Rattle.droid_frame.specs.types.method.Method.{Method}
-use Rattle.droid_frame.specs.types.node_kind.NodeKind.{NodeKind}
-use Rattle.droid_frame.specs.types.node_kind.NodeKind.TheVariants as kind
-use Rattle.droid_frame.specs.types.record.Record.{Record}
+use Rattle.droid_frame.specs.declared.hash_value.HashValue.{HashValue}
+use Rattle.droid_frame.specs.declared.hash_value.HashValue.TheVariants as hashes
+use Rattle.droid_frame.specs.declared.method.Method.{Method}
+use Rattle.droid_frame.specs.declared.node_kind.NodeKind.{NodeKind}
+use Rattle.droid_frame.specs.declared.node_kind.NodeKind.TheVariants as kind
+use Rattle.droid_frame.specs.declared.record.Record.{Record}
 use Rattle.droid_store.specs.declared.rows.Counts.{Counts}
 use Rattle.droid_store.specs.declared.rows.Entry.{Entry}
 use Rattle.droid_store.specs.declared.rows.NodeRow.{NodeRow}
@@ -78,7 +79,8 @@ kind_of Finished = kind.File
 
 -- the hash with this digest: none for 0 bytes, MD5 for 16, SHA-256 for 32
 abbrev pub hash_of : List ℕ → HashValue
-hash_of bytes = if length bytes == 0 then hashes.Nothing else if length bytes == 16 then hashes.Md5 bytes else hashes.Sha256 bytes
+hash_of bytes =
+    if length bytes == 0 then hashes.Nothing else if length bytes == 16 then hashes.Md5 bytes else hashes.Sha256 bytes
 
 abbrev pub record_of : Node → Record
 record_of n = record {

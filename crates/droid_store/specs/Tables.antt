@@ -12,10 +12,12 @@ use Rattle.sqlite.specs.Change.{created}
 
 -- a column that is the number of its row
 abbrev pub key_column : List ℕ → Column
-key_column name = record { name = name; kind = Integer; is_strict = true; not_null = false; default = Null; collation = Binary }
+key_column name =
+    record { name = name; kind = Integer; is_strict = true; not_null = false; default = Null; collation = Binary }
 
 abbrev pub column_named : List ℕ → Kind → Column
-column_named name kind = record { name = name; kind = kind; is_strict = true; not_null = true; default = Null; collation = Binary }
+column_named name kind =
+    record { name = name; kind = kind; is_strict = true; not_null = true; default = Null; collation = Binary }
 
 abbrev pub profiles : Table
 profiles = record {

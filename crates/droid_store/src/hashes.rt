@@ -2,8 +2,8 @@
 
 ghost use Rattle.std.specs.Prelude.{◌≡◌, IfSome, IsSome, IsTrue, Some, length};
 ghost use Rattle.droid_frame.specs.Hashes.{IsHashValue, hash_kind_number};
-ghost use Rattle.droid_frame.specs.types.hash_kind.HashKind.{HashKind as HashKindValue};
-ghost use Rattle.droid_frame.specs.types.hash_value.HashValue.TheVariants as hashes;
+ghost use Rattle.droid_frame.specs.declared.hash_kind.HashKind.{HashKind as HashKindValue};
+ghost use Rattle.droid_frame.specs.declared.hash_value.HashValue.TheVariants as hashes;
 ghost use Rattle.droid_store.specs.Ranges.{is_hash_length};
 ghost use Rattle.droid_store.specs.Rows.{hash_of};
 

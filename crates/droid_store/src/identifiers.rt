@@ -1,7 +1,6 @@
 //! The identifiers of a file's formats. The database keeps them in one text, joined by a space.
 
-ghost use Rattle.std.specs.Prelude.{◌≡◌, ◌++◌, ◌∷◌, IfOk, OnOk, if◌then◌else◌, string_bytes};
-ghost use Rattle.std.specs.Prelude.{◌==◌};
+ghost use Rattle.std.specs.Prelude.{◌≡◌, ◌++◌, ◌∷◌, IfOk, OnOk, if◌then◌else◌, string_bytes, ◌==◌};
 ghost use Rattle.std.specs.List.{slice_split};
 ghost use Rattle.droid_store.specs.Encoded.{joined, words_of};
 
@@ -21,7 +20,8 @@ pub(crate) fn join(alloc: Global, words: &Texts) -> Result<String, AllocError>
 }
 
 fn append(text: &mut String, word: &str, is_first: bool) -> Result<(), AllocError>
-    ensures { OnOk result (string_bytes text.new ≡ string_bytes text.old ++ (if is_first then word.now else 32 ∷ word.now)) }
+    ensures { OnOk result
+        (string_bytes text.new ≡ string_bytes text.old ++ (if is_first then word.now else 32 ∷ word.now)) }
 {
     if !is_first {
         text.push(' ')?;

@@ -4,8 +4,8 @@ ghost use Rattle.std.specs.Prelude.{◌≡◌, ◌≢◌, ◌<◌, ◌^◌, None
 ghost use Rattle.sqlite.specs.Held.{state};
 ghost use Rattle.droid_store_trees.specs.Over.{over_trees};
 ghost use Rattle.sqlite.specs.declared.error.Error.TheVariants.{QueryReturnedNoRows};
-ghost use Rattle.droid_store_sql.specs.Transactions.{Settled};
-ghost use Rattle.droid_store_sql.specs.MemoryFaults.{IsOutOfMemory};
+ghost use Rattle.droid_store.specs.Transactions.{Settled};
+ghost use Rattle.droid_store.specs.MemoryFaults.{IsOutOfMemory};
 ghost use Rattle.droid_store.specs.Kept.{kept, Holds, AreApart};
 ghost use Rattle.droid_store.specs.Rows.{profile_at, node_at, child_at, reply_for};
 ghost use Rattle.droid_store.specs.Shown.{shown_profile, shown_node, shown_id, shown_reply};
@@ -17,7 +17,8 @@ use sqlite::{Connection, Error, Row, params};
 
 /// Returns the row, or `None` if there is none.
 fn or_none(answer: Result<Row, Error>) -> Result<Option<Row>, Error>
-    ensures found { IfOk result (λ found. MatchOption found (answer ≡ Err QueryReturnedNoRows) (λ row. answer ≡ Ok row)) }
+    ensures found { IfOk result (λ found.
+        MatchOption found (answer ≡ Err QueryReturnedNoRows) (λ row. answer ≡ Ok row)) }
     ensures err { IfErr result (λ e. (answer ≡ Err e) × (e ≢ QueryReturnedNoRows)) }
 {
     match answer {
@@ -69,7 +70,8 @@ pub(crate) fn find_child(
     requires apart { AreApart (kept conn.old) }
     ensures same { kept conn.new ≡ kept conn.old }
     ensures holds { Settled (state over_trees conn.new) (Holds (kept conn.new)) }
-    ensures found { IfOk result (λ found. found ≡ option_map shown_id (child_at profile parent name.now (kept conn.old))) }
+    ensures found { IfOk result (λ found.
+        found ≡ option_map shown_id (child_at profile parent name.now (kept conn.old))) }
     ensures limit { conn.new.step_limit ≡ conn.old.step_limit }
     ensures failure { conn.old.step_limit ≡ None → IfErr result IsOutOfMemory }
 {

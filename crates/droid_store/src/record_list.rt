@@ -3,7 +3,7 @@
 ghost use Rattle.std.specs.Prelude.{◌≡◌, None, IfOk, IfErr};
 ghost use Rattle.sqlite.specs.Held.{state};
 ghost use Rattle.droid_store_trees.specs.Over.{over_trees};
-ghost use Rattle.droid_store_sql.specs.Transactions.{Settled};
+ghost use Rattle.droid_store.specs.Transactions.{Settled};
 ghost use Rattle.droid_store.specs.Kept.{kept, Holds, AreApart};
 ghost use Rattle.droid_store.specs.Ranges.{AreReadable};
 ghost use Rattle.droid_store.specs.Rows.{records_of};

@@ -4,7 +4,8 @@ ghost use Rattle.std.specs.Prelude.{◌≡◌, ◌+◌, ◌<◌, ◌^◌, ◌++�
 ghost use Rattle.sqlite.specs.Held.{state};
 ghost use Rattle.droid_store_trees.specs.Over.{over_trees};
 ghost use Rattle.std.specs.List.{AllByRecursion};
-ghost use Rattle.droid_store.specs.Changes.{with_profile, with_reply, with_node, with_finished, finished, without_node, counted, IsWord};
+ghost use Rattle.droid_store.specs.Changes.{with_profile, with_reply, with_node, with_finished, finished, without_node};
+ghost use Rattle.droid_store.specs.Changes.{counted, IsWord};
 ghost use Rattle.droid_frame.specs.Fields.{method_number};
 ghost use Rattle.droid_store.specs.Encoded.{joined};
 ghost use Rattle.droid_store.specs.Kept.{AreApart, HasKeys, Steps, Saves, FailsForMemory};
@@ -37,10 +38,14 @@ pub(crate) fn insert_profile(
     hash: HashKind,
 ) -> Result<usize, Error>
     ensures same_reference { tx.new.conn.ghost_name ≡ tx.old.conn.ghost_name }
-    ensures ok { (rows : Rows) → profile ≡ length rows.profiles + 1 → Steps (state over_trees tx.old.conn.now) (state over_trees tx.new.conn.now) result rows (with_profile scan_limit match_all hash rows) }
-    ensures err { (rows : Rows) → Saves (state over_trees tx.old.conn.now) (state over_trees tx.new.conn.now) result rows }
+    ensures ok { (rows : Rows) → profile ≡ length rows.profiles + 1
+        → Steps (state over_trees tx.old.conn.now) (state over_trees tx.new.conn.now) result rows
+        (with_profile scan_limit match_all hash rows) }
+    ensures err { (rows : Rows)
+        → Saves (state over_trees tx.old.conn.now) (state over_trees tx.new.conn.now) result rows }
     ensures limit { tx.new.conn.now.step_limit ≡ tx.old.conn.now.step_limit }
-    ensures failure { (rows : Rows) → profile ≡ length rows.profiles + 1 → HasKeys rows → FailsForMemory (state over_trees tx.old.conn.now) (state over_trees tx.new.conn.now) result rows }
+    ensures failure { (rows : Rows) → profile ≡ length rows.profiles + 1 → HasKeys rows
+        → FailsForMemory (state over_trees tx.old.conn.now) (state over_trees tx.new.conn.now) result rows }
 {
     tx.execute(
         ADD_PROFILE,
@@ -54,11 +59,15 @@ pub(crate) fn insert_reply(
 ) -> Result<usize, Error>
     requires small { entry.now.number < 2 ^ 63 }
     ensures same_reference { tx.new.conn.ghost_name ≡ tx.old.conn.ghost_name }
-    ensures ok { (rows : Rows) → Steps (state over_trees tx.old.conn.now) (state over_trees tx.new.conn.now) result rows (with_reply entry.now rows) }
-    ensures err { (rows : Rows) → Saves (state over_trees tx.old.conn.now) (state over_trees tx.new.conn.now) result rows }
+    ensures ok { (rows : Rows)
+        → Steps (state over_trees tx.old.conn.now) (state over_trees tx.new.conn.now) result rows
+        (with_reply entry.now rows) }
+    ensures err { (rows : Rows)
+        → Saves (state over_trees tx.old.conn.now) (state over_trees tx.new.conn.now) result rows }
     ensures limit { tx.new.conn.now.step_limit ≡ tx.old.conn.now.step_limit }
     ensures fits { EntryFits entry.now }
-    ensures failure { (rows : Rows) → HasKeys (with_reply entry.now rows) → FitsARow (entry_size entry.now) → FailsForMemory (state over_trees tx.old.conn.now) (state over_trees tx.new.conn.now) result rows }
+    ensures failure { (rows : Rows) → HasKeys (with_reply entry.now rows) → FitsARow (entry_size entry.now)
+        → FailsForMemory (state over_trees tx.old.conn.now) (state over_trees tx.new.conn.now) result rows }
 {
     let mark = entry.mark.as_slice();
     let body = entry.body.as_slice();
@@ -82,10 +91,16 @@ fn insert_node(
 ) -> Result<usize, Error>
     requires small { node.now.size < 2 ^ 63 }
     ensures same_reference { tx.new.conn.ghost_name ≡ tx.old.conn.ghost_name }
-    ensures ok { (rows : Rows) → Steps (state over_trees tx.old.conn.now) (state over_trees tx.new.conn.now) result rows (record rows { nodes = rows.nodes ++ node_of node.now modified ∷ [] }) }
-    ensures err { (rows : Rows) → Saves (state over_trees tx.old.conn.now) (state over_trees tx.new.conn.now) result rows }
+    ensures ok { (rows : Rows)
+        → Steps (state over_trees tx.old.conn.now) (state over_trees tx.new.conn.now) result rows (record rows {
+          nodes = rows.nodes ++ node_of node.now modified ∷ [];
+        }) }
+    ensures err { (rows : Rows)
+        → Saves (state over_trees tx.old.conn.now) (state over_trees tx.new.conn.now) result rows }
     ensures limit { tx.new.conn.now.step_limit ≡ tx.old.conn.now.step_limit }
-    ensures failure { (rows : Rows) → HasKeys (record rows { nodes = rows.nodes ++ node_of node.now modified ∷ [] }) → FitsARow (node_size (node_of node.now modified)) → FailsForMemory (state over_trees tx.old.conn.now) (state over_trees tx.new.conn.now) result rows }
+    ensures failure { (rows : Rows) → HasKeys (record rows { nodes = rows.nodes ++ node_of node.now modified ∷ [] })
+        → FitsARow (node_size (node_of node.now modified))
+        → FailsForMemory (state over_trees tx.old.conn.now) (state over_trees tx.new.conn.now) result rows }
 {
     tx.execute(
         ADD_NODE,
@@ -109,10 +124,15 @@ fn count_nodes(
     nodes: u32,
 ) -> Result<usize, Error>
     ensures same_reference { tx.new.conn.ghost_name ≡ tx.old.conn.ghost_name }
-    ensures ok { (rows : Rows) → Steps (state over_trees tx.old.conn.now) (state over_trees tx.new.conn.now) result rows (record rows { profiles = counted profile nodes rows.profiles }) }
-    ensures err { (rows : Rows) → Saves (state over_trees tx.old.conn.now) (state over_trees tx.new.conn.now) result rows }
+    ensures ok { (rows : Rows)
+        → Steps (state over_trees tx.old.conn.now) (state over_trees tx.new.conn.now) result rows (record rows {
+          profiles = counted profile nodes rows.profiles;
+        }) }
+    ensures err { (rows : Rows)
+        → Saves (state over_trees tx.old.conn.now) (state over_trees tx.new.conn.now) result rows }
     ensures limit { tx.new.conn.now.step_limit ≡ tx.old.conn.now.step_limit }
-    ensures failure { (rows : Rows) → HasKeys rows → FailsForMemory (state over_trees tx.old.conn.now) (state over_trees tx.new.conn.now) result rows }
+    ensures failure { (rows : Rows) → HasKeys rows
+        → FailsForMemory (state over_trees tx.old.conn.now) (state over_trees tx.new.conn.now) result rows }
 {
     tx.execute(COUNT_NODES, params![profile, nodes])
 }
@@ -125,10 +145,15 @@ pub(crate) fn add_node(
 ) -> Result<usize, Error>
     requires small { node.now.size < 2 ^ 63 }
     ensures same_reference { tx.new.conn.ghost_name ≡ tx.old.conn.ghost_name }
-    ensures ok { (rows : Rows) → Steps (state over_trees tx.old.conn.now) (state over_trees tx.new.conn.now) result rows (with_node (node_of node.now modified) rows) }
-    ensures err { (rows : Rows) → Saves (state over_trees tx.old.conn.now) (state over_trees tx.new.conn.now) result rows }
+    ensures ok { (rows : Rows)
+        → Steps (state over_trees tx.old.conn.now) (state over_trees tx.new.conn.now) result rows
+        (with_node (node_of node.now modified) rows) }
+    ensures err { (rows : Rows)
+        → Saves (state over_trees tx.old.conn.now) (state over_trees tx.new.conn.now) result rows }
     ensures limit { tx.new.conn.now.step_limit ≡ tx.old.conn.now.step_limit }
-    ensures failure { (rows : Rows) → HasKeys (record rows { nodes = rows.nodes ++ node_of node.now modified ∷ [] }) → FitsARow (node_size (node_of node.now modified)) → FailsForMemory (state over_trees tx.old.conn.now) (state over_trees tx.new.conn.now) result rows }
+    ensures failure { (rows : Rows) → HasKeys (record rows { nodes = rows.nodes ++ node_of node.now modified ∷ [] })
+        → FitsARow (node_size (node_of node.now modified))
+        → FailsForMemory (state over_trees tx.old.conn.now) (state over_trees tx.new.conn.now) result rows }
 {
     insert_node(tx, node, modified)?;
     count_nodes(tx, node.profile, node.id)
@@ -141,11 +166,18 @@ pub(crate) fn finish_node(
     findings: &FindingColumns<'_>,
 ) -> Result<usize, Error>
     ensures same_reference { tx.new.conn.ghost_name ≡ tx.old.conn.ghost_name }
-    ensures ok { (rows : Rows) → AreApart rows → (puids : List (List ℕ)) → AllByRecursion IsWord puids → findings.now.formats.now ≡ joined puids
-        → Steps (state over_trees tx.old.conn.now) (state over_trees tx.new.conn.now) result rows (with_finished profile file findings.now.method findings.now.mismatch findings.now.hash puids rows) }
-    ensures err { (rows : Rows) → Saves (state over_trees tx.old.conn.now) (state over_trees tx.new.conn.now) result rows }
+    ensures ok { (rows : Rows) → AreApart rows → (puids : List (List ℕ)) → AllByRecursion IsWord puids
+        → findings.now.formats.now ≡ joined puids
+        → Steps (state over_trees tx.old.conn.now) (state over_trees tx.new.conn.now) result rows
+        (with_finished profile file findings.now.method findings.now.mismatch findings.now.hash puids rows) }
+    ensures err { (rows : Rows)
+        → Saves (state over_trees tx.old.conn.now) (state over_trees tx.new.conn.now) result rows }
     ensures limit { tx.new.conn.now.step_limit ≡ tx.old.conn.now.step_limit }
-    ensures failure { (rows : Rows) → HasKeys rows → (puids : List (List ℕ)) → findings.now.formats.now ≡ joined puids → HasKeys (with_finished profile file findings.now.method findings.now.mismatch findings.now.hash puids rows) → ((n : Node) → node_at profile file rows ≡ Some n → FitsARow (node_size (finished findings.now.method findings.now.mismatch findings.now.hash puids n))) → FailsForMemory (state over_trees tx.old.conn.now) (state over_trees tx.new.conn.now) result rows }
+    ensures failure { (rows : Rows) → HasKeys rows → (puids : List (List ℕ)) → findings.now.formats.now ≡ joined puids
+        → HasKeys (with_finished profile file findings.now.method findings.now.mismatch findings.now.hash puids rows)
+        → ((n : Node) → node_at profile file rows ≡ Some n
+        → FitsARow (node_size (finished findings.now.method findings.now.mismatch findings.now.hash puids n)))
+        → FailsForMemory (state over_trees tx.old.conn.now) (state over_trees tx.new.conn.now) result rows }
 {
     tx.execute(
         FINISH_NODE,
@@ -173,10 +205,14 @@ pub(crate) fn delete_node(
     file: u32,
 ) -> Result<usize, Error>
     ensures same_reference { tx.new.conn.ghost_name ≡ tx.old.conn.ghost_name }
-    ensures ok { (rows : Rows) → AreApart rows → Steps (state over_trees tx.old.conn.now) (state over_trees tx.new.conn.now) result rows (without_node profile file rows) }
-    ensures err { (rows : Rows) → Saves (state over_trees tx.old.conn.now) (state over_trees tx.new.conn.now) result rows }
+    ensures ok { (rows : Rows) → AreApart rows
+        → Steps (state over_trees tx.old.conn.now) (state over_trees tx.new.conn.now) result rows
+        (without_node profile file rows) }
+    ensures err { (rows : Rows)
+        → Saves (state over_trees tx.old.conn.now) (state over_trees tx.new.conn.now) result rows }
     ensures limit { tx.new.conn.now.step_limit ≡ tx.old.conn.now.step_limit }
-    ensures failure { (rows : Rows) → HasKeys rows → HasKeys (without_node profile file rows) → FailsForMemory (state over_trees tx.old.conn.now) (state over_trees tx.new.conn.now) result rows }
+    ensures failure { (rows : Rows) → HasKeys rows → HasKeys (without_node profile file rows)
+        → FailsForMemory (state over_trees tx.old.conn.now) (state over_trees tx.new.conn.now) result rows }
 {
     tx.execute(REMOVE_NODE, params![profile, file])
 }

@@ -4,7 +4,7 @@ ghost use Rattle.std.specs.Prelude.{◌≡◌, ◌<◌, ◌^◌, List, ℕ, IfOk
 ghost use Rattle.std.specs.List.{AllByRecursion};
 ghost use Rattle.sqlite.specs.Order.{column};
 ghost use Rattle.sqlite.specs.declared.types.Value.TheVariants.{Int, Blob as BlobValue};
-ghost use Rattle.droid_frame.specs.types.method.Method.{Method as MethodValue};
+ghost use Rattle.droid_frame.specs.declared.method.Method.{Method as MethodValue};
 ghost use Rattle.droid_store.specs.declared.rows.Entry.{Entry as EntryValue};
 ghost use Rattle.droid_store.specs.declared.rows.NodeState.{NodeState as NodeStateValue};
 ghost use Rattle.droid_store.specs.declared.rows.ProfileRow.{ProfileRow as ProfileRowValue};
@@ -26,7 +26,8 @@ use std::alloc::Global;
 
 pub(crate) fn profile_of(row: &Row) -> Result<ProfileRow, StoreFault>
     ensures read { IfOk result (λ read. (p : ProfileRowValue) → row.now ≡ shown_profile p → read ≡ p) }
-    ensures memory { (p : ProfileRowValue) → row.now ≡ shown_profile p → ProfileFits p → IfErr result (λ fault. fault ≡ Memory) }
+    ensures memory { (p : ProfileRowValue) → row.now ≡ shown_profile p → ProfileFits p
+        → IfErr result (λ fault. fault ≡ Memory) }
 {
     let scan_limit = row.get(0)?;
     let match_all = row.get(1)?;
@@ -54,7 +55,8 @@ fn hash_kind_in(row: &Row) -> Result<HashKind, StoreFault>
 /// Reads a digest of 16 bytes from this column.
 fn digest_in(row: &Row, at: usize) -> Result<[u8; 16], StoreFault>
     ensures read { IfOk result (λ read. (bytes : List ℕ) → column row.now at ≡ BlobValue bytes → read ≡ bytes) }
-    ensures memory { (bytes : List ℕ) → at < length row.now → column row.now at ≡ BlobValue bytes → length bytes ≡ 16 → IfErr result (λ fault. fault ≡ Memory) }
+    ensures memory { (bytes : List ℕ) → at < length row.now → column row.now at ≡ BlobValue bytes → length bytes ≡ 16
+        → IfErr result (λ fault. fault ≡ Memory) }
 {
     let bytes: Vec<u8> = row.get(at)?;
     match <[u8; 16]>::try_from(bytes.as_slice()) {
@@ -66,7 +68,8 @@ fn digest_in(row: &Row, at: usize) -> Result<[u8; 16], StoreFault>
 /// Reads a hash from this column.
 fn hash_in(row: &Row, at: usize) -> Result<HashValue, StoreFault>
     ensures read { IfOk result (λ read. (bytes : List ℕ) → column row.now at ≡ BlobValue bytes → read ≡ hash_of bytes) }
-    ensures memory { (bytes : List ℕ) → at < length row.now → column row.now at ≡ BlobValue bytes → IsTrue (is_hash_length (length bytes)) → IfErr result (λ fault. fault ≡ Memory) }
+    ensures memory { (bytes : List ℕ) → at < length row.now → column row.now at ≡ BlobValue bytes
+        → IsTrue (is_hash_length (length bytes)) → IfErr result (λ fault. fault ≡ Memory) }
 {
     let bytes: Vec<u8> = row.get(at)?;
     match hash_of(bytes.as_slice()) {
@@ -77,7 +80,8 @@ fn hash_in(row: &Row, at: usize) -> Result<HashValue, StoreFault>
 
 /// Converts the row of a reply, which is kept under this client and number.
 pub(crate) fn entry_of(row: &Row, client: u32, number: u64) -> Result<Entry, StoreFault>
-    ensures read { IfOk result (λ read. (e : EntryValue) → e.client ≡ client → e.number ≡ number → row.now ≡ shown_reply e → read ≡ e) }
+    ensures read { IfOk result (λ read.
+        (e : EntryValue) → e.client ≡ client → e.number ≡ number → row.now ≡ shown_reply e → read ≡ e) }
     ensures memory { (e : EntryValue) → row.now ≡ shown_reply e → EntryFits e → IfErr result (λ fault. fault ≡ Memory) }
 {
     let version = byte_in(row, 0)?;
@@ -98,7 +102,8 @@ pub(crate) fn entry_of(row: &Row, client: u32, number: u64) -> Result<Entry, Sto
 /// Reads a byte from this column.
 fn byte_in(row: &Row, at: usize) -> Result<u8, StoreFault>
     ensures read { IfOk result (λ read. (n : ℕ) → column row.now at ≡ Int (pos n) → read ≡ n) }
-    ensures memory { (n : ℕ) → at < length row.now → column row.now at ≡ Int (pos n) → n < 2 ^ 8 → IfErr result (λ fault. fault ≡ Memory) }
+    ensures memory { (n : ℕ) → at < length row.now → column row.now at ≡ Int (pos n) → n < 2 ^ 8
+        → IfErr result (λ fault. fault ≡ Memory) }
 {
     let number: u32 = row.get(at)?;
     match u8::try_from(number) {
@@ -119,7 +124,17 @@ struct Head {
 }
 
 fn head_of(row: &Row) -> Result<Head, StoreFault>
-    ensures read { IfOk result (λ read. (n : Node) → row.now ≡ shown_node n → read ≡ record { id = n.id; parent = n.parent; modified = n.modified; state = n.state; size = n.size; piece_size = n.piece_size }) }
+    ensures read { IfOk result (λ read.
+        (n : Node) → row.now ≡ shown_node n
+        → read
+        ≡ record {
+          id = n.id;
+          parent = n.parent;
+          modified = n.modified;
+          state = n.state;
+          size = n.size;
+          piece_size = n.piece_size;
+        }) }
     ensures memory { (n : Node) → row.now ≡ shown_node n → NodeFits n → IfErr result (λ fault. fault ≡ Memory) }
 {
     let id = row.get(0)?;
@@ -148,7 +163,9 @@ struct Findings {
 }
 
 fn findings_of(alloc: Global, row: &Row) -> Result<Findings, StoreFault>
-    ensures read { IfOk result (λ read. (n : Node) → AllByRecursion IsWord n.puids → row.now ≡ shown_node n → read ≡ record { method = n.method; mismatch = n.mismatch; hash = hash_of n.hash; puids = n.puids }) }
+    ensures read { IfOk result (λ read.
+        (n : Node) → AllByRecursion IsWord n.puids → row.now ≡ shown_node n
+        → read ≡ record { method = n.method; mismatch = n.mismatch; hash = hash_of n.hash; puids = n.puids }) }
     ensures memory { (n : Node) → row.now ≡ shown_node n → NodeFits n → IfErr result (λ fault. fault ≡ Memory) }
 {
     let method = method_in(row)?;
@@ -175,7 +192,8 @@ fn kind_of(state: NodeState) -> NodeKind
 }
 
 pub(crate) fn node_of(alloc: Global, row: &Row) -> Result<NodeRow, StoreFault>
-    ensures read { IfOk result (λ read. (n : Node) → AllByRecursion IsWord n.puids → row.now ≡ shown_node n → read ≡ row_of n) }
+    ensures read { IfOk result (λ read.
+        (n : Node) → AllByRecursion IsWord n.puids → row.now ≡ shown_node n → read ≡ row_of n) }
     ensures memory { (n : Node) → row.now ≡ shown_node n → NodeFits n → IfErr result (λ fault. fault ≡ Memory) }
 {
     let head = head_of(row)?;
@@ -249,7 +267,8 @@ fn method_of(number: u32) -> Option<Method>
 
 /// Converts the row of a node to its record.
 pub(crate) fn record_in(alloc: Global, row: &Row) -> Result<Record, StoreFault>
-    ensures read { IfOk result (λ read. (n : Node) → AllByRecursion IsWord n.puids → row.now ≡ shown_node n → read ≡ record_of n) }
+    ensures read { IfOk result (λ read.
+        (n : Node) → AllByRecursion IsWord n.puids → row.now ≡ shown_node n → read ≡ record_of n) }
     ensures memory { (n : Node) → row.now ≡ shown_node n → NodeFits n → IfErr result (λ fault. fault ≡ Memory) }
 {
     let NodeRow {

@@ -3,8 +3,8 @@
 ghost use Rattle.std.specs.Prelude.{◌≡◌, None, OnOk, IfOk, IfErr, [], ◌∷◌};
 ghost use Rattle.sqlite.specs.Held.{state};
 ghost use Rattle.droid_store_trees.specs.Over.{over_trees};
-ghost use Rattle.droid_store_sql.specs.Transactions.{Settled};
-ghost use Rattle.droid_store_sql.specs.MemoryFaults.{IsOutOfMemory};
+ghost use Rattle.droid_store.specs.Transactions.{Settled};
+ghost use Rattle.droid_store.specs.MemoryFaults.{IsOutOfMemory};
 ghost use Rattle.droid_store.specs.Kept.{Holds, HasEmpty};
 ghost use Rattle.droid_store.specs.Rows.{no_rows};
 ghost use Rattle.droid_store.specs.Tables.{no_schema, first_schema, second_schema};

@@ -1,19 +1,25 @@
 //! All SQL statements of the store.
 
 pub(crate) const MAKE_PROFILES: &str =
-    "CREATE TABLE profiles (id INTEGER PRIMARY KEY, scan_limit INTEGER NOT NULL, match_all INTEGER NOT NULL, nodes INTEGER NOT NULL, hash INTEGER NOT NULL) STRICT";
+    "CREATE TABLE profiles (id INTEGER PRIMARY KEY, scan_limit INTEGER NOT NULL, match_all INTEGER NOT NULL, nodes \
+    INTEGER NOT NULL, hash INTEGER NOT NULL) STRICT";
 
 pub(crate) const MAKE_NODES: &str =
-    "CREATE TABLE nodes (profile INTEGER NOT NULL, id INTEGER NOT NULL, parent INTEGER NOT NULL, modified INTEGER NOT NULL, state INTEGER NOT NULL, size INTEGER NOT NULL, piece_size INTEGER NOT NULL, method INTEGER NOT NULL, mismatch INTEGER NOT NULL, name TEXT NOT NULL, path TEXT NOT NULL, formats TEXT NOT NULL, hash BLOB NOT NULL, PRIMARY KEY (profile, id), UNIQUE (profile, parent, name)) STRICT";
+    "CREATE TABLE nodes (profile INTEGER NOT NULL, id INTEGER NOT NULL, parent INTEGER NOT NULL, modified INTEGER NOT \
+    NULL, state INTEGER NOT NULL, size INTEGER NOT NULL, piece_size INTEGER NOT NULL, method INTEGER NOT NULL, \
+    mismatch INTEGER NOT NULL, name TEXT NOT NULL, path TEXT NOT NULL, formats TEXT NOT NULL, hash BLOB NOT NULL, \
+    PRIMARY KEY (profile, id), UNIQUE (profile, parent, name)) STRICT";
 
 pub(crate) const MAKE_REPLIES: &str =
-    "CREATE TABLE replies (seq INTEGER PRIMARY KEY, client INTEGER NOT NULL, number INTEGER NOT NULL, version INTEGER NOT NULL, kind INTEGER NOT NULL, mark BLOB NOT NULL, body BLOB NOT NULL, UNIQUE (client, number)) STRICT";
+    "CREATE TABLE replies (seq INTEGER PRIMARY KEY, client INTEGER NOT NULL, number INTEGER NOT NULL, version INTEGER \
+    NOT NULL, kind INTEGER NOT NULL, mark BLOB NOT NULL, body BLOB NOT NULL, UNIQUE (client, number)) STRICT";
 
 pub(crate) const ADD_PROFILE: &str =
     "INSERT INTO profiles (id, scan_limit, match_all, nodes, hash) VALUES (?1, ?2, ?3, 0, ?4)";
 
 pub(crate) const ADD_NODE: &str =
-    "INSERT INTO nodes (profile, id, parent, modified, state, size, piece_size, method, mismatch, name, path, formats, hash) VALUES (?1, ?2, ?3, ?4, ?5, ?6, ?7, 0, 0, ?8, ?9, '', x'')";
+    "INSERT INTO nodes (profile, id, parent, modified, state, size, piece_size, method, mismatch, name, path, formats, \
+    hash) VALUES (?1, ?2, ?3, ?4, ?5, ?6, ?7, 0, 0, ?8, ?9, '', x'')";
 
 pub(crate) const COUNT_NODES: &str = "UPDATE profiles SET nodes = ?2 WHERE id = ?1";
 
@@ -29,7 +35,8 @@ pub(crate) const FIND_PROFILE: &str =
     "SELECT scan_limit, match_all, nodes, hash FROM profiles WHERE id = ?1";
 
 pub(crate) const FIND_NODE: &str =
-    "SELECT id, parent, modified, state, size, piece_size, method, mismatch, name, path, formats, hash FROM nodes WHERE profile = ?1 AND id = ?2";
+    "SELECT id, parent, modified, state, size, piece_size, method, mismatch, name, path, formats, hash FROM nodes \
+    WHERE profile = ?1 AND id = ?2";
 
 pub(crate) const FIND_CHILD: &str =
     "SELECT id FROM nodes WHERE profile = ?1 AND parent = ?2 AND name = ?3";
@@ -38,4 +45,5 @@ pub(crate) const FIND_REPLY: &str =
     "SELECT version, kind, mark, body FROM replies WHERE client = ?1 AND number = ?2";
 
 pub(crate) const LIST_RECORDS: &str =
-    "SELECT id, parent, modified, state, size, piece_size, method, mismatch, name, path, formats, hash FROM nodes WHERE profile = ?1 AND state <> 1 ORDER BY id";
+    "SELECT id, parent, modified, state, size, piece_size, method, mismatch, name, path, formats, hash FROM nodes \
+    WHERE profile = ?1 AND state <> 1 ORDER BY id";

@@ -39,7 +39,7 @@ impl Model for Store {
     ghost use Rattle.std.specs.Prelude.{◌≡◌, None};
     ghost use Rattle.sqlite.specs.Held.{state};
     ghost use Rattle.droid_store_trees.specs.Over.{over_trees};
-    ghost use Rattle.droid_store_sql.specs.Transactions.{Settled};
+    ghost use Rattle.droid_store.specs.Transactions.{Settled};
     ghost use Rattle.droid_store.specs.Kept.{kept, Holds, AreApart};
     ghost use Rattle.droid_store.specs.Ranges.{AreReadable};
     ghost use Rattle.droid_store.specs.Rows.{Rows, counts_of};
@@ -48,7 +48,9 @@ impl Model for Store {
 
     ghost view = { λ s. kept s.conn };
 
-    ghost invariant = { λ s. Settled (state over_trees s.conn) (Holds (kept s.conn)) × AreApart (kept s.conn) × (s.counts ≡ counts_of (kept s.conn)) × (s.conn.step_limit ≡ None) × AreReadable (kept s.conn) };
+    ghost invariant = { λ s.
+        Settled (state over_trees s.conn) (Holds (kept s.conn)) × AreApart (kept s.conn)
+        × (s.counts ≡ counts_of (kept s.conn)) × (s.conn.step_limit ≡ None) × AreReadable (kept s.conn) };
 }
 
 impl Store {

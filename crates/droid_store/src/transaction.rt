@@ -3,8 +3,8 @@
 ghost use Rattle.std.specs.Prelude.{◌≡◌, ◌<◌, ◌^◌, None, OnOk, OnErr, IfErr};
 ghost use Rattle.sqlite.specs.Held.{state};
 ghost use Rattle.droid_store_trees.specs.Over.{over_trees};
-ghost use Rattle.droid_store_sql.specs.Transactions.{Settled};
-ghost use Rattle.droid_store_sql.specs.MemoryFaults.{IsOutOfMemory};
+ghost use Rattle.droid_store.specs.Transactions.{Settled};
+ghost use Rattle.droid_store.specs.MemoryFaults.{IsOutOfMemory};
 ghost use Rattle.droid_store.specs.Changes.{with_reply};
 ghost use Rattle.droid_store.specs.CommandChanges.{changed, IsInTurn, IsWritable, WritesARow, Applies};
 ghost use Rattle.droid_store.specs.Kept.{kept, Holds, AreApart, HasKeys};
@@ -28,11 +28,14 @@ pub(crate) fn write(
     requires small { entry.now.number < 2 ^ 63 }
     requires writable { IsWritable change.now }
     requires turn { IsInTurn change.now (kept conn.old) }
-    ensures ok { OnOk result (Settled (state over_trees conn.new) (Holds (with_reply entry.now (changed change.now (kept conn.old))))) }
+    ensures ok { OnOk result
+        (Settled (state over_trees conn.new) (Holds (with_reply entry.now (changed change.now (kept conn.old))))) }
     ensures err { OnErr result (Settled (state over_trees conn.new) (Holds (kept conn.old))) }
     ensures limit { conn.new.step_limit ≡ conn.old.step_limit }
     ensures fits { OnOk result (EntryFits entry.now) }
-    ensures failure { HasKeys (changed change.now (kept conn.old)) → HasKeys (with_reply entry.now (changed change.now (kept conn.old))) → FitsARow (entry_size entry.now) → WritesARow change.now (kept conn.old) → conn.old.step_limit ≡ None → IfErr result IsOutOfMemory }
+    ensures failure { HasKeys (changed change.now (kept conn.old))
+        → HasKeys (with_reply entry.now (changed change.now (kept conn.old))) → FitsARow (entry_size entry.now)
+        → WritesARow change.now (kept conn.old) → conn.old.step_limit ≡ None → IfErr result IsOutOfMemory }
 {
     let mut tx = conn.transaction();
     apply(&mut tx, change)?;

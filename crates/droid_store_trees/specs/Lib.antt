@@ -1,5 +1,7 @@
 pub mod Alike
 pub mod Edits
-pub mod Shown
+pub mod Entries
 pub mod Laws
 pub mod Over
+pub mod Probe
+pub mod Shown

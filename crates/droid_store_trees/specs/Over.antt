@@ -5,4 +5,13 @@ use Rattle.droid_store_trees.specs.declared.storage.TreeStore.{TreeStore}
 use Rattle.droid_store_trees.specs.Shown.{view}
 
 abbrev pub over_trees : Ghosts TreeStore
-over_trees = record { view = view; faults = λ _. 0; recovers = λ s db. db ≡ (view s).committed; is_shielded = λ _. Unit {0}; is_step = λ _ _ _. Unit {0}; blamed = λ _. None; names = λ _ _ _. Unit {0} }
+over_trees = record {
+  view = view;
+  faults = λ _. 0;
+  recovers = λ s db. db ≡ (view s).committed;
+  is_shielded = λ _.
+      Unit {0};
+  is_step = λ _ _ _. Unit {0};
+  blamed = λ _. None;
+  names = λ _ _ _. Unit {0};
+}

@@ -1,5 +1,6 @@
 -- What the trees of a store show.
-use Rattle.std.specs.Prelude.{◌≡◌, ℕ, ◌==◌, if◌then◌else◌, true, false, List, [], ◌∷◌, map, take, drop, reverse, slice_index_or, Option, Some, None, option_map}
+use Rattle.std.specs.Prelude.{◌≡◌, ℕ, ◌==◌, if◌then◌else◌, true, false, List, [], ◌∷◌, map, take, drop, reverse}
+use Rattle.std.specs.Prelude.{slice_index_or, Option, Some, None, option_map}
 use Rattle.sqlite_value.specs.Order.{Row}
 use Rattle.sqlite_trees.specs.declared.store.Shape.{Shape}
 use Rattle.sqlite_trees.specs.Tree.{Trees}
@@ -44,7 +45,8 @@ Steps f cursor row None = left_of f cursor ≡ []
 Steps f cursor row (Some moved) = left_of f cursor ≡ row ∷ left_of f moved
 
 abbrev pub SetsCursor : List (Option Cursor) → List (Option Cursor) → ℕ → Cursor → Type 0
-SetsCursor old new at cursor = (c : ℕ) → slice_index_or new c None ≡ (if c == at then Some cursor else slice_index_or old c None)
+SetsCursor old new at cursor =
+    (c : ℕ) → slice_index_or new c None ≡ (if c == at then Some cursor else slice_index_or old c None)
 
 abbrev pub changed_or : Option Forest → Forest → Forest
 changed_or None base = base

@@ -5,8 +5,8 @@ ghost use Rattle.sqlite_trees.specs.Tree.{order_of, sought, with_tree};
 
 use crate::cursor::Cursor;
 use crate::edit::Edit;
+use crate::probe::Probe;
 use crate::tree::Tree;
-use droid_store_entries::Probe;
 use sqlite_trees::schema::Object;
 use sqlite_trees::store::{Direction, Shape};
 use sqlite_value::row::Row;
@@ -54,7 +54,8 @@ impl Forest {
     }
 
     pub(crate) fn placed(&self, tree: usize, key: &Row, direction: Direction) -> Cursor
-        ensures { left_of self.now result ≡ sought (order_of (shape_of self.now tree)) direction key.now (rows_of self.now tree) }
+        ensures { left_of self.now result
+            ≡ sought (order_of (shape_of self.now tree)) direction key.now (rows_of self.now tree) }
     {
         let Some(found) = self.trees.get(tree) else {
             return Cursor {
@@ -120,7 +121,8 @@ impl Forest {
         requires { Fits edit (shape_of self.old tree) }
         ensures headings { headings self.new ≡ headings self.old }
         ensures version { self.new.version ≡ self.old.version }
-        ensures ok { OnOk result (rows_of self.new ≡ with_tree (rows_of self.old) tree (edited edit.entry (rows_of self.old tree))) }
+        ensures ok { OnOk result
+            (rows_of self.new ≡ with_tree (rows_of self.old) tree (edited edit.entry (rows_of self.old tree))) }
         ensures err { OnErr result (rows_of self.new ≡ rows_of self.old) }
     {
         self.trees[tree as usize].apply(alloc, edit)

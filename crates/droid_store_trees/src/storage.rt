@@ -64,7 +64,8 @@ impl TreeStore {
     fn take_changed(&mut self) -> Result<Forest, AllocError>
         ensures ok { IfOk result (AreAlike (current self.old)) }
         ensures err { OnErr result (self.new ≡ self.old) }
-        ensures rest { (self.new.base ≡ self.old.base) × (self.new.marks ≡ self.old.marks) × (self.new.cursors ≡ self.old.cursors) }
+        ensures rest { (self.new.base ≡ self.old.base) × (self.new.marks ≡ self.old.marks)
+            × (self.new.cursors ≡ self.old.cursors) }
     {
         match self.changed.take() {
             Some(forest) => Ok(forest),

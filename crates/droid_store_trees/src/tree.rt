@@ -11,7 +11,9 @@ ghost use Rattle.sqlite_trees.specs.View.{IsShaped, Finds, is_int};
 ghost use Rattle.sqlite_trees.specs.Objects.{description, listing};
 
 use crate::edit::Edit;
-use droid_store_entries::{Entries, PackedRow, Probe};
+use crate::entries::Entries;
+use crate::packed_row::PackedRow;
+use crate::probe::Probe;
 use sqlite_trees::schema::Object;
 use sqlite_trees::store::Shape;
 use sqlite_value::keys::Order;
@@ -99,7 +101,8 @@ impl Tree {
     /// Returns its row in the list of objects.
     pub(crate) fn listing(&self, alloc: Global, tree: usize) -> Result<Row, AllocError>
         requires { tree < 2 ^ 62 }
-        ensures { IfOk result (λ row. row ≡ take 5 (listing tree self.now.described.value self.now.shape self.now.reals)) }
+        ensures { IfOk result (λ row.
+            row ≡ take 5 (listing tree self.now.described.value self.now.shape self.now.reals)) }
     {
         let mut row = Row::new(alloc);
         row.push(ValueRef::Int(tree as i64 + 1))?;

@@ -1,5 +1,6 @@
 -- How much there is in a tree (this project's own).
-use Rattle.std.specs.Prelude.{◌≡◌, ◌⊎◌, ℕ, ◌+◌, ◌<◌, Bool, true, false, List, [], ◌∷◌, ◌++◌, length, map, sum_by, Option, Some, None, IsUtf8}
+use Rattle.std.specs.Prelude.{◌≡◌, ◌⊎◌, ℕ, ◌+◌, ◌<◌, Bool, true, false, List, [], ◌∷◌, ◌++◌, length, map, sum_by}
+use Rattle.std.specs.Prelude.{Option, Some, None, IsUtf8}
 use Rattle.std.specs.List.{flat_map, count_by, AllByRecursion}
 use Rattle.droid_tree.specs.Observation.{Observation, GoesOver}
 use Rattle.droid_tree.specs.Listings.{AreInOrder, AreRepeated, AreThose, observed_of_folder}
@@ -86,7 +87,8 @@ repeated_in folders = sum_by (λ folder. length folder.repeated) folders
 
 -- The top was listed, and then each folder that was found, once, in the order of a walk. The numbers are those of what
 -- was listed: folders, files, their bytes, skipped entries, and unreadable folders.
-pub record CountsTree {T : Type 0} (observes : T → Observation → T → Type 0) (counted : Counted) (tree tree_after : T) : Type 0 where
+pub record CountsTree {T : Type 0} (observes : T → Observation → T → Type 0) (counted : Counted) (tree tree_after : T)
+    : Type 0 where
   pub listings : List CountedFolder
   pub are : AllByRecursion IsCounted listings
   pub observed : GoesOver observes tree (map observed_of_counted listings) tree_after
@@ -94,11 +96,13 @@ pub record CountsTree {T : Type 0} (observes : T → Observation → T → Type 
   pub folders : counted.folders ≡ count_by is_folder (items_in listings)
   pub files : counted.files ≡ count_by is_file (items_in listings)
   pub bytes : counted.bytes ≡ sum_by bytes_in (items_in listings)
-  pub skipped : counted.skipped ≡ count_by is_no_node (items_in listings) + (repeated_in listings + count_by is_unread listings)
+  pub skipped : counted.skipped
+      ≡ count_by is_no_node (items_in listings) + (repeated_in listings + count_by is_unread listings)
 
 -- Folders were listed, the top first, each once, in the order of a walk, but not yet all that were found. What was
 -- listed has more folders and files than the limit.
-pub record CountsTooMany {T : Type 0} (observes : T → Observation → T → Type 0) (limit : ℕ) (tree tree_after : T) : Type 0 where
+pub record CountsTooMany {T : Type 0} (observes : T → Observation → T → Type 0) (limit : ℕ) (tree tree_after : T)
+    : Type 0 where
   pub listings : List CountedFolder
   pub are : AllByRecursion IsCounted listings
   pub observed : GoesOver observes tree (map observed_of_counted listings) tree_after
@@ -118,21 +122,24 @@ pub record Adds (items : List Item) (before after : Counted) : Type 0 where
   pub bytes : after.bytes ≡ before.bytes + sum_by bytes_in items
   pub skipped : after.skipped ≡ before.skipped + count_by is_no_node items
 
-pub record CountsItem (path : List ℕ) (entry : FolderEntry) (before after : Counted) (waiting waiting_after : List PendingFolder) : Type 0 where
+pub record CountsItem (path : List ℕ) (entry : FolderEntry) (before after : Counted)
+    (waiting waiting_after : List PendingFolder) : Type 0 where
   pub item : Item
   pub its : entry_in item ≡ entry
   pub is_item : IsItem item
   pub adds : Adds (item ∷ []) before after
   pub pending : paths_of waiting_after ≡ paths_of waiting ++ path_of_item path item
 
-pub record CountsItems (path : List ℕ) (entries : List FolderEntry) (before after : Counted) (waiting waiting_after : List PendingFolder) : Type 0 where
+pub record CountsItems (path : List ℕ) (entries : List FolderEntry) (before after : Counted)
+    (waiting waiting_after : List PendingFolder) : Type 0 where
   pub items : List Item
   pub its : map entry_in items ≡ entries
   pub are_items : AllByRecursion IsItem items
   pub adds : Adds items before after
   pub pending : paths_of waiting_after ≡ paths_of waiting ++ flat_map (path_of_item path) items
 
-pub record CountsFolder {T : Type 0} (observes : T → Observation → T → Type 0) (path : List ℕ) (before after : Counted) (tree tree_after : T) (waiting waiting_after : List PendingFolder) : Type 0 where
+pub record CountsFolder {T : Type 0} (observes : T → Observation → T → Type 0) (path : List ℕ) (before after : Counted)
+    (tree tree_after : T) (waiting waiting_after : List PendingFolder) : Type 0 where
   pub listing : CountedFolder
   pub its : listing.path ≡ path
   pub is_listing : IsCounted listing
@@ -140,5 +147,7 @@ pub record CountsFolder {T : Type 0} (observes : T → Observation → T → Typ
   pub folders : after.folders ≡ before.folders + count_by is_folder listing.items
   pub files : after.files ≡ before.files + count_by is_file listing.items
   pub bytes : after.bytes ≡ before.bytes + sum_by bytes_in listing.items
-  pub skipped : after.skipped ≡ before.skipped + (count_by is_no_node listing.items + (length listing.repeated + count_by is_unread (listing ∷ [])))
+  pub skipped : after.skipped
+      ≡ before.skipped
+      + (count_by is_no_node listing.items + (length listing.repeated + count_by is_unread (listing ∷ [])))
   pub pending : paths_of waiting_after ≡ paths_of waiting ++ folders_in listing

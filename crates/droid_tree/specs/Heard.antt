@@ -1,6 +1,6 @@
 -- What a watcher learns during a walk (this project's own).
 use Rattle.std.specs.Prelude.{ℕ, List}
-use Rattle.droid_frame.specs.types.reply.Reply.{Reply}
+use Rattle.droid_frame.specs.declared.reply.Reply.{Reply}
 use Rattle.droid_tree.specs.declared.skip_reason.Skipped.{Skipped}
 
 pub data Heard : Type 0 where

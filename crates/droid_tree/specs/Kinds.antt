@@ -1,5 +1,5 @@
 -- Entries that have no node in a profile, by their type (this project's own).
-use Rattle.droid_frame.specs.types.refusal.Refusal.TheVariants as refusals
+use Rattle.droid_frame.specs.declared.refusal.Refusal.TheVariants as refusals
 use Rattle.droid_tree.specs.declared.folder_entry.EntryKind.{EntryKind}
 use Rattle.droid_tree.specs.declared.folder_entry.EntryKind.TheVariants as kinds
 use Rattle.droid_tree.specs.declared.skip_reason.Skipped.{Skipped}

@@ -9,7 +9,9 @@ use Rattle.droid_tree.specs.declared.folder_entry.FolderEntry.{FolderEntry}
 
 -- the names are in the order of their bytes, and no two are equal
 abbrev pub AreInOrder : List FolderEntry → Type 0
-AreInOrder entries = (k : ℕ) (first second : FolderEntry) → slice_get entries k ≡ Some first → slice_get entries (k + 1) ≡ Some second → IsBefore first.name second.name
+AreInOrder entries =
+    (k : ℕ) (first second : FolderEntry) → slice_get entries k ≡ Some first → slice_get entries (k + 1) ≡ Some second
+    → IsBefore first.name second.name
 
 -- the name of this entry is the name of one of these
 abbrev pub HasNameOf : List FolderEntry → FolderEntry → Type 0
@@ -29,7 +31,8 @@ observed_of_folder path None = Unlisted path
 observed_of_folder path (Some observed) = Listed path observed
 
 -- the tree returned the entries of a folder, which are sorted by name: one of each name, and the repeated ones
-pub record ListsInOrder {T : Type 0} (observes : T → Observation → T → Type 0) (path : List ℕ) (entries repeated : List FolderEntry) (tree tree_after : T) : Type 0 where
+pub record ListsInOrder {T : Type 0} (observes : T → Observation → T → Type 0) (path : List ℕ)
+    (entries repeated : List FolderEntry) (tree tree_after : T) : Type 0 where
   pub listed : List FolderEntry
   pub observed : observes tree (Listed path listed) tree_after
   pub same : IsPermutation listed (entries ++ repeated)

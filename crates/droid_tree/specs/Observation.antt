@@ -16,12 +16,13 @@ pub data Observation : Type 0 where
   Read : (path : List ℕ) (entry : FolderEntry) (from wanted : ℕ) (bytes : List ℕ) → Observation
   -- `wanted` bytes of the file were asked for from offset `from`, and could not be read
   Unread : (path : List ℕ) (entry : FolderEntry) (from wanted : ℕ) → Observation
-  -- `wanted` bytes of the file were asked for from offset `from`, and it was not as its folder lists it: another file was
-  -- at its path, or it was changed since
+  -- `wanted` bytes of the file were asked for from offset `from`, and it was not as its folder lists it: another file
+  -- was at its path, or it was changed since
   Exchanged : (path : List ℕ) (entry : FolderEntry) (from wanted : ℕ) → Observation
 
 -- the tree returned bytes of a file, and they were appended to the buffer
-pub record BytesCame {T : Type 0} (observes : T → Observation → T → Type 0) (tree : T) (path : List ℕ) (entry : FolderEntry) (from wanted : ℕ) (before after : List ℕ) (tree_after : T) : Type 0 where
+pub record BytesCame {T : Type 0} (observes : T → Observation → T → Type 0) (tree : T) (path : List ℕ)
+    (entry : FolderEntry) (from wanted : ℕ) (before after : List ℕ) (tree_after : T) : Type 0 where
   pub bytes : List ℕ
   pub added : after ≡ before ++ bytes
   pub within : length bytes ≤ wanted
@@ -30,4 +31,5 @@ pub record BytesCame {T : Type 0} (observes : T → Observation → T → Type 0
 -- a list of steps, each from the state that the step before left
 abbrev pub GoesOver : {S A : Type 0} → (S → A → S → Type 0) → S → List A → S → Type 0
 GoesOver {S} {A} step first [] last = last ≡ first
-GoesOver {S} {A} step first (item ∷ items) last = (middle : S) × step first item middle × GoesOver step middle items last
+GoesOver {S} {A} step first (item ∷ items) last =
+    (middle : S) × step first item middle × GoesOver step middle items last

@@ -22,7 +22,8 @@ reason_of (FewerCame wanted bytes) = reasons.Changed
 reason_of (MoreCame bytes) = reasons.Changed
 reason_of (OtherFile wanted) = reasons.Changed
 
--- the next read fails, or returns too few bytes, or returns bytes behind the file's end, or finds it not as its folder lists it
+-- the next read fails, or returns too few bytes, or returns bytes behind the file's end, or finds it not as its folder
+-- lists it
 abbrev pub observed_of_stop : List ℕ → FolderEntry → ℕ → Stop → Observation
 observed_of_stop path entry from (NoneCame wanted) = Unread path entry from wanted
 observed_of_stop path entry from (FewerCame wanted bytes) = Read path entry from wanted bytes
@@ -35,12 +36,14 @@ begin_of piece_size size index = min (index * piece_size) size
 
 -- the next read asks for a piece; or for one byte, to see that the file has ended
 abbrev pub IsRequested : ℕ → ℕ → ℕ → ℕ → Type 0
-IsRequested piece_size size from wanted = ((from < size) × (wanted ≡ min piece_size (size - from))) ⊎ ((from ≡ size) × (wanted ≡ 1))
+IsRequested piece_size size from wanted =
+    ((from < size) × (wanted ≡ min piece_size (size - from))) ⊎ ((from ≡ size) × (wanted ≡ 1))
 
 -- the reading may end at this offset in this way
 abbrev pub IsStop : ℕ → ℕ → ℕ → Stop → Type 0
 IsStop piece_size size from (NoneCame wanted) = IsRequested piece_size size from wanted
-IsStop piece_size size from (FewerCame wanted bytes) = (from < size) × (wanted ≡ min piece_size (size - from)) × (length bytes < wanted)
+IsStop piece_size size from (FewerCame wanted bytes) =
+    (from < size) × (wanted ≡ min piece_size (size - from)) × (length bytes < wanted)
 IsStop piece_size size from (MoreCame bytes) = (from ≡ size) × (0 < length bytes)
 IsStop piece_size size from (OtherFile wanted) = IsRequested piece_size size from wanted
 
@@ -59,14 +62,16 @@ IsPastEnd (MoreCame bytes) = 0 < length bytes
 IsPastEnd (OtherFile n) = n ≡ 1
 
 -- `wanted` bytes were read from offset `from` and appended to the buffer
-pub record ReadsPiece {T : Type 0} (observes : T → Observation → T → Type 0) (path : List ℕ) (entry : FolderEntry) (from wanted : ℕ) (before after : List ℕ) (tree tree_after : T) : Type 0 where
+pub record ReadsPiece {T : Type 0} (observes : T → Observation → T → Type 0) (path : List ℕ) (entry : FolderEntry)
+    (from wanted : ℕ) (before after : List ℕ) (tree tree_after : T) : Type 0 where
   pub bytes : List ℕ
   pub counted : length bytes ≡ wanted
   pub added : after ≡ before ++ bytes
   pub observed : observes tree (Read path entry from wanted bytes) tree_after
 
 -- the reading of a file ended early at this offset, for this reason
-pub record StopsAt {T : Type 0} (observes : T → Observation → T → Type 0) (IsSuch : Stop → Type 0) (path : List ℕ) (entry : FolderEntry) (from : ℕ) (why : Skipped) (tree tree_after : T) : Type 0 where
+pub record StopsAt {T : Type 0} (observes : T → Observation → T → Type 0) (IsSuch : Stop → Type 0) (path : List ℕ)
+    (entry : FolderEntry) (from : ℕ) (why : Skipped) (tree tree_after : T) : Type 0 where
   pub stop : Stop
   pub such : IsSuch stop
   pub reason : why ≡ reason_of stop

@@ -25,15 +25,9 @@ pub enum WalkFault {
     /// Out of memory, here or in the service.
     #[error("out of memory")]
     Memory,
-    /// The service sent no reply.
-    #[error("no reply came")]
-    Exchange,
     /// The service sent a reply that does not fit the request.
     #[error("a reply was not to the request")]
     Reply,
-    /// A request is too long for a frame.
-    #[error("a request is too long")]
-    TooLong,
     /// There are more folders than a profile can have.
     #[error("there are too many folders")]
     Folders,

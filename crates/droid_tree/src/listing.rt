@@ -47,7 +47,8 @@ pub fn read_folder<T: Tree>(
 
 /// Returns the name as text, if it is valid UTF-8.
 pub fn name_of(entry: &FolderEntry) -> Option<&str>
-    ensures { MatchOption result (¬ (IsUtf8 entry.now.name)) (λ text. (text.now ≡ entry.now.name) × IsUtf8 entry.now.name) }
+    ensures { MatchOption result (¬ (IsUtf8 entry.now.name)) (λ text.
+        (text.now ≡ entry.now.name) × IsUtf8 entry.now.name) }
 {
     match std::str::from_utf8(entry.name.as_slice()) {
         Ok(text) => Some(text),

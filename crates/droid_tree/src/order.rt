@@ -1,6 +1,7 @@
 //! Sorts a folder's entries by name.
 
-ghost use Rattle.std.specs.Prelude.{◌≡◌, ◌↔◌, ◌-◌, ◌++◌, [], ◌∷◌, List, Some, false, IfOk, IsTrue, OnOk, length, slice_get};
+ghost use Rattle.std.specs.Prelude.{◌≡◌, ◌↔◌, ◌-◌, ◌++◌, [], ◌∷◌, List, Some, false, IfOk, IsTrue, OnOk, length};
+ghost use Rattle.std.specs.Prelude.{slice_get};
 ghost use Rattle.droid_tree.specs.Listings.{AreSorted, IsBeforeNone, Splits};
 ghost use Rattle.droid_tree.specs.Order.{IsBefore};
 ghost use Rattle.droid_tree.specs.declared.folder_entry.FolderEntry.{FolderEntry};
@@ -38,8 +39,9 @@ fn split(alloc: Global, sorted: Vec<FolderEntry>) -> Result<Listing, AllocError>
 
 /// Appends the next of sorted entries: to the repeated ones if the last entry has its name.
 fn put(listing: &mut Listing, entry: FolderEntry) -> Result<(), AllocError>
-    ensures { OnOk result ((all : List FolderEntry) → Splits all listing.old.entries.items listing.old.repeated.items → IsBeforeNone all entry →
-        Splits (all ++ entry ∷ []) listing.new.entries.items listing.new.repeated.items) }
+    ensures { OnOk result ((all : List FolderEntry) → Splits all listing.old.entries.items listing.old.repeated.items
+        → IsBeforeNone all entry
+        → Splits (all ++ entry ∷ []) listing.new.entries.items listing.new.repeated.items) }
 {
     if comes_next(listing.entries.as_slice(), &entry) {
         listing.entries.push(entry)?;
@@ -51,8 +53,11 @@ fn put(listing: &mut Listing, entry: FolderEntry) -> Result<(), AllocError>
 
 /// Returns whether the name of the last entry comes before this one's, or there is no entry.
 fn comes_next(entries: &[FolderEntry], entry: &FolderEntry) -> bool
-    ensures next { IsTrue result → (last : FolderEntry) → slice_get entries.now (length entries.now - 1) ≡ Some last → IsBefore last.name entry.now.name }
-    ensures repeated { result ≡ false → (last : FolderEntry) × (slice_get entries.now (length entries.now - 1) ≡ Some last) × ¬ (IsBefore last.name entry.now.name) }
+    ensures next { IsTrue result → (last : FolderEntry) → slice_get entries.now (length entries.now - 1) ≡ Some last
+        → IsBefore last.name entry.now.name }
+    ensures repeated { result ≡ false
+        → (last : FolderEntry) × (slice_get entries.now (length entries.now - 1) ≡ Some last)
+        × ¬ (IsBefore last.name entry.now.name) }
 {
     match entries.last() {
         Some(last) => is_before(last, entry),

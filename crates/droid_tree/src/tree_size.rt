@@ -60,7 +60,8 @@ fn count_folder<T: Tree>(
     before: Counted,
     pending: &mut VecDeque<PendingFolder>,
 ) -> Result<Counted, WalkFault>
-    ensures counted { IfOk result (λ after. CountsFolder T.observes folder.now.path before after tree.old tree.new pending.old.items pending.new.items) }
+    ensures counted { IfOk result (λ after.
+        CountsFolder T.observes folder.now.path before after tree.old tree.new pending.old.items pending.new.items) }
     ensures other { IfErr result (λ fault. fault ≢ Entries) }
 {
     match read_folder(alloc, tree, folder.path.as_str())? {
@@ -86,7 +87,8 @@ fn count_entries(
     before: Counted,
     pending: &mut VecDeque<PendingFolder>,
 ) -> Result<Counted, WalkFault>
-    ensures counted { IfOk result (λ after. CountsItems folder.now.path entries.now before after pending.old.items pending.new.items) }
+    ensures counted { IfOk result (λ after.
+        CountsItems folder.now.path entries.now before after pending.old.items pending.new.items) }
     ensures other { IfErr result (λ fault. fault ≢ Entries) }
 {
     let mut counted = before;
@@ -104,7 +106,8 @@ fn count_entry(
     before: Counted,
     pending: &mut VecDeque<PendingFolder>,
 ) -> Result<Counted, WalkFault>
-    ensures counted { IfOk result (λ after. CountsItem folder.now.path entry.now before after pending.old.items pending.new.items) }
+    ensures counted { IfOk result (λ after.
+        CountsItem folder.now.path entry.now before after pending.old.items pending.new.items) }
     ensures other { IfErr result (λ fault. fault ≢ Entries) }
 {
     let Some(name) = name_of(entry) else {
@@ -152,7 +155,8 @@ fn one_folder(before: Counted) -> Result<Counted, WalkFault>
 
 /// Counts one more file of this length.
 fn one_file(before: Counted, len: u64) -> Result<Counted, WalkFault>
-    ensures counted { IfOk result (λ after. after ≡ record before { files = before.files + 1; bytes = before.bytes + len }) }
+    ensures counted { IfOk result (λ after.
+        after ≡ record before { files = before.files + 1; bytes = before.bytes + len }) }
     ensures other { IfErr result (λ fault. fault ≢ Entries) }
 {
     Ok(Counted {

@@ -5,14 +5,14 @@ use Rattle.std.specs.List.{Contains, slice_get}
 use Rattle.std.proofs.lemmas.Bool.Decides.{eqb_tells}
 use Rattle.std.proofs.lemmas.List.{length-append, length-set}
 use Rattle.std.proofs.lemmas.List.Elements.{Contains-push_cases}
-use Rattle.droid_frame.specs.types.frame.Frame.{Frame}
-use Rattle.droid_frame.specs.types.reply.Reply.{Reply}
-use Rattle.droid_frame.specs.types.request.Request.{Request}
-use Rattle.droid_wire_client.specs.declared.slot.Slot.{Slot}
-use Rattle.droid_wire_client.specs.Cores.{Core, core_hearing, core_submitting, new_core, new_slot, next_frame, next_number, slot_at, slot_hearing, slots_hearing}
+use Rattle.droid_frame.specs.declared.frame.Frame.{Frame}
+use Rattle.droid_frame.specs.declared.reply.Reply.{Reply}
+use Rattle.droid_frame.specs.declared.request.Request.{Request}
+use Rattle.droid_client.specs.declared.slot.Slot.{Slot}
+use Rattle.droid_client.specs.Cores.{Core, core_hearing, core_submitting, new_core, new_slot, next_frame, next_number, slot_at, slot_hearing, slots_hearing}
 use Rattle.droid_wire.specs.Desks.{Desk}
 use Rattle.droid_wire.specs.Schedules.{AreApart, AreOnes, Event, Submits, Arrives, FailsForMemory, Replies, Drops, Moment, Sent, Failure, arrived, happens, replied, run, start, submitted, wanted}
-use Rattle.droid_wire_client.proofs.Elements.{set_cases, set_here, set_stays}
+use Rattle.droid_client.proofs.Elements.{set_cases, set_here, set_stays}
 
 -- a core of the frame's client has passed its number
 record IsPassed (cores : List Core) (frame : Frame) : Type 0 where

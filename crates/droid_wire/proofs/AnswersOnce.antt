@@ -2,20 +2,20 @@
 use Rattle.std.proofs.Common.{◌≡◌, ◌≢◌, nat_lt, Bool, true, false, cond, eqb, [], ◌∷◌, ◌++◌, Option, Some, None, refl, sym, ap, subst, ◌∙◌}
 use Rattle.std.proofs.lemmas.Bool.{eq-eqb}
 use Rattle.std.proofs.lemmas.Slice.Eq.{bytes_eq-Decides}
-use Rattle.droid_frame.specs.types.frame.Frame.{Frame}
-use Rattle.droid_frame.specs.types.refusal.Refusal.{Refusal}
-use Rattle.droid_frame.specs.types.refusal.Refusal.TheVariants as refusals
-use Rattle.droid_frame.specs.types.reply.Reply.{Reply}
-use Rattle.droid_frame.specs.types.reply.Reply.TheVariants.{Refused}
-use Rattle.droid_frame.specs.types.request.Request.{Request}
+use Rattle.droid_frame.specs.declared.frame.Frame.{Frame}
+use Rattle.droid_frame.specs.declared.refusal.Refusal.{Refusal}
+use Rattle.droid_frame.specs.declared.refusal.Refusal.TheVariants as refusals
+use Rattle.droid_frame.specs.declared.reply.Reply.{Reply}
+use Rattle.droid_frame.specs.declared.reply.Reply.TheVariants.{Refused}
+use Rattle.droid_frame.specs.declared.request.Request.{Request}
 use Rattle.droid_frame.specs.Bodies.{request_kind}
-use Rattle.droid_wire_journal.specs.core.Histories.{Entry, History, kept, command, frame_mark, is_request_of, New, answer, history_with, next, verdict_reply, world_of}
-use Rattle.droid_wire_journal.specs.core.Judging.{Verdict, Accepted, Answered, Refuses as RefusesIt, judge}
-use Rattle.droid_wire_journal.specs.core.Setting.{Setting}
-use Rattle.droid_wire_journal.specs.core.Verdicts.{is_of_judging, MayCome}
-use Rattle.droid_wire_journal.specs.core.World.{World}
-use Rattle.droid_wire_journal.proofs.core.Judged.{judged}
-use Rattle.droid_wire_journal.proofs.core.Meetings.{answer_malformed, next_malformed, answer_kept, next_kept, answer_new, next_new}
+use Rattle.droid_core_spec.specs.Histories.{Entry, History, kept, command, frame_mark, is_request_of, New, answer, history_with, next, verdict_reply, world_of}
+use Rattle.droid_core_spec.specs.Judging.{Verdict, Accepted, Answered, Refuses as RefusesIt, judge}
+use Rattle.droid_core_spec.specs.Setting.{Setting}
+use Rattle.droid_core_spec.specs.Verdicts.{is_of_judging, MayCome}
+use Rattle.droid_core_spec.specs.World.{World}
+use Rattle.droid_core_spec.proofs.Judged.{judged}
+use Rattle.droid_core_spec.proofs.Meetings.{answer_malformed, next_malformed, answer_kept, next_kept, answer_new, next_new}
 use Rattle.droid_wire.specs.Desks.{Answering, Again, Accepts, Refuses, Queries, IsDesk, IsItsOwn, IsAccepted, desk_of, is_refused}
 use Rattle.droid_wire.proofs.RequestKinds.{kind_of_request}
 

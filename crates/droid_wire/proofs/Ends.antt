@@ -4,14 +4,14 @@ use Rattle.std.specs.Io.KnownBytes.{Appends}
 use Rattle.std.proofs.KnownBytes.{Appends-trans}
 use Rattle.std.proofs.Math.Seq.{take-append-add}
 use Rattle.droid_frame.specs.ReplyFrames.{reply_frame}
-use Rattle.droid_wire_journal.specs.core.Standing.{StandsFor}
-use Rattle.droid_wire_journal.specs.core.declared.service.Service.{Service}
-use Rattle.droid_wire_journal.specs.core.Histories.{History}
-use Rattle.droid_wire_journal.specs.core.Setting.{Setting}
+use Rattle.droid_core.specs.Standing.{StandsFor}
+use Rattle.droid_core.specs.declared.service.Service.{Service}
+use Rattle.droid_core_spec.specs.Histories.{History}
+use Rattle.droid_core_spec.specs.Setting.{Setting}
 use Rattle.droid_wire.specs.declared.stream_end.Ended.TheVariants.{Closed, Turns}
 use Rattle.droid_wire.specs.declared.serve_fault.ServeFault.{ServeFault}
 use Rattle.droid_wire.specs.declared.serve_fault.ServeFault.TheVariants as faults
-use Rattle.droid_wire_journal.specs.core.Written.{reply_frames}
+use Rattle.droid_core_spec.specs.Written.{reply_frames}
 use Rattle.droid_wire.specs.Serving.{Handled, Outcome, Serves, ServesCut}
 use Rattle.droid_wire.specs.Steps.{Cut, Idle, TurnGives}
 use Rattle.droid_wire.proofs.SoFar.{SoFar, handled_more, history_after, reply_frames-push, turn_here}

@@ -1,15 +1,15 @@
 -- A service goes on from a history, by one request or by what two calls have made.
 use Rattle.std.proofs.Common.{◌≡◌, ℕ, ◌+◌, ◌≤◌, Bool, true, false, cond, not, List, [], ◌∷◌, ◌++◌, length, refl, sym, ap, subst, ◌∙◌, arith, length-append}
-use Rattle.droid_frame.specs.types.frame.Frame.{Frame}
-use Rattle.droid_frame.specs.types.reply.Reply.{Reply}
+use Rattle.droid_frame.specs.declared.frame.Frame.{Frame}
+use Rattle.droid_frame.specs.declared.reply.Reply.{Reply}
 use Rattle.droid_frame.specs.Replies.{HasReplySpelling}
-use Rattle.droid_wire_journal.specs.core.Running.{AreSpelled, NoMemoryFaultOfMalformed, Runs, other_replies, without_memory_faults}
-use Rattle.droid_wire_journal.specs.core.Standing.{StandsFor}
-use Rattle.droid_wire_journal.specs.core.declared.service.Service.{Service}
-use Rattle.droid_wire_journal.specs.core.Histories.{History, Handles, answer, answers, history_from, next}
-use Rattle.droid_wire_journal.specs.core.Setting.{Setting}
-use Rattle.droid_wire_journal.specs.core.MemoryFaults.{is_out_of_memory}
-use Rattle.droid_wire_journal.proofs.core.Running.{Runs-none, Runs-push}
+use Rattle.droid_core.specs.Running.{AreSpelled, NoMemoryFaultOfMalformed, Runs, other_replies, without_memory_faults}
+use Rattle.droid_core.specs.Standing.{StandsFor}
+use Rattle.droid_core.specs.declared.service.Service.{Service}
+use Rattle.droid_core_spec.specs.Histories.{History, Handles, answer, answers, history_from, next}
+use Rattle.droid_core_spec.specs.Setting.{Setting}
+use Rattle.droid_core_spec.specs.MemoryFaults.{is_out_of_memory}
+use Rattle.droid_core.proofs.Running.{Runs-none, Runs-push}
 use Rattle.droid_wire.specs.Serving.{GoesOnFrom}
 
 -- ---- a run after a run

@@ -4,20 +4,20 @@ use Rattle.std.specs.Bool.{if◌then◌else◌}
 use Rattle.std.specs.List.{slice_get}
 use Rattle.std.proofs.lemmas.Bool.Decides.{eqb_tells}
 use Rattle.std.proofs.lemmas.List.Elements.{Contains-append_left}
-use Rattle.droid_frame.specs.types.frame.Frame.{Frame}
-use Rattle.droid_frame.specs.types.refusal.Refusal.TheVariants.{NumberReused}
-use Rattle.droid_frame.specs.types.reply.Reply.{Reply}
-use Rattle.droid_frame.specs.types.reply.Reply.TheVariants.{Refused}
-use Rattle.droid_frame.specs.types.request.Request.{Request}
-use Rattle.droid_wire_journal.specs.core.Histories.{History, is_under}
-use Rattle.droid_wire_client.specs.declared.slot.Slot.{Slot}
-use Rattle.droid_wire_client.specs.declared.slot.State.{State}
-use Rattle.droid_wire_client.specs.declared.slot.State.TheVariants.{Pending, Answered}
-use Rattle.droid_wire_client.specs.Cores.{Core, answer_in, new_core, next_frame, next_number, slot_answer, slot_at}
+use Rattle.droid_frame.specs.declared.frame.Frame.{Frame}
+use Rattle.droid_frame.specs.declared.refusal.Refusal.TheVariants.{NumberReused}
+use Rattle.droid_frame.specs.declared.reply.Reply.{Reply}
+use Rattle.droid_frame.specs.declared.reply.Reply.TheVariants.{Refused}
+use Rattle.droid_frame.specs.declared.request.Request.{Request}
+use Rattle.droid_core_spec.specs.Histories.{History, is_under}
+use Rattle.droid_client.specs.declared.slot.Slot.{Slot}
+use Rattle.droid_client.specs.declared.slot.State.{State}
+use Rattle.droid_client.specs.declared.slot.State.TheVariants.{Pending, Answered}
+use Rattle.droid_client.specs.Cores.{Core, answer_in, new_core, next_frame, next_number, slot_answer, slot_at}
 use Rattle.droid_wire.specs.Desks.{Desk, IsDesk, is_command, is_refused}
 use Rattle.droid_wire.specs.Schedules.{AreHeld, AreOnce, AreOnes, Event, Submits, Arrives, FailsForMemory, Replies, Drops, IsOnlyEntry, Moment, NoneReused, Sent, Failure, WasAnswer, arrived, happens, replied, run, start, submitted, wanted}
-use Rattle.droid_wire_client.proofs.Elements.{counted}
-use Rattle.droid_wire_client.proofs.Numbers.{slot_found}
+use Rattle.droid_client.proofs.Elements.{counted}
+use Rattle.droid_client.proofs.Numbers.{slot_found}
 use Rattle.droid_wire.proofs.Invariant.{Within, Says, Refusing, Kept, Reported, IsSlot, IsState, Holds, same_within}
 use Rattle.droid_wire.proofs.Steps.{Marks, keeps}
 

@@ -1,16 +1,16 @@
 -- What holds at each moment of a schedule.
 use Rattle.std.proofs.Common.{◌≡◌, ◌≢◌, ℕ, ◌+◌, ◌≤◌, true, false, List, Some}
 use Rattle.std.specs.List.{Contains, count_by, slice_get}
-use Rattle.droid_frame.specs.types.frame.Frame.{Frame}
-use Rattle.droid_frame.specs.types.refusal.Refusal.{Refusal}
-use Rattle.droid_frame.specs.types.refusal.Refusal.TheVariants.{NumberReused}
-use Rattle.droid_frame.specs.types.reply.Reply.{Reply}
-use Rattle.droid_frame.specs.types.reply.Reply.TheVariants.{Refused}
-use Rattle.droid_wire_journal.specs.core.Histories.{Entry, History, is_under}
-use Rattle.droid_wire_client.specs.declared.slot.Slot.{Slot}
-use Rattle.droid_wire_client.specs.declared.slot.State.{State}
-use Rattle.droid_wire_client.specs.declared.slot.State.TheVariants.{Pending, Answered}
-use Rattle.droid_wire_client.specs.Cores.{Core}
+use Rattle.droid_frame.specs.declared.frame.Frame.{Frame}
+use Rattle.droid_frame.specs.declared.refusal.Refusal.{Refusal}
+use Rattle.droid_frame.specs.declared.refusal.Refusal.TheVariants.{NumberReused}
+use Rattle.droid_frame.specs.declared.reply.Reply.{Reply}
+use Rattle.droid_frame.specs.declared.reply.Reply.TheVariants.{Refused}
+use Rattle.droid_core_spec.specs.Histories.{Entry, History, is_under}
+use Rattle.droid_client.specs.declared.slot.Slot.{Slot}
+use Rattle.droid_client.specs.declared.slot.State.{State}
+use Rattle.droid_client.specs.declared.slot.State.TheVariants.{Pending, Answered}
+use Rattle.droid_client.specs.Cores.{Core}
 use Rattle.droid_wire.specs.Desks.{Desk, IsAccepted, is_command, is_refused}
 use Rattle.droid_wire.specs.Schedules.{Moment, Sent}
 

@@ -1,7 +1,7 @@
 -- A fault that `?` passes on, and a fact of a value that is known.
 use Rattle.std.proofs.Common.{◌≡◌, ℕ, Option, Some, Result, Ok, Err, IfSome, ap, sym, subst}
 use Rattle.std.specs.Prelude.{IsErrAnd, IsErrOf}
-use Rattle.droid_frame.specs.declared.stream.fault.FrameFault.{FrameFault}
+use Rattle.droid_frame.specs.declared.streams.fault.FrameFault.{FrameFault}
 use Rattle.droid_wire.specs.declared.serve_fault.ServeFault.TheVariants as faults
 
 pub if_err_same : {T E : Type 0} (r : Result T E) (fault : E) (P : Result T E → Type 0) → IsErrAnd r (λ e. e ≡ fault) → P (Err fault) → P r

@@ -3,12 +3,12 @@ use Rattle.std.proofs.Common.{◌≡◌, ℕ, ◌^◌, ◌==◌, Bool, true, fal
 use Rattle.std.specs.Prelude.{nat_lt, IfSome}
 use Rattle.std.specs.Bool.{if◌then◌else◌}
 use Rattle.std.proofs.lemmas.Bool.Decides.{eqb_tells}
-use Rattle.droid_frame.specs.types.frame.Frame.{Frame}
-use Rattle.droid_frame.specs.types.request.Request.{Request}
+use Rattle.droid_frame.specs.declared.frame.Frame.{Frame}
+use Rattle.droid_frame.specs.declared.request.Request.{Request}
 use Rattle.droid_frame.specs.Bodies.{request_kind}
 use Rattle.droid_frame.specs.Reading.{◌>>=◌, whole}
 use Rattle.droid_frame.specs.Versions.{is_version}
-use Rattle.droid_frame.specs.Values.{create_profile_value, add_folder_value, add_file_value, piece_value, finish_value, abandon_value, status_value, export_value, plain_value, any_value, request_value, request_in}
+use Rattle.droid_frame.specs.RequestValues.{create_profile_value, add_folder_value, add_file_value, piece_value, finish_value, abandon_value, status_value, export_value, plain_value, any_value, request_value, request_in}
 
 -- a request of this kind, or none
 record IsOf (kind : ℕ) (read : Option Request) : Type 0 where

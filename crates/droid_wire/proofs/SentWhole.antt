@@ -3,8 +3,8 @@ use Rattle.std.proofs.Common.{◌≡◌, ℕ, ◌-◌, List, length, take, Optio
 use Rattle.std.specs.Io.KnownBytes.{Appends}
 use Rattle.droid_frame.specs.StreamWrites.{Stops}
 use Rattle.droid_frame.proofs.StreamEnds.{first_room, reported_last, within_part}
-use Rattle.droid_frame.specs.stream_types.stream_fault.WriteFault.{WriteFault}
-use Rattle.droid_frame.specs.stream_types.stream_record.Seen.{Seen}
+use Rattle.droid_frame.specs.declared.io.stream_fault.WriteFault.{WriteFault}
+use Rattle.droid_frame.specs.declared.io.stream_record.Seen.{Seen}
 use Rattle.droid_frame.specs.Writes.{StopsWithin, Takes, ReportsWrite, WritesOn}
 use Rattle.droid_frame.proofs.Stopping.{takes_none}
 

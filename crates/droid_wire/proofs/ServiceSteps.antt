@@ -1,20 +1,20 @@
 -- A service through the steps of a loop.
 use Rattle.std.proofs.Common.{◌≡◌, ◌≢◌, Bool, true, false, List, [], ◌∷◌, ◌++◌, append_assoc, sym, ap, subst, ◌∙◌, inl, inr}
 use Rattle.std.proofs.lemmas.List.{append-nil}
-use Rattle.droid_frame.specs.types.frame.Frame.{Frame}
-use Rattle.droid_frame.specs.types.reply.Reply.{Reply}
-use Rattle.droid_wire_journal.specs.core.Histories.{History, history_from}
-use Rattle.droid_wire_journal.specs.core.Running.{Runs, without_memory_faults}
-use Rattle.droid_wire_journal.specs.core.Setting.{Setting}
-use Rattle.droid_wire_journal.specs.core.Standing.{StandsFor, limits_of, registry_of}
-use Rattle.droid_wire_journal.proofs.core.Running.{Runs-none, Runs-push}
-use Rattle.droid_wire_journal.specs.turns.Chains.{GoesOver}
-use Rattle.droid_wire_journal.specs.turns.Events.{Event}
-use Rattle.droid_wire_journal.specs.turns.Turns.{EndsBy, ServesAll}
-use Rattle.droid_wire_journal.specs.turns.Steps.{Does, FailedToSettle, Goes, Handles, Happens, Settles, Step}
-use Rattle.droid_wire_journal.specs.turns.declared.rules.Rules.{Rules}
-use Rattle.droid_wire_journal.specs.turns.declared.service_end.Served.{Served}
-use Rattle.droid_wire_journal.specs.turns.declared.service_end.Served.TheVariants as ways
+use Rattle.droid_frame.specs.declared.frame.Frame.{Frame}
+use Rattle.droid_frame.specs.declared.reply.Reply.{Reply}
+use Rattle.droid_core_spec.specs.Histories.{History, history_from}
+use Rattle.droid_core.specs.Running.{Runs, without_memory_faults}
+use Rattle.droid_core_spec.specs.Setting.{Setting}
+use Rattle.droid_core.specs.Standing.{StandsFor, limits_of, registry_of}
+use Rattle.droid_core.proofs.Running.{Runs-none, Runs-push}
+use Rattle.droid_turns.specs.Chains.{GoesOver}
+use Rattle.droid_turns.specs.Events.{Event}
+use Rattle.droid_turns.specs.Turns.{EndsBy, ServesAll}
+use Rattle.droid_turns.specs.Steps.{Does, FailedToSettle, Goes, Handles, Happens, Settles, Step}
+use Rattle.droid_turns.specs.declared.rules.Rules.{Rules}
+use Rattle.droid_turns.specs.declared.service_end.Served.{Served}
+use Rattle.droid_turns.specs.declared.service_end.Served.TheVariants as ways
 use Rattle.droid_wire.specs.OneAnswer.{IsAnswered}
 use Rattle.droid_wire.specs.ManyConnections.{ServesMany, events_of, frames_of, replies_of}
 use Rattle.droid_wire.specs.declared.service_handler.ServiceHandler.{ServiceHandler}
@@ -92,6 +92,22 @@ module _ {C : Type 0} (does : C → Event → C → Type 0) where
     serves = goes.holds;
     runs = runs_done setting history [] [] goes.steps c later h after (Runs-none setting history h.service stands) goes.done;
   }
+
+  -- the same of the connections alone
+  pub events_so : (P : List Step → Type 0) (c later : C) (h after : ServiceHandler) (goes : Goes does Answers Keeps c h later after P) → GoesOver does c (events_of goes.steps) later
+  events_so P c later h after goes = events_done goes.steps c later h after goes.done
+
+  -- the same, whatever else is known of the steps
+  pub serves_so : (P : List Step → Type 0) (setting : Setting) (history : History) (c later : C) (h after : ServiceHandler) → StandsFor setting h.service history → (goes : Goes does Answers Keeps c h later after P)
+      → GoesOver does c (events_of goes.steps) later × Runs setting history (frames_of goes.steps) (replies_of goes.steps) after.service
+  serves_so P setting history c later h after stands goes = (
+    events_done goes.steps c later h after goes.done,
+    runs_done setting history [] [] goes.steps c later h after (Runs-none setting history h.service stands) goes.done,
+  )
+
+  pub all_as : (P : List Step → Type 0) (rules : Rules) (c later : C) (h after : ServiceHandler) (result : Served) → ((steps : List Step) → P steps → ServesAll rules result steps) → Goes does Answers Keeps c h later after P
+      → Goes does Answers Keeps c h later after (ServesAll rules result)
+  all_as P rules c later h after result f goes = record { steps = goes.steps; done = goes.done; holds = f goes.steps goes.holds }
 
   pub same_limits : (rules : Rules) (c later : C) (h after : ServiceHandler) (result : Served) → Goes does Answers Keeps c h later after (ServesAll rules result) → limits_of after.service ≡ limits_of h.service
   same_limits rules c later h after result goes = limits_done goes.steps c later h after goes.done

@@ -7,15 +7,15 @@ use Rattle.std.proofs.lemmas.Grind.{flat_map-append}
 use Rattle.droid_frame.specs.Frames.{frame_bytes}
 use Rattle.droid_frame.specs.ReplyFrames.{reply_frame}
 use Rattle.droid_frame.specs.Streams.{IsReadable}
-use Rattle.droid_frame.specs.types.frame.Frame.{Frame}
-use Rattle.droid_frame.specs.types.reply.Reply.{Reply}
-use Rattle.droid_wire_journal.specs.core.Running.{without_memory_faults}
-use Rattle.droid_wire_journal.specs.core.Standing.{StandsFor}
-use Rattle.droid_wire_journal.specs.core.declared.service.Service.{Service}
-use Rattle.droid_wire_journal.proofs.core.Running.{Runs-none, Runs-push}
-use Rattle.droid_wire_journal.specs.core.Histories.{History, history_from}
-use Rattle.droid_wire_journal.specs.core.Setting.{Setting}
-use Rattle.droid_wire_journal.specs.core.Written.{reply_frames}
+use Rattle.droid_frame.specs.declared.frame.Frame.{Frame}
+use Rattle.droid_frame.specs.declared.reply.Reply.{Reply}
+use Rattle.droid_core.specs.Running.{without_memory_faults}
+use Rattle.droid_core.specs.Standing.{StandsFor}
+use Rattle.droid_core.specs.declared.service.Service.{Service}
+use Rattle.droid_core.proofs.Running.{Runs-none, Runs-push}
+use Rattle.droid_core_spec.specs.Histories.{History, history_from}
+use Rattle.droid_core_spec.specs.Setting.{Setting}
+use Rattle.droid_core_spec.specs.Written.{reply_frames}
 use Rattle.droid_wire.specs.Serving.{Handled}
 use Rattle.droid_wire.specs.Steps.{Turn, TurnGives}
 use Rattle.droid_wire.proofs.Passing.{if_some_is}

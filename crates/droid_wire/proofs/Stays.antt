@@ -4,20 +4,20 @@ use Rattle.std.specs.Bool.{if◌then◌else◌}
 use Rattle.std.specs.List.{slice_get}
 use Rattle.std.proofs.lemmas.Bool.{ltb-true}
 use Rattle.std.proofs.lemmas.Bool.Decides.{eqb_tells}
-use Rattle.droid_frame.specs.types.frame.Frame.{Frame}
-use Rattle.droid_frame.specs.types.reply.Reply.{Reply}
-use Rattle.droid_frame.specs.types.request.Request.{Request}
-use Rattle.droid_wire_client.specs.declared.heard.Heard.{Heard}
-use Rattle.droid_wire_client.specs.declared.heard.Heard.TheVariants as heard
-use Rattle.droid_wire_client.specs.declared.slot.Slot.{Slot}
-use Rattle.droid_wire_client.specs.declared.slot.State.{State}
-use Rattle.droid_wire_client.specs.declared.slot.State.TheVariants.{Answered}
-use Rattle.droid_wire_client.specs.Cores.{Core, answer_in, answer_of, core_hearing, core_submitting, heard_at, new_slot, next_frame, next_number, pending_in, slot_after, slot_answer, slot_at, slot_hearing, slots_hearing}
+use Rattle.droid_frame.specs.declared.frame.Frame.{Frame}
+use Rattle.droid_frame.specs.declared.reply.Reply.{Reply}
+use Rattle.droid_frame.specs.declared.request.Request.{Request}
+use Rattle.droid_client.specs.declared.heard.Heard.{Heard}
+use Rattle.droid_client.specs.declared.heard.Heard.TheVariants as heard
+use Rattle.droid_client.specs.declared.slot.Slot.{Slot}
+use Rattle.droid_client.specs.declared.slot.State.{State}
+use Rattle.droid_client.specs.declared.slot.State.TheVariants.{Answered}
+use Rattle.droid_client.specs.Cores.{Core, answer_in, answer_of, core_hearing, core_submitting, heard_at, new_slot, next_frame, next_number, pending_in, slot_after, slot_answer, slot_at, slot_hearing, slots_hearing}
 use Rattle.droid_wire.specs.Desks.{Desk}
 use Rattle.droid_wire.specs.Schedules.{Event, Submits, Arrives, FailsForMemory, Replies, Drops, Moment, Sent, Failure, answer_at, arrived, core_answer, happens, replied, run, submitted, wanted}
-use Rattle.droid_wire_client.proofs.Elements.{push_stays, set_here, set_stays}
-use Rattle.droid_wire_client.proofs.Hearing.{was_pending}
-use Rattle.droid_wire_client.proofs.Numbers.{slot_found}
+use Rattle.droid_client.proofs.Elements.{push_stays, set_here, set_stays}
+use Rattle.droid_client.proofs.Hearing.{was_pending}
+use Rattle.droid_client.proofs.Numbers.{slot_found}
 use Rattle.droid_wire.proofs.Held.{answered_slot, run_append}
 
 -- a core that holds this answer to this number

@@ -5,22 +5,22 @@ use Rattle.std.specs.List.{Contains, count_by, slice_get}
 use Rattle.std.proofs.lemmas.Bool.{eqb-true}
 use Rattle.std.proofs.lemmas.Bool.Decides.{eqb_tells}
 use Rattle.std.proofs.lemmas.List.Elements.{Contains-append_left, Contains-push, Contains-push_cases}
-use Rattle.droid_frame.specs.types.frame.Frame.{Frame}
-use Rattle.droid_frame.specs.types.refusal.Refusal.TheVariants as refusals
-use Rattle.droid_frame.specs.types.reply.Reply.{Reply}
-use Rattle.droid_frame.specs.types.reply.Reply.TheVariants.{Made, Node, Taken, Finished, Abandoned, Progress, Part, Refused}
-use Rattle.droid_frame.specs.types.request.Request.{Request}
-use Rattle.droid_wire_journal.specs.core.Histories.{Entry, History, is_under, kept}
-use Rattle.droid_wire_client.specs.declared.heard.Heard.{Heard}
-use Rattle.droid_wire_client.specs.declared.heard.Heard.TheVariants as heard
-use Rattle.droid_wire_client.specs.declared.slot.Slot.{Slot}
-use Rattle.droid_wire_client.specs.declared.slot.State.{State}
-use Rattle.droid_wire_client.specs.declared.slot.State.TheVariants.{Pending, Answered}
-use Rattle.droid_wire_client.specs.Cores.{Core, belongs_at, core_hearing, core_submitting, heard_at, heard_in, new_slot, next_frame, next_number, slot_after, slot_at, slot_hearing, slots_hearing}
+use Rattle.droid_frame.specs.declared.frame.Frame.{Frame}
+use Rattle.droid_frame.specs.declared.refusal.Refusal.TheVariants as refusals
+use Rattle.droid_frame.specs.declared.reply.Reply.{Reply}
+use Rattle.droid_frame.specs.declared.reply.Reply.TheVariants.{Made, Node, Taken, Finished, Abandoned, Progress, Part, Refused}
+use Rattle.droid_frame.specs.declared.request.Request.{Request}
+use Rattle.droid_core_spec.specs.Histories.{Entry, History, is_under, kept}
+use Rattle.droid_client.specs.declared.heard.Heard.{Heard}
+use Rattle.droid_client.specs.declared.heard.Heard.TheVariants as heard
+use Rattle.droid_client.specs.declared.slot.Slot.{Slot}
+use Rattle.droid_client.specs.declared.slot.State.{State}
+use Rattle.droid_client.specs.declared.slot.State.TheVariants.{Pending, Answered}
+use Rattle.droid_client.specs.Cores.{Core, belongs_at, core_hearing, core_submitting, heard_at, heard_in, new_slot, next_frame, next_number, slot_after, slot_at, slot_hearing, slots_hearing}
 use Rattle.droid_wire.specs.Desks.{Desk, Answering, Again, Accepts, Refuses, Queries, IsDesk, IsItsOwn, entry_at, is_command, is_refused}
 use Rattle.droid_wire.specs.Schedules.{AreOnes, Event, Submits, Arrives, FailsForMemory, Replies, Drops, Moment, Sent, Failure, OfMemory, OfStore, arrived, happens, refusal_for, replied, reply_to, submitted, wanted}
-use Rattle.droid_wire_client.proofs.Elements.{contains_got, count_push, found_in, none_there, push_cases, set_cases}
-use Rattle.droid_wire_client.proofs.Numbers.{slot_found}
+use Rattle.droid_client.proofs.Elements.{contains_got, count_push, found_in, none_there, push_cases, set_cases}
+use Rattle.droid_client.proofs.Numbers.{slot_found}
 use Rattle.droid_wire.proofs.Invariant.{Within, IsEntry, Says, Refusing, Kept, Reported, IsRequest, IsReply, IsSlot, IsCore, Holds, same_within, reply_more, slot_more, core_more, entry_more}
 
 -- ---- a core submits

@@ -9,15 +9,15 @@ use Rattle.droid_frame.specs.Seen.{GivesUp, Lasts, ReportsFault}
 use Rattle.droid_frame.specs.StreamReads.{ReadsNoFrame}
 use Rattle.droid_frame.specs.StreamWrites.{Stops}
 use Rattle.droid_frame.specs.Streams.{IsReadable}
-use Rattle.droid_frame.specs.types.frame.Frame.{Frame}
-use Rattle.droid_frame.specs.types.reply.Reply.{Reply}
+use Rattle.droid_frame.specs.declared.frame.Frame.{Frame}
+use Rattle.droid_frame.specs.declared.reply.Reply.{Reply}
 use Rattle.droid_frame.specs.Writes.{LacksRoom, ReportsWrite}
-use Rattle.droid_frame.specs.stream_types.stream_record.Seen.{Seen}
+use Rattle.droid_frame.specs.declared.io.stream_record.Seen.{Seen}
 use Rattle.droid_frame.proofs.StreamFrames.{no_frame_in_short}
-use Rattle.droid_wire_journal.specs.core.Standing.{StandsFor}
-use Rattle.droid_wire_journal.specs.core.declared.service.Service.{Service}
-use Rattle.droid_wire_journal.specs.core.Histories.{History, Handles}
-use Rattle.droid_wire_journal.specs.core.Setting.{Setting}
+use Rattle.droid_core.specs.Standing.{StandsFor}
+use Rattle.droid_core.specs.declared.service.Service.{Service}
+use Rattle.droid_core_spec.specs.Histories.{History, Handles}
+use Rattle.droid_core_spec.specs.Setting.{Setting}
 use Rattle.droid_wire.specs.declared.serve_fault.ServeFault.TheVariants as faults
 use Rattle.droid_wire.specs.Steps.{Turn, TurnGives}
 

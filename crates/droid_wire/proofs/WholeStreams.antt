@@ -6,22 +6,22 @@ use Rattle.std.proofs.lemmas.Bool.{lt-ltb, le-ltb}
 use Rattle.std.proofs.lemmas.List.{take_all, take_at}
 use Rattle.droid_frame.specs.Frames.{frame_bytes}
 use Rattle.droid_frame.specs.Streams.{IsReadable, BeginsNoFrame, Frames, why}
-use Rattle.droid_frame.specs.declared.stream.arrival.Arrival.{Arrival}
-use Rattle.droid_frame.specs.declared.stream.arrival.Arrival.TheVariants.{End}
-use Rattle.droid_frame.specs.declared.stream.fault.FrameFault.{FrameFault}
-use Rattle.droid_frame.specs.declared.stream.fault.FrameFault.TheVariants.{Truncated, BadVersion, TooLong, Memory, Read}
-use Rattle.droid_frame.specs.types.frame.Frame.{Frame}
+use Rattle.droid_frame.specs.declared.streams.arrival.Arrival.{Arrival}
+use Rattle.droid_frame.specs.declared.streams.arrival.Arrival.TheVariants.{End}
+use Rattle.droid_frame.specs.declared.streams.fault.FrameFault.{FrameFault}
+use Rattle.droid_frame.specs.declared.streams.fault.FrameFault.TheVariants.{Truncated, BadVersion, TooLong, Memory, Read}
+use Rattle.droid_frame.specs.declared.frame.Frame.{Frame}
 use Rattle.droid_frame.proofs.FrameLaws.{reported_frame}
 use Rattle.droid_frame.proofs.StreamFrames.{no_frame_in_short, why_nothing}
-use Rattle.droid_wire_journal.specs.core.Running.{Runs}
-use Rattle.droid_wire_journal.specs.core.declared.service.Service.{Service}
-use Rattle.droid_wire_journal.specs.core.Histories.{History}
-use Rattle.droid_wire_journal.specs.core.Setting.{Setting}
+use Rattle.droid_core.specs.Running.{Runs}
+use Rattle.droid_core.specs.declared.service.Service.{Service}
+use Rattle.droid_core_spec.specs.Histories.{History}
+use Rattle.droid_core_spec.specs.Setting.{Setting}
 use Rattle.droid_wire.specs.declared.stream_end.Ended.{Ended}
 use Rattle.droid_wire.specs.declared.stream_end.Ended.TheVariants.{Closed, Turns}
 use Rattle.droid_wire.specs.declared.serve_fault.ServeFault.{ServeFault}
 use Rattle.droid_wire.specs.declared.serve_fault.ServeFault.TheVariants as faults
-use Rattle.droid_wire_journal.specs.core.Written.{reply_frames}
+use Rattle.droid_core_spec.specs.Written.{reply_frames}
 use Rattle.droid_wire.specs.Serving.{Outcome, Serves}
 use Rattle.droid_wire.specs.Whole.{FirstFramesAreAnswered, ServesWhole, UnlessFailed, end_of, last_end}
 

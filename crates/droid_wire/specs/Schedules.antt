@@ -1,14 +1,15 @@
 -- Schedules of deliveries: what may happen between clients' cores and a service (this project's own rule).
-use Rattle.std.specs.Prelude.{◌≡◌, ◌≢◌, ℕ, ◌^◌, ◌≤◌, nat_lt, if◌then◌else◌, true, false, List, [], ◌∷◌, ◌++◌, map, slice_set, Contains, count_by, Option, Some, None}
+use Rattle.std.specs.Prelude.{◌≡◌, ◌≢◌, ℕ, ◌^◌, ◌≤◌, nat_lt, if◌then◌else◌, true, false, List, [], ◌∷◌, ◌++◌, map}
+use Rattle.std.specs.Prelude.{slice_set, Contains, count_by, Option, Some, None}
 use Rattle.std.specs.List.{slice_get}
-use Rattle.droid_frame.specs.types.frame.Frame.{Frame}
-use Rattle.droid_frame.specs.types.refusal.Refusal.{Refusal}
-use Rattle.droid_frame.specs.types.refusal.Refusal.TheVariants.{NumberReused, Memory, Store}
-use Rattle.droid_frame.specs.types.reply.Reply.{Reply}
-use Rattle.droid_frame.specs.types.reply.Reply.TheVariants.{Refused}
-use Rattle.droid_frame.specs.types.request.Request.{Request}
-use Rattle.droid_wire_client.specs.Cores.{Core, new_core, next_number, next_frame, core_submitting, core_hearing, answer_of}
-use Rattle.droid_wire_journal.specs.core.Histories.{Entry, History, is_under}
+use Rattle.droid_frame.specs.declared.frame.Frame.{Frame}
+use Rattle.droid_frame.specs.declared.refusal.Refusal.{Refusal}
+use Rattle.droid_frame.specs.declared.refusal.Refusal.TheVariants.{NumberReused, Memory, Store}
+use Rattle.droid_frame.specs.declared.reply.Reply.{Reply}
+use Rattle.droid_frame.specs.declared.reply.Reply.TheVariants.{Refused}
+use Rattle.droid_frame.specs.declared.request.Request.{Request}
+use Rattle.droid_client.specs.Cores.{Core, new_core, next_number, next_frame, core_submitting, core_hearing, answer_of}
+use Rattle.droid_core_spec.specs.Histories.{Entry, History, is_under}
 use Rattle.droid_wire.specs.Desks.{Desk, is_command}
 
 -- a reply that was sent, and the version, the client and the number of its request
@@ -46,7 +47,8 @@ pub data Event : Type 0 where
 
 -- new cores of these clients, each with its first number, and nothing sent
 abbrev pub start : List (ℕ × ℕ) → Moment
-start clients = record { history = []; cores = map (λ client. new_core client.0 client.1) clients; frames = []; replies = [] }
+start clients =
+    record { history = []; cores = map (λ client. new_core client.0 client.1) clients; frames = []; replies = [] }
 
 -- ---- the steps
 
@@ -107,7 +109,8 @@ abbrev pub happens : Desk → Moment → Event → Moment
 happens desk moment (Submits core version request) = submitted moment core version request (slice_get moment.cores core)
 happens desk moment (Arrives frame) = arrived desk moment (slice_get moment.frames frame)
 happens desk moment (FailsForMemory frame failure) = wanted desk moment failure (slice_get moment.frames frame)
-happens desk moment (Replies core reply) = replied moment core (slice_get moment.cores core) (slice_get moment.replies reply)
+happens desk moment (Replies core reply) =
+    replied moment core (slice_get moment.cores core) (slice_get moment.replies reply)
 happens desk moment (Drops core reply) = moment
 
 -- the state after a whole schedule
@@ -119,7 +122,9 @@ run desk (event ∷ events) moment = run desk events (happens desk moment event)
 
 -- frames of one client under one number are equal
 abbrev pub AreOnes : List Frame → Type 0
-AreOnes frames = (one other : Frame) → Contains frames one → Contains frames other → one.client ≡ other.client → one.number ≡ other.number → one ≡ other
+AreOnes frames =
+    (one other : Frame) → Contains frames one → Contains frames other → one.client ≡ other.client
+    → one.number ≡ other.number → one ≡ other
 
 -- the history has exactly one entry of this request's client and number: this very request, with this reply
 pub record IsOnlyEntry (history : History) (frame : Frame) (reply : Reply) : Type 0 where
@@ -140,7 +145,8 @@ pub record WasAnswer (desk : Desk) (from : Moment) (events : List Event) (frame 
 
 -- a held answer: its request was submitted; for a command it is the reply in the one entry, for a query what the
 -- service answered to it at some event
-pub record IsHeld (desk : Desk) (from : Moment) (events : List Event) (core : Core) (number : ℕ) (reply : Reply) : Type 0 where
+pub record IsHeld (desk : Desk) (from : Moment) (events : List Event) (core : Core) (number : ℕ) (reply : Reply)
+    : Type 0 where
   pub frame : Frame
   pub submitted : Contains (run desk events from).frames frame
   pub client_is : frame.client ≡ core.client
@@ -150,12 +156,14 @@ pub record IsHeld (desk : Desk) (from : Moment) (events : List Event) (core : Co
 
 -- each answer that a core holds
 abbrev pub AreHeld : Desk → Moment → List Event → Type 0
-AreHeld desk from events = (which number : ℕ) (core : Core) (reply : Reply) → slice_get (run desk events from).cores which ≡ Some core
+AreHeld desk from events =
+    (which number : ℕ) (core : Core) (reply : Reply) → slice_get (run desk events from).cores which ≡ Some core
     → answer_of core number ≡ Some reply → IsHeld desk from events core number reply
 
 -- no submitted request has two entries
 abbrev pub AreOnce : Moment → Type 0
-AreOnce moment = (frame : Frame) → Contains moment.frames frame → count_by (is_under frame.client frame.number) moment.history ≤ 1
+AreOnce moment =
+    (frame : Frame) → Contains moment.frames frame → count_by (is_under frame.client frame.number) moment.history ≤ 1
 
 -- no reply refuses a request because its number was used for another
 abbrev pub NoneReused : Moment → Type 0
@@ -171,4 +179,6 @@ answer_at moment which number = core_answer (slice_get moment.cores which) numbe
 
 -- no two cores belong to one client
 abbrev pub AreApart : List (ℕ × ℕ) → Type 0
-AreApart clients = (which other : ℕ) (one two : ℕ × ℕ) → slice_get clients which ≡ Some one → slice_get clients other ≡ Some two → one.0 ≡ two.0 → which ≡ other
+AreApart clients =
+    (which other : ℕ) (one two : ℕ × ℕ) → slice_get clients which ≡ Some one → slice_get clients other ≡ Some two
+    → one.0 ≡ two.0 → which ≡ other

@@ -8,8 +8,8 @@ use Rattle.droid_frame.specs.ReplyFrames.{reply_frame}
 use Rattle.droid_frame.specs.StreamReads.{ReadsNoFrame}
 use Rattle.droid_frame.specs.StreamWrites.{Stops}
 use Rattle.droid_frame.specs.Streams.{IsReadable}
-use Rattle.droid_frame.specs.types.frame.Frame.{Frame}
-use Rattle.droid_frame.specs.types.reply.Reply.{Reply}
+use Rattle.droid_frame.specs.declared.frame.Frame.{Frame}
+use Rattle.droid_frame.specs.declared.reply.Reply.{Reply}
 
 -- reading a frame: all of it, or bytes that begin with no whole frame
 abbrev pub ReadsFrame : {S : Type 0} → (S → Option (List ℕ)) → Effect S Frame
@@ -25,7 +25,9 @@ answer_frame answered = reply_frame answered.0.version answered.0.client answere
 -- writing a reply: all of its frame, or its first bytes but not all
 abbrev pub WritesReply : {S : Type 0} → (S → Option (List ℕ)) → Effect S (Frame × Reply)
 WritesReply contents = record {
-  whole = λ answered old new. HasReplySpelling answered.0.version answered.1 × Appends (contents old) (contents new) (answer_frame answered);
+  whole = λ answered old new.
+      HasReplySpelling answered.0.version answered.1 × Appends (contents old) (contents new) (answer_frame answered);
   part = λ old new. (answered : Frame × Reply) × (count : ℕ)
-      × HasReplySpelling answered.0.version answered.1 × Stops (contents old) (contents new) (answer_frame answered) count;
+      × HasReplySpelling answered.0.version answered.1
+      × Stops (contents old) (contents new) (answer_frame answered) count;
 }

@@ -2,20 +2,21 @@
 use Rattle.std.specs.Prelude.{◌≡◌, ℕ, nat_lt, if◌then◌else◌, List, length, take, Option, Result, Ok, Err}
 use Rattle.std.specs.Io.KnownBytes.{Appends}
 use Rattle.droid_frame.specs.Streams.{Frames, why}
-use Rattle.droid_frame.specs.declared.stream.arrival.Arrival.{Arrival}
-use Rattle.droid_frame.specs.declared.stream.fault.FrameFault.{FrameFault}
-use Rattle.droid_frame.specs.declared.stream.fault.FrameFault.TheVariants.{Truncated, BadVersion, TooLong, Memory, Read}
-use Rattle.droid_frame.specs.types.frame.Frame.{Frame}
-use Rattle.droid_frame.specs.types.reply.Reply.{Reply}
-use Rattle.droid_wire_journal.specs.core.Running.{Runs}
-use Rattle.droid_wire_journal.specs.core.declared.service.Service.{Service}
-use Rattle.droid_wire_journal.specs.core.Histories.{History}
-use Rattle.droid_wire_journal.specs.core.Setting.{Setting}
+use Rattle.droid_frame.specs.declared.streams.arrival.Arrival.{Arrival}
+use Rattle.droid_frame.specs.declared.streams.fault.FrameFault.{FrameFault}
+use Rattle.droid_frame.specs.declared.streams.fault.FrameFault.TheVariants.{Truncated, BadVersion, TooLong, Memory}
+use Rattle.droid_frame.specs.declared.streams.fault.FrameFault.TheVariants.{Read}
+use Rattle.droid_frame.specs.declared.frame.Frame.{Frame}
+use Rattle.droid_frame.specs.declared.reply.Reply.{Reply}
+use Rattle.droid_core.specs.Running.{Runs}
+use Rattle.droid_core.specs.declared.service.Service.{Service}
+use Rattle.droid_core_spec.specs.Histories.{History}
+use Rattle.droid_core_spec.specs.Setting.{Setting}
 use Rattle.droid_wire.specs.declared.stream_end.Ended.{Ended}
 use Rattle.droid_wire.specs.declared.stream_end.Ended.TheVariants.{Closed, Turns}
 use Rattle.droid_wire.specs.declared.serve_fault.ServeFault.{ServeFault}
 use Rattle.droid_wire.specs.declared.serve_fault.ServeFault.TheVariants as faults
-use Rattle.droid_wire_journal.specs.core.Written.{reply_frames}
+use Rattle.droid_core_spec.specs.Written.{reply_frames}
 use Rattle.droid_wire.specs.Serving.{Outcome}
 
 -- how serving ends where all frames were answered, by the reason why no frame follows
@@ -29,7 +30,8 @@ end_of turns frames rest = if nat_lt (length frames) turns then last_end (why re
 
 -- the first frames were handled, as many as the turns or all; their reply frames were written; and the result is the
 -- end of this stream
-pub record ServesWhole (setting : Setting) (history : History) (turns : ℕ) (frames : List Frame) (rest : List ℕ) (old new : Option (List ℕ)) (after : Service) (result : Result Ended ServeFault) : Type 0 where
+pub record ServesWhole (setting : Setting) (history : History) (turns : ℕ) (frames : List Frame) (rest : List ℕ)
+    (old new : Option (List ℕ)) (after : Service) (result : Result Ended ServeFault) : Type 0 where
   pub ends : result ≡ end_of turns frames rest
   pub replies : List Reply
   pub runs : Runs setting history (take turns frames) replies after
@@ -48,6 +50,8 @@ UnlessFailed (Err (faults.Write written)) P = Unit {0}
 -- each outcome of serving implies this for the whole stream
 abbrev pub FirstFramesAreAnswered : Type 0
 FirstFramesAreAnswered =
-    (setting : Setting) (history : History) (turns : ℕ) (input : List ℕ) (left old new : Option (List ℕ)) (after : Service) (result : Result Ended ServeFault)
-    (frames : List Frame) (rest : List ℕ) → Frames input frames rest → Outcome setting history turns input left old new after result
+    (setting : Setting) (history : History) (turns : ℕ) (input : List ℕ) (left old new : Option (List ℕ))
+    (after : Service) (result : Result Ended ServeFault)
+    (frames : List Frame) (rest : List ℕ) → Frames input frames rest
+    → Outcome setting history turns input left old new after result
     → UnlessFailed result (ServesWhole setting history turns frames rest old new after result)

@@ -1,23 +1,24 @@
 //! Laws of both ends of a stream, and of every schedule of deliveries between them. Each law is the contract of a
 //! function that does nothing.
 
-ghost use Rattle.droid_wire_journal.specs.core.Setting.{Setting};
-ghost use Rattle.droid_frame.specs.types.reply.Reply.{Reply};
+ghost use Rattle.droid_core_spec.specs.Setting.{Setting};
+ghost use Rattle.droid_frame.specs.declared.reply.Reply.{Reply};
 ghost use Rattle.droid_wire.specs.WhatWasRead.{ReadFramesAreAnswered};
 ghost use Rattle.droid_wire.specs.Whole.{FirstFramesAreAnswered};
 ghost use Rattle.droid_wire.specs.Desks.{IsDesk, desk_of};
-ghost use Rattle.droid_wire.specs.Schedules.{Event, start, run, AreOnes, AreApart, AreHeld, AreOnce, NoneReused, answer_at};
+ghost use Rattle.droid_wire.specs.Schedules.{Event, start, run, AreOnes, AreApart, AreHeld, AreOnce, NoneReused};
+ghost use Rattle.droid_wire.specs.Schedules.{answer_at};
 ghost use Rattle.std.specs.Prelude.{◌≡◌, ℕ, List, ◌++◌, Some};
 
-/// If neither stream failed and memory sufficed for each frame, [`serve`](crate::serve) answers the first frames of the
-/// stream: as many as its turns, or all if there are fewer. It ends as `Closed` exactly if nothing follows them, and
-/// with a fault of the bytes exactly if that fault is why no frame follows.
+/// If neither stream failed and memory sufficed for each frame, [`serve`](crate::server::serve) answers the first
+/// frames of the stream: as many as its turns, or all if there are fewer. It ends as `Closed` exactly if nothing
+/// follows them, and with a fault of the bytes exactly if that fault is why no frame follows.
 pub fn first_frames_are_answered()
     ensures { FirstFramesAreAnswered }
 {}
 
-/// However it ends, [`serve`](crate::serve) has answered the frames of the bytes that it read, and no others. It wrote
-/// all their reply frames or, if writing failed, the first bytes of them, counted by the fault.
+/// However it ends, [`serve`](crate::server::serve) has answered the frames of the bytes that it read, and no others.
+/// It wrote all their reply frames or, if writing failed, the first bytes of them, counted by the fault.
 pub fn read_frames_are_answered()
     ensures { ReadFramesAreAnswered }
 {}
@@ -37,16 +38,20 @@ pub fn schedules()
     // An answer to a command is the reply in the one entry of that very request. An answer to a query is what the
     // service answered to it at some event.
     ensures held { (setting : Setting) (clients : List (ℕ × ℕ)) (events : List Event) →
-        AreOnes (run (desk_of setting) events (start clients)).frames → AreHeld (desk_of setting) (start clients) events }
+        AreOnes (run (desk_of setting) events (start clients)).frames
+        → AreHeld (desk_of setting) (start clients) events }
     // No submitted request has two entries.
     ensures once { (setting : Setting) (clients : List (ℕ × ℕ)) (events : List Event) →
-        AreOnes (run (desk_of setting) events (start clients)).frames → AreOnce (run (desk_of setting) events (start clients)) }
+        AreOnes (run (desk_of setting) events (start clients)).frames
+        → AreOnce (run (desk_of setting) events (start clients)) }
     // No request is refused because its number was used for another request.
     ensures none_reused { (setting : Setting) (clients : List (ℕ × ℕ)) (events : List Event) →
-        AreOnes (run (desk_of setting) events (start clients)).frames → NoneReused (run (desk_of setting) events (start clients)) }
+        AreOnes (run (desk_of setting) events (start clients)).frames
+        → NoneReused (run (desk_of setting) events (start clients)) }
     // A held answer never changes.
-    ensures answers_stay { (setting : Setting) (clients : List (ℕ × ℕ)) (early late : List Event) (which number : ℕ) (reply : Reply) →
-        answer_at (run (desk_of setting) early (start clients)) which number ≡ Some reply →
+    ensures answers_stay { (setting : Setting) (clients : List (ℕ × ℕ)) (early late : List Event) (which number : ℕ)
+        (reply : Reply)
+        → answer_at (run (desk_of setting) early (start clients)) which number ≡ Some reply →
         answer_at (run (desk_of setting) (early ++ late) (start clients)) which number ≡ Some reply }
     // If no two cores belong to one client, the premise always holds.
     ensures alone { (setting : Setting) (clients : List (ℕ × ℕ)) (events : List Event) → AreApart clients →

@@ -30,11 +30,16 @@ pub(crate) fn send_reply<W: SteadyWrite>(
 ) -> Result<(), WriteFault>
     requires version { IsVersion version }
     requires spelling { HasReplySpelling version reply.now }
-    ensures ok { OnOk result (Appends (W.contents writer.old) (W.contents writer.new) (reply_frame version client number reply.now)) }
-    ensures err { IfErr result (λ fault. Stops (W.contents writer.old) (W.contents writer.new) (reply_frame version client number reply.now) fault.written) }
+    ensures ok { OnOk result
+        (Appends (W.contents writer.old) (W.contents writer.new) (reply_frame version client number reply.now)) }
+    ensures err { IfErr result (λ fault.
+        Stops (W.contents writer.old) (W.contents writer.new) (reply_frame version client number reply.now)
+        fault.written) }
     ensures failed { IsSound (W.seen writer.old) →
-        ReportsWrite (W.seen writer.old).interruptions (W.seen writer.new) (W.room writer.old) (length (reply_frame version client number reply.now)) (IsErr result) }
-    ensures room_ok { OnOk result (Takes (W.room writer.old) (W.room writer.new) (length (reply_frame version client number reply.now))) }
+        ReportsWrite (W.seen writer.old).interruptions (W.seen writer.new) (W.room writer.old)
+        (length (reply_frame version client number reply.now)) (IsErr result) }
+    ensures room_ok { OnOk result
+        (Takes (W.room writer.old) (W.room writer.new) (length (reply_frame version client number reply.now))) }
     ensures room_err { IfErr result (λ fault. Takes (W.room writer.old) (W.room writer.new) fault.written) }
 {
     match gathered(alloc, version, client, number, reply) {

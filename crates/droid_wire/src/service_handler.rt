@@ -1,10 +1,11 @@
 //! A service as a handler.
 
+use droid_core::Service;
 use droid_frame::{Frame, Reply};
-use droid_wire_journal::{Handler, Service};
+use droid_turns::Handler;
 
-/// Handles the frames of all connections by a service, one after another. The service keeps everything in memory, so there
-/// is nothing to settle.
+/// Handles the frames of all connections by a service, one after another. The service keeps everything in memory, so
+/// there is nothing to settle.
 #[derive(Drop)]
 pub struct ServiceHandler {
     /// The service.

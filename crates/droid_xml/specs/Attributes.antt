@@ -28,4 +28,5 @@ next_attribute bytes = do
 -- no name stands twice
 abbrev pub are_distinct : List Setting → Bool
 are_distinct [] = true
-are_distinct (setting ∷ settings) = not (list_any (λ other. bytes_eq setting.name other.name) settings) && are_distinct settings
+are_distinct (setting ∷ settings) =
+    not (list_any (λ other. bytes_eq setting.name other.name) settings) && are_distinct settings

@@ -1,5 +1,6 @@
 -- What stands at the front of bytes, and what stands after it. The grammar of XML is written in these words.
-use Rattle.std.specs.Prelude.{ℕ, ◌==◌, ◌||◌, Bool, if◌then◌else◌, nat_eq, nat_lt, List, [], ◌∷◌, length, drop, Option, Some, None}
+use Rattle.std.specs.Prelude.{ℕ, ◌==◌, ◌||◌, Bool, if◌then◌else◌, nat_eq, nat_lt, List, [], ◌∷◌, length, drop, Option}
+use Rattle.std.specs.Prelude.{Some, None}
 use Rattle.std.specs.List.{starts_with, prefix_len, position_or_len, before_first, after_first}
 
 -- the next step, if the one before it found something
@@ -37,7 +38,8 @@ is_byte wanted byte = byte == wanted
 -- the same for a text of one byte
 unfoldable pub cut_at_byte : ℕ → List ℕ → Option (List ℕ × List ℕ)
 cut_at_byte byte bytes =
-    only_if (nat_lt (position_or_len (is_byte byte) bytes) (length bytes)) (before_first (is_byte byte) bytes, after_first (is_byte byte) bytes)
+    only_if (nat_lt (position_or_len (is_byte byte) bytes) (length bytes))
+    (before_first (is_byte byte) bytes, after_first (is_byte byte) bytes)
 
 -- [3] S: space, tab, carriage return, line feed
 abbrev pub is_space : ℕ → Bool

@@ -1,5 +1,6 @@
 -- The XML declaration (XML 1.0, sections 2.8, 2.9 and 4.3.3). As expat does, it takes any word for the version.
-use Rattle.std.specs.Prelude.{ℕ, ◌==◌, ◌||◌, nat_lt, Bool, true, false, if◌then◌else◌, List, [], ◌∷◌, codes, Option, Some, None}
+use Rattle.std.specs.Prelude.{ℕ, ◌==◌, ◌||◌, nat_lt, Bool, true, false, if◌then◌else◌, List, [], ◌∷◌, codes, Option}
+use Rattle.std.specs.Prelude.{Some, None}
 use Rattle.std.specs.List.{list_all, prefix_len}
 use Rattle.std.specs.Str.{bytes_eq, str_to_ascii_lowercase}
 use Rattle.droid_xml.specs.Bytes.{◌>>=◌, only_if, choose, after, cut_at_byte, is_space, past_spaces, past_some_space}

@@ -1,6 +1,7 @@
 -- Documents: one root element with all else inside it or made of comments, instructions and white space
 -- (XML 1.0, sections 2.1, 2.8 and 3). There is no document type declaration, and elements are at most 16 deep.
-use Rattle.std.specs.Prelude.{◌≡◌, ◌⊎◌, ℕ, ◌+◌, ◌-◌, nat_eq, false, if◌then◌else◌, List, [], ◌∷◌, length, codes, count_by, Option, Some, None, Result, Ok, Err}
+use Rattle.std.specs.Prelude.{◌≡◌, ◌⊎◌, ℕ, ◌+◌, ◌-◌, nat_eq, false, if◌then◌else◌, List, [], ◌∷◌, length, codes}
+use Rattle.std.specs.Prelude.{count_by, Option, Some, None, Result, Ok, Err}
 use Rattle.droid_xml.specs.Bytes.{choose, after, is_byte}
 use Rattle.droid_xml.specs.Declarations.{declaration_at, declaration_start, is_readable}
 use Rattle.droid_xml.specs.Nestings.{Nesting, is_complete, nested}
@@ -53,7 +54,8 @@ at_end place = if is_complete place.nesting then Ok None else Err problems.NotWe
 
 -- the next piece and the place behind it, or None at the end
 unfoldable pub next_at : Place → Result (Option (Part × Place)) (Problem × ℕ)
-next_at place = at_line (line_of place.text place.rest) (if nat_eq (length place.rest) 0 then at_end place else moved place)
+next_at place =
+    at_line (line_of place.text place.rest) (if nat_eq (length place.rest) 0 then at_end place else moved place)
 
 -- what follows the byte order mark, which may be missing
 unfoldable pub past_mark : List ℕ → List ℕ
@@ -70,7 +72,8 @@ unfoldable pub prolog : List ℕ → Result (List ℕ) Problem
 prolog bytes = choose (declaration_start (past_mark bytes)) declared (Ok (past_mark bytes))
 
 abbrev pub placed : List ℕ → Result (List ℕ) Problem → Result Place Problem
-placed text found = found >>= (λ rest. Ok (record { text = text; rest = rest; nesting = record { names = []; has_root = false } }))
+placed text found =
+    found >>= (λ rest. Ok (record { text = text; rest = rest; nesting = record { names = []; has_root = false } }))
 
 -- where the pieces of a document begin
 unfoldable pub start_of : List ℕ → Result Place (Problem × ℕ)
@@ -87,7 +90,8 @@ IsRest place parts = (last : Place) × Run place parts last × (next_at last ≡
 
 -- behind these pieces comes this problem, in this line
 abbrev pub IsFaulty : Place → Problem → ℕ → Type 0
-IsFaulty place problem line = (parts : List Part) × (last : Place) × Run place parts last × (next_at last ≡ Err (problem, line))
+IsFaulty place problem line =
+    (parts : List Part) × (last : Place) × Run place parts last × (next_at last ≡ Err (problem, line))
 
 -- the document has these pieces, in order
 abbrev pub IsDocument : List ℕ → List Part → Type 0
@@ -95,4 +99,5 @@ IsDocument text parts = (first : Place) × (start_of text ≡ Ok first) × IsRes
 
 -- the document has this problem, in this line, as the first from the left
 abbrev pub HasProblem : List ℕ → Problem → ℕ → Type 0
-HasProblem text problem line = (start_of text ≡ Err (problem, line)) ⊎ ((first : Place) × (start_of text ≡ Ok first) × IsFaulty first problem line)
+HasProblem text problem line =
+    (start_of text ≡ Err (problem, line)) ⊎ ((first : Place) × (start_of text ≡ Ok first) × IsFaulty first problem line)

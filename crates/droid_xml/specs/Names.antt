@@ -23,4 +23,6 @@ is_name bytes = is_utf8 bytes && are_of_name (chars bytes)
 
 -- as many bytes of a name as stand at the front, where they are a name, and what follows
 unfoldable pub name_at : List ℕ → Option (List ℕ × List ℕ)
-name_at bytes = only_if (is_name (take (prefix_len is_name_byte bytes) bytes)) (take (prefix_len is_name_byte bytes) bytes, drop (prefix_len is_name_byte bytes) bytes)
+name_at bytes =
+    only_if (is_name (take (prefix_len is_name_byte bytes) bytes))
+    (take (prefix_len is_name_byte bytes) bytes, drop (prefix_len is_name_byte bytes) bytes)

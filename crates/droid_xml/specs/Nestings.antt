@@ -1,5 +1,6 @@
 -- Which elements are open, and where a piece may stand (XML 1.0, sections 2.1 and 3).
-use Rattle.std.specs.Prelude.{ℕ, ◌-◌, ◌&&◌, ◌||◌, ◌++◌, nat_eq, nat_lt, Bool, true, not, if◌then◌else◌, List, [], ◌∷◌, length, take, slice_index_or, Result, Ok, Err}
+use Rattle.std.specs.Prelude.{ℕ, ◌-◌, ◌&&◌, ◌||◌, ◌++◌, nat_eq, nat_lt, Bool, true, not, if◌then◌else◌, List, [], ◌∷◌}
+use Rattle.std.specs.Prelude.{length, take, slice_index_or, Result, Ok, Err}
 use Rattle.std.specs.List.{list_all}
 use Rattle.std.specs.Str.{bytes_eq}
 use Rattle.droid_xml.specs.Bytes.{is_space}
@@ -24,12 +25,14 @@ is_complete nesting = is_outside nesting && nesting.has_root
 abbrev pub begun : Nesting → Tag → Result Nesting Problem
 begun nesting tag =
     if is_complete nesting then Err problems.NotWellFormed
-    else if nat_lt (length nesting.names) 16 then Ok (record { names = if tag.is_empty then nesting.names else nesting.names ++ tag.name ∷ []; has_root = true })
+    else if nat_lt (length nesting.names) 16
+    then Ok (record { names = if tag.is_empty then nesting.names else nesting.names ++ tag.name ∷ []; has_root = true })
     else Err problems.TooDeep
 
 -- the innermost element has this name
 abbrev pub is_innermost : Nesting → List ℕ → Bool
-is_innermost nesting name = nat_lt 0 (length nesting.names) && bytes_eq (slice_index_or nesting.names (length nesting.names - 1) []) name
+is_innermost nesting name =
+    nat_lt 0 (length nesting.names) && bytes_eq (slice_index_or nesting.names (length nesting.names - 1) []) name
 
 -- the innermost element ends, by its name
 abbrev pub closed : Nesting → List ℕ → Result Nesting Problem

@@ -40,7 +40,9 @@ is_target name = not (bytes_eq (str_to_ascii_lowercase name) (codes "xml"))
 
 -- what stands between the target of a processing instruction and its end
 unfoldable pub instruction_text : List ℕ → Option (List ℕ × List ℕ)
-instruction_text bytes = choose (after (codes "?>") bytes) (λ rest. Some ([], rest)) (past_some_space bytes >>= (λ rest. cut_at (codes "?>") rest))
+instruction_text bytes =
+    choose (after (codes "?>") bytes) (λ rest. Some ([], rest))
+    (past_some_space bytes >>= (λ rest. cut_at (codes "?>") rest))
 
 -- [16] PI behind `<?`
 unfoldable pub instruction_at : List ℕ → Option (Part × List ℕ)

@@ -8,7 +8,8 @@ use Rattle.droid_xml.specs.Characters.{is_char}
 -- the number that these digits write behind the value so far, if each is a digit of the base
 abbrev pub more_digits : ℕ → ℕ → List ℕ → Option ℕ
 more_digits base value [] = Some value
-more_digits base value (b ∷ bytes) = if nat_lt (digit_value b) base then more_digits base (value * base + digit_value b) bytes else None
+more_digits base value (b ∷ bytes) =
+    if nat_lt (digit_value b) base then more_digits base (value * base + digit_value b) bytes else None
 
 -- a number of one digit or more
 abbrev pub number_in : ℕ → List ℕ → Option ℕ
@@ -34,7 +35,8 @@ entity name =
 
 -- the character that stands for what is between & and ;
 unfoldable pub referenced : List ℕ → Option ℕ
-referenced name = choose (after (codes "#x") name) (numbered 16) (choose (after (codes "#") name) (numbered 10) (entity name))
+referenced name =
+    choose (after (codes "#x") name) (numbered 16) (choose (after (codes "#") name) (numbered 10) (entity name))
 
 -- [67] Reference, behind its &
 unfoldable pub reference_at : List ℕ → Option (ℕ × List ℕ)

@@ -4,7 +4,9 @@ ghost use Rattle.std.specs.Prelude.{◌≡◌, ◌==◌};
 ghost use Rattle.std.specs.List.{list_all};
 ghost use Rattle.std.specs.Option.{option_map};
 ghost use Rattle.std.specs.Str.{bytes_eq};
-ghost use Rattle.droid_xml.specs.Declarations.{is_word_byte, word_by, word_at, declared_at, declared_or, is_yes_or_no, declaration_end, behind_version, declaration_at, declaration_start, are_ascii, is_readable};
+ghost use Rattle.droid_xml.specs.Declarations.{is_word_byte, word_by, word_at, declared_at, declared_or, is_yes_or_no};
+ghost use Rattle.droid_xml.specs.Declarations.{declaration_end, behind_version, declaration_at, declaration_start};
+ghost use Rattle.droid_xml.specs.Declarations.{are_ascii, is_readable};
 
 use crate::bytes::{after, cut_at_byte, past_some_space, past_spaces};
 

@@ -7,7 +7,8 @@ use std::alloc::{AllocError, Global};
 
 /// Makes each line end a line feed. Returns None where each is one already.
 pub fn with_line_feeds(alloc: Global, text: &[u8]) -> Result<Option<Vec<u8>>, AllocError>
-    ensures { IfOk result (λ made. MatchOption made (with_line_feeds text.now ≡ text.now) (λ bytes. bytes.items ≡ with_line_feeds text.now)) }
+    ensures { IfOk result (λ made.
+        MatchOption made (with_line_feeds text.now ≡ text.now) (λ bytes. bytes.items ≡ with_line_feeds text.now)) }
 {
     if !text.contains(&b'\r') {
         return Ok(None);

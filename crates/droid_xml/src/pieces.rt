@@ -4,7 +4,8 @@ ghost use Rattle.std.specs.Prelude.{◌≡◌};
 ghost use Rattle.std.specs.Option.{option_map};
 ghost use Rattle.droid_xml.specs.Documents.{piece_at, piece_behind_less};
 ghost use Rattle.droid_xml.specs.Outcomes.{Gives};
-ghost use Rattle.droid_xml.specs.Pieces.{Part, comment_at, data_at, instruction_text, instruction_at, end_tag_at, ends_text, text_len, text_at};
+ghost use Rattle.droid_xml.specs.Pieces.{Part, comment_at, data_at, instruction_text, instruction_at, end_tag_at};
+ghost use Rattle.droid_xml.specs.Pieces.{ends_text, text_len, text_at};
 ghost use Rattle.droid_xml.specs.Views.{part};
 
 use crate::bytes::{after, cut_at, past_some_space, past_spaces};

@@ -132,7 +132,8 @@ pub fn read(alloc: Global, text: &[u8]) -> Result<Vec<Piece<'_>>, Fault>
     // They are the pieces of the document.
     ensures found { IfOk result (λ pieces. IsDocument text.now (map part pieces.items)) }
     // It has no others, and where it has some, nothing but memory stands in the way.
-    ensures only { (parts : List Part) → IsDocument text.now parts → MatchResult result (λ pieces. map part pieces.items ≡ parts) IsMemory }
+    ensures only { (parts : List Part) → IsDocument text.now parts
+        → MatchResult result (λ pieces. map part pieces.items ≡ parts) IsMemory }
     // A problem is the first from the left.
     ensures fault { IfErr result (λ fault. IsFaultOf text.now fault) }
 {

@@ -32,7 +32,8 @@ fn numbered(base: u32, digits: &[u8]) -> Option<char>
 fn digit(base: u32, byte: u8) -> Option<u32>
     requires low { 2 ≤ base }
     requires high { base ≤ 16 }
-    ensures { MatchOption result (base ≤ digit_value byte) (λ digit. (digit_value byte < base) × (digit ≡ digit_value byte)) }
+    ensures { MatchOption result (base ≤ digit_value byte) (λ digit.
+        (digit_value byte < base) × (digit ≡ digit_value byte)) }
 {
     char::from(byte).to_digit(base)
 }

@@ -11,7 +11,7 @@ from hashlib import md5
 from lib.connections import SECONDS, connect, listen, read_exactly, read_frame, read_until_reset, reset
 from lib.connections import send_until_reset
 from lib.frames import FINISHED, HEADER, LIMITS, export, file, finish, folder, piece
-from lib.program import MORE_OPTIONS, Serve, run, run_plainly, send
+from lib.program import Serve, run, run_plainly, send
 from lib.rows import COLUMNS, IN_ROW
 from run_command import CREATE, FOLDER, MADE, MALFORMED, MOST_FRAMES, NODE, REPLIES, REQUESTS, SESSION, SHORT_FINISH
 from run_command import session_in
@@ -83,7 +83,6 @@ class ServeCommand(unittest.TestCase):
                 with self.assertRaises(ConnectionRefusedError):
                     connect(service.port)
 
-    @unittest.skipIf(MORE_OPTIONS, "with --at-once a connection has no such limit")
     def test_no_more_than_a_million_frames_of_a_connection_are_answered(self):
         """The next connection is served then, and may have as many."""
         with Serve(2) as service:

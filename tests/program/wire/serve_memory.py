@@ -91,29 +91,18 @@ class ServeMemory(unittest.TestCase):
             self.each_allocation_refused(version)
 
     def each_allocation_refused(self, version):
-        """There is no service, or it goes on: a refused allocation affects one connection alone."""
+        """There is no service, or no list of connections; or it goes on: a refused allocation affects one connection alone."""
         session, whole = requests_in(version), session_in(version)[1]
-        fronts, short = ({in_version(version, replies) for replies in rows} for rows in (FRONTS, SHORT))
-        without_profile = in_version(version, WITHOUT_PROFILE)
         found = set()
         for number in range(1, self.allocations(session, whole) + 1):
             with self.subTest(version=version, number=number):
                 status, said, came = served(session, REFUSE=number)
                 found.add((status, *came[:1]))
-                if not came:
-                    self.assertEqual(said, MEMORY)
-                    self.assertIn(status, (3, 6))
-                    continue
-                self.assertEqual((status, said, len(came)), (0, b"", CONNECTIONS))
-                others = [replies for replies in came if replies != whole]
-                self.assertLessEqual(len(others), 1, others)
-                if others:
-                    self.assertIn(others[0], fronts | short | {without_profile})
-        expected = {(3,), (6,), (0, b""), (0, without_profile)} | {(0, replies) for replies in fronts}
-        self.assertLessEqual(expected, found)
+                self.affects_one(version, status, said, came)
+        self.assertLessEqual({(3,), (6,), (0, b""), (0, in_version(version, WITHOUT_PROFILE))}, found)
 
     def test_each_allocation_refused_at_once(self):
-        """With --at-once there may also be no memory for the list of connections."""
+        """With more seats."""
         options = ["--at-once", "2"]
         session, whole = requests_in(2), session_in(2)[1]
         found = set()

@@ -1,10 +1,10 @@
-//! The example of the page README.md of droid_page.
+//! A page of HTML whose texts have markup.
 
-use droid_page::{Body, Page, Table};
+use droid_report::{Body, Page, Table};
 use std::test::Fail;
 
 #[test]
-fn example_of_the_page(rt: HostRuntime) -> Result<(), Fail> {
+fn no_text_becomes_markup(rt: HostRuntime) -> Result<(), Fail> {
     let alloc = rt.alloc();
     let tables: Vec<Table> = Vec::new(alloc);
     let body = Body {

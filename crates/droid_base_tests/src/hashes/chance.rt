@@ -68,8 +68,8 @@ impl Span {
     }
 }
 
-// How long the lanes' next pieces are: a third are empty, a third short, a third long. In every fourth turn one lane alone
-// has a piece.
+// How long the lanes' next pieces are: a third are empty, a third short, a third long. In every fourth turn one lane
+// alone has a piece.
 pub(crate) fn lens(seed: u64, turn: usize) -> [usize; 8] {
     let mut lens = [0usize; 8];
     let mut seed = seed;

@@ -1,7 +1,7 @@
 // The last test also passes if any one allocation is refused: tests/memory refuses each in turn.
-//! One profile with a folder, a file that is finished and one that is abandoned, by commands of both versions: all that the
-//! store shows after each. Out of memory: a call that fails for it leaves the rows as they were, and the same call again
-//! does its work.
+//! One profile with a folder, a file that is finished and one that is abandoned, by commands of both versions: all that
+//! the store shows after each. Out of memory: a call that fails for it leaves the rows as they were, and the same call
+//! again does its work.
 
 use crate::store::commands::commit;
 use crate::store::queries::{has_profile, has_reply, is_record, shows};
@@ -57,8 +57,8 @@ const U: Option<NodeState> = Some(NodeState::Unfinished);
 
 const F: Option<NodeState> = Some(NodeState::Finished);
 
-/// Before the first command, and after each: how many profiles and unfinished files there are, how many nodes the profile
-/// has accepted, and the state of each node.
+/// Before the first command, and after each: how many profiles and unfinished files there are, how many nodes the
+/// profile has accepted, and the state of each node.
 const SHOWN: [(u64, u64, u32, &[Option<NodeState>]); 8] = [
     (0, 0, 0, &[N, N, N]),
     (1, 0, 0, &[N, N, N]),
@@ -93,7 +93,9 @@ const NO_NAMES: [(u32, u32, &str); 12] = [
     (
         1,
         0,
-        "aaaaaaaaaaaaaaaaaaaaaaaaaaaaaaaaaaaaaaaaaaaaaaaaaaaaaaaaaaaaaaaaaaaaaaaaaaaaaaaaaaaaaaaaaaaaaaaaaaaaaaaaaaaaaaaaaaaaaaaaaaaaaaaaaaaaaaaaaaaaaaaaaaaaaaaaaaaaaaaaaaaaaaaaaaaaaaaaaaaaaaaaaaaaaaaaaaaaaaaaaaaaaaaaaaaaaaaaaaaaaaaaaaaaaaaaaaaaaaaaaaaaaaaaaaaaaaaa",
+        "aaaaaaaaaaaaaaaaaaaaaaaaaaaaaaaaaaaaaaaaaaaaaaaaaaaaaaaaaaaaaaaaaaaaaaaaaaaaaaaaaaaaaaaaaaaaaaaaaaaaaaaaaaaaaa\
+        aaaaaaaaaaaaaaaaaaaaaaaaaaaaaaaaaaaaaaaaaaaaaaaaaaaaaaaaaaaaaaaaaaaaaaaaaaaaaaaaaaaaaaaaaaaaaaaaaaaaaaaaaaaaaaa\
+        aaaaaaaaaaaaaaaaaaaaaaaaaaaaaaaaaaa",
     ),
     (0, 0, "in"),
     (2, 0, "in"),

@@ -1,5 +1,5 @@
-//! The store, and the trees of rows in it. Commands and what the store shows are rows of tables. What runs out of memory or
-//! isn't as it should be is false.
+//! The store, and the trees of rows in it. Commands and what the store shows are rows of tables. What runs out of
+//! memory or isn't as it should be is false.
 
 mod commands;
 mod entries;

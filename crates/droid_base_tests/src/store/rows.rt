@@ -16,8 +16,8 @@ pub const FINISHED: u8 = 132;
 
 pub const ABANDONED: u8 = 133;
 
-/// The options of a profile: how many bytes are searched, whether extensions also match formats with a signature, and the
-/// hash of its files.
+/// The options of a profile: how many bytes are searched, whether extensions also match formats with a signature, and
+/// the hash of its files.
 pub type Options = (u32, bool, HashKind);
 
 /// A node's profile, number and parent, when it was modified, its name and its path.
@@ -26,8 +26,8 @@ pub type Place<'a> = (u32, u32, u32, i64, &'a str, &'a str);
 /// The length of a file and of its pieces. Both are 0 for a folder; a file has a piece size above 0 here.
 pub type Sizes = (u64, u32);
 
-/// What is found in a file: the method, whether its extension contradicts it, the bytes of its hash, and its identifiers,
-/// separated by spaces.
+/// What is found in a file: the method, whether its extension contradicts it, the bytes of its hash, and its
+/// identifiers, separated by spaces.
 pub type Found<'a> = (Method, bool, &'a [u8], &'a str);
 
 /// What is shown of a folder, and of a file before it is finished.

@@ -1,33 +1,41 @@
 //! How the service answers a request: a kept reply again, and a new request by its kind.
 
 ghost use Rattle.std.specs.Prelude.{◌≡◌, ◌≢◌, ◌<◌, ◌^◌, ◌&&◌, not, ℕ, true, false, None, Some, IsTrue};
-ghost use Rattle.droid_core_requests.specs.Answering.{AnswersIn};
-ghost use Rattle.droid_core_requests.specs.Changes.{again, answered, is_row_of, stamped};
+ghost use Rattle.droid_core.specs.Answering.{AnswersIn};
+ghost use Rattle.droid_core.specs.Changes.{again, answered, is_row_of, stamped};
 ghost use Rattle.droid_core.specs.Handled.{IsHandled};
 ghost use Rattle.droid_core.specs.Recent.{AreKept, IsKeptRow};
-ghost use Rattle.droid_core_requests.specs.KeptTexts.{IsFor, IsLastText, is_followed};
-ghost use Rattle.droid_core_requests.specs.Standing.{IsIn};
-ghost use Rattle.droid_frame.specs.Replies.{HasReplySpelling, SpellsReply};
+ghost use Rattle.droid_core.specs.KeptTexts.{IsFor, IsLastText, is_followed};
+ghost use Rattle.droid_core.specs.HoldingsStanding.{IsIn};
+ghost use Rattle.droid_frame.specs.Replies.{HasReplySpelling, SpellsReply, is_refused};
 ghost use Rattle.droid_frame.specs.Versions.{IsVersion};
-ghost use Rattle.droid_frame.specs.types.filter.Filter.{Filter};
-ghost use Rattle.droid_frame.specs.types.refusal.Refusal.TheVariants.{NumberReused};
-ghost use Rattle.droid_frame.specs.types.reply.Reply.{Reply as ReplyValue};
-ghost use Rattle.droid_frame.specs.types.reply.Reply.TheVariants.{Refused};
-ghost use Rattle.droid_frame.specs.types.request.Request.{Request as RequestValue};
-ghost use Rattle.droid_frame.specs.types.request.Request.TheVariants as requests;
+ghost use Rattle.droid_frame.specs.declared.filter.Filter.{Filter};
+ghost use Rattle.droid_frame.specs.declared.refusal.Refusal.TheVariants.{NumberReused};
+ghost use Rattle.droid_frame.specs.declared.reply.Reply.{Reply as ReplyValue};
+ghost use Rattle.droid_frame.specs.declared.reply.Reply.TheVariants.{Refused};
+ghost use Rattle.droid_frame.specs.declared.request.Request.{Request as RequestValue};
+ghost use Rattle.droid_frame.specs.declared.request.Request.TheVariants as requests;
 ghost use Rattle.droid_core_spec.specs.Histories.{History};
 ghost use Rattle.droid_core_spec.specs.Judging.{judge};
 ghost use Rattle.droid_core_spec.specs.Setting.{Setting};
-ghost use Rattle.droid_core_spec.specs.Verdicts.{is_command, is_refused};
+ghost use Rattle.droid_core_spec.specs.Verdicts.{is_command};
 ghost use Rattle.droid_core_spec.specs.World.{World};
 ghost use Rattle.droid_store.specs.Rows.{reply_for};
 
+use crate::commands::abandonment::abandon;
+use crate::commands::completion::finish;
+use crate::commands::new_files::add_file;
+use crate::commands::new_folders::add_folder;
+use crate::commands::new_profiles::create_profile;
+use crate::commands::pieces::take_piece;
+use crate::holdings::Holdings;
+use crate::queries::export_parts::export;
+use crate::queries::kept_text::{KeptText, forget_text};
+use crate::queries::progress::status;
+use crate::replies::{answer_again, reply_from};
 use crate::service::Service;
 use crate::service::recent::RecentReplies;
-use droid_core_requests::{
-    Holdings, KeptText, Stamp, abandon, add_file, add_folder, answer_again, create_profile, export,
-    finish, forget_text, reply_from, status, take_piece,
-};
+use crate::stamps::Stamp;
 use droid_frame::{Refusal, Reply, Request};
 use droid_store::Entry;
 
@@ -40,8 +48,8 @@ pub struct Outcome {
     pub is_new: bool,
 }
 
-/// Answers the request of a frame. Looks for a kept reply under its number, first in the cache and then in the store, and
-/// judges the request if there is none.
+/// Answers the request of a frame. Looks for a kept reply under its number, first in the cache and then in the store,
+/// and judges the request if there is none.
 pub fn answer(service: &mut Service, stamp: Stamp, request: Request) -> Outcome
     requires small { stamp.number < 2 ^ 63 }
     requires version { IsVersion stamp.version }
@@ -70,13 +78,14 @@ pub fn answer(service: &mut Service, stamp: Stamp, request: Request) -> Outcome
     }
 }
 
-/// Answers a request under whose number the store keeps this row, and caches the row. If there is no memory to cache it,
-/// the reply is the same: another version or mark is refused as such, and only a Finished takes memory to be read.
+/// Answers a request under whose number the store keeps this row, and caches the row. If there is no memory to cache
+/// it, the reply is the same: another version or mark is refused as such, and only a Finished takes memory to be read.
 fn answer_kept(service: &mut Service, stamp: Stamp, row: Entry) -> Reply
     requires found { reply_for stamp.client stamp.number service.old.holdings.store ≡ Some row }
     ensures answers { (request : RequestValue) → IsHandled stamp request service.old service.new result false }
     ensures reused { is_row_of row stamp ≡ false → result ≡ Refused NumberReused }
-    ensures exact { (kept : ReplyValue) → SpellsReply row.version row.kind row.body kept → row.kind ≢ 132 → result ≡ again row stamp kept }
+    ensures exact { (kept : ReplyValue) → SpellsReply row.version row.kind row.body kept → row.kind ≢ 132
+        → result ≡ again row stamp kept }
 {
     service.recent.put_copy(stamp.client, stamp.number, &row);
     answer_again(service.holdings.alloc, row, stamp)
@@ -103,8 +112,8 @@ fn answer_new(service: &mut Service, stamp: Stamp, request: Request) -> Outcome
     Outcome { reply, is_new }
 }
 
-/// Caches the reply to an accepted command, and forgets the text of the last export, which the command has made out of date.
-/// Does nothing after a query or a refusal. If there is no memory to cache the reply, nothing is reported.
+/// Caches the reply to an accepted command, and forgets the text of the last export, which the command has made out of
+/// date. Does nothing after a query or a refusal. If there is no memory to cache the reply, nothing is reported.
 fn cache_reply(
     recent: &mut RecentReplies,
     last: &mut Option<KeptText>,
@@ -115,9 +124,11 @@ fn cache_reply(
     requires version { IsVersion stamp.version }
     requires spelled { HasReplySpelling stamp.version reply.now }
     ensures kept { (history : History) → AreKept history recent.old.rows.entries
-        → (commands ≡ true → is_refused reply.now ≡ false → IsKeptRow history (stamp.client, stamp.number) (stamped stamp reply.now))
+        → (commands ≡ true → is_refused reply.now ≡ false
+        → IsKeptRow history (stamp.client, stamp.number) (stamped stamp reply.now))
         → AreKept history recent.new.rows.entries }
-    ensures still { (setting : Setting) (world : World) → IsLastText setting world last.old → IsLastText setting world last.new }
+    ensures still { (setting : Setting) (world : World) → IsLastText setting world last.old
+        → IsLastText setting world last.new }
     ensures forgotten { commands ≡ true → is_refused reply.now ≡ false → last.new ≡ None }
     ensures query { commands ≡ false → last.new ≡ last.old }
     ensures refused { is_refused reply.now ≡ true → last.new ≡ last.old }
@@ -126,7 +137,7 @@ fn cache_reply(
     if !commands {
         return;
     }
-    if refuses(reply) {
+    if reply.is_refused() {
         return;
     }
     forget_text(last);
@@ -140,18 +151,11 @@ fn asks_command(request: &Request) -> bool
     !matches!(request, Request::Status { .. } | Request::Export { .. })
 }
 
-/// Whether a reply is a refusal.
-fn refuses(reply: &Reply) -> bool
-    ensures { result ≡ is_refused reply.now }
-{
-    matches!(reply, Reply::Refused(_))
-}
-
 /// Whether a request is a command that was accepted.
 fn is_accepted(commands: bool, reply: &Reply) -> bool
     ensures { result ≡ (commands && not (is_refused reply.now)) }
 {
-    commands && !refuses(reply)
+    commands && !reply.is_refused()
 }
 
 /// Judges a request under a new number, and carries out an accepted command. Keeps the text of an export that leaves
@@ -165,9 +169,12 @@ fn apply(
     requires new { reply_for stamp.client stamp.number holdings.old.store ≡ None }
     requires small { stamp.number < 2 ^ 63 }
     requires version { IsVersion stamp.version }
-    ensures answers { AnswersIn (λ setting world. IsIn setting world holdings.old × IsLastText setting world last.old) (λ setting world. judge setting world stamp.version request) stamp holdings.old holdings.new (answered result) }
-    ensures last { (setting : Setting) (world : World) → IsIn setting world holdings.old → IsLastText setting world last.old → IsLastText setting world last.new }
-    ensures text { (profile from max : ℕ) (filter : Filter) → request ≡ requests.Export profile from max filter → IsTrue (is_followed from max (answered result)) → IsFor profile filter last.new }
+    ensures answers { AnswersIn (λ setting world. IsIn setting world holdings.old × IsLastText setting world last.old)
+        (λ setting world. judge setting world stamp.version request) stamp holdings.old holdings.new (answered result) }
+    ensures last { (setting : Setting) (world : World) → IsIn setting world holdings.old
+        → IsLastText setting world last.old → IsLastText setting world last.new }
+    ensures text { (profile from max : ℕ) (filter : Filter) → request ≡ requests.Export profile from max filter
+        → IsTrue (is_followed from max (answered result)) → IsFor profile filter last.new }
 {
     match request {
         Request::CreateProfile {

@@ -5,11 +5,12 @@ ghost use Rattle.std.specs.NonZero.{non_zero_usize_get};
 ghost use Rattle.lru.specs.LruCache.{lru_cache, promoted};
 ghost use Rattle.droid_core.specs.Recent.{AreKept, IsKeptRow, is_cached_in, is_same};
 ghost use Rattle.droid_core_spec.specs.Histories.{History};
-ghost use Rattle.droid_core_requests.specs.Changes.{stamped};
+ghost use Rattle.droid_core.specs.Changes.{stamped};
 ghost use Rattle.droid_frame.specs.Replies.{HasReplySpelling};
 ghost use Rattle.droid_frame.specs.Versions.{IsVersion};
 
-use droid_core_requests::{Stamp, entry_of};
+use crate::replies::entry_of;
+use crate::stamps::Stamp;
 use droid_frame::Reply;
 use droid_store::Entry;
 use lru::LruCache;
@@ -51,12 +52,15 @@ impl RecentReplies {
         self.rows.contains(&(client, number))
     }
 
-    /// Returns a copy of the row of this client and number, or `None` if it is not cached or there is no memory for a copy.
-    /// A look-up makes the row the most recently used.
+    /// Returns a copy of the row of this client and number, or `None` if it is not cached or there is no memory for a
+    /// copy. A look-up makes the row the most recently used.
     pub fn find(&mut self, client: u32, number: u64) -> Option<Entry>
-        ensures found { (history : History) → AreKept history self.old.rows.entries → IfSome result (λ row. IsKeptRow history (client, number) row) }
-        ensures kept { (history : History) → AreKept history self.old.rows.entries → AreKept history self.new.rows.entries }
-        ensures used { self.new.rows ≡ lru_cache (promoted (is_same (client, number)) self.old.rows.entries) self.old.rows.cap }
+        ensures found { (history : History) → AreKept history self.old.rows.entries
+            → IfSome result (λ row. IsKeptRow history (client, number) row) }
+        ensures kept { (history : History) → AreKept history self.old.rows.entries
+            → AreKept history self.new.rows.entries }
+        ensures used { self.new.rows
+            ≡ lru_cache (promoted (is_same (client, number)) self.old.rows.entries) self.old.rows.cap }
     {
         let whose = (client, number);
         let _ = self.rows.promote(&whose);
@@ -68,7 +72,8 @@ impl RecentReplies {
     pub fn put_reply(&mut self, stamp: Stamp, reply: &Reply)
         requires version { IsVersion stamp.version }
         requires spelled { HasReplySpelling stamp.version reply.now }
-        ensures kept { (history : History) → AreKept history self.old.rows.entries → IsKeptRow history (stamp.client, stamp.number) (stamped stamp reply.now)
+        ensures kept { (history : History) → AreKept history self.old.rows.entries
+            → IsKeptRow history (stamp.client, stamp.number) (stamped stamp reply.now)
             → AreKept history self.new.rows.entries }
         ensures room { self.new.rows.cap ≡ self.old.rows.cap }
     {
@@ -80,7 +85,8 @@ impl RecentReplies {
 
     /// Caches a copy of the row of this client and number.
     pub fn put_copy(&mut self, client: u32, number: u64, row: &Entry)
-        ensures kept { (history : History) → AreKept history self.old.rows.entries → IsKeptRow history (client, number) row.now
+        ensures kept { (history : History) → AreKept history self.old.rows.entries
+            → IsKeptRow history (client, number) row.now
             → AreKept history self.new.rows.entries }
         ensures room { self.new.rows.cap ≡ self.old.rows.cap }
     {
@@ -92,7 +98,8 @@ impl RecentReplies {
 
     /// Caches a row, and drops the one that was used least recently if there is no place left.
     fn put(&mut self, client: u32, number: u64, row: Entry)
-        ensures kept { (history : History) → AreKept history self.old.rows.entries → IsKeptRow history (client, number) row
+        ensures kept { (history : History) → AreKept history self.old.rows.entries
+            → IsKeptRow history (client, number) row
             → AreKept history self.new.rows.entries }
         ensures room { self.new.rows.cap ≡ self.old.rows.cap }
     {

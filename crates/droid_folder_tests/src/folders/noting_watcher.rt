@@ -1,6 +1,6 @@
 //! A watcher that notes what it learns.
 
-use droid_desk_verify::ClearLine;
+use droid_cmd_verify::ClearLine;
 use droid_frame::Reply;
 use droid_tree::{Skipped, Watcher};
 use std::alloc::Global;

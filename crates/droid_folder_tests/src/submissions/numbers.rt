@@ -1,7 +1,7 @@
-//! The numbers of requests that no run of `submit` sends, against numbers that Python computed, with its hashlib, from the
-//! definition. tests/program/submissions/submit_known_numbers.py has those of all others, which the program sends.
+//! The numbers of requests that no run of `submit` sends, against numbers that Python computed, with its hashlib, from
+//! the definition. tests/program/submissions/submit_known_numbers.py has those of all others, which the program sends.
 
-use droid_tree_numbers::number_of;
+use droid_remote::number_of;
 
 /// The name of the submission.
 const NAME: &str = "/home/ann/Übersicht";
@@ -60,9 +60,9 @@ fn numbers_are_those_that_python_computes(rt: HostRuntime) {
     assert!(rt; have_their_numbers());
 }
 
-/// The example of crates/droid_tree_numbers/README.md.
+/// The example of docs/SERVICE.md.
 #[test]
-fn example_of_the_page(rt: HostRuntime) {
+fn number_of_a_finish(rt: HostRuntime) {
     // Finish of file 1 in profile 1 has kind 5: 5 · 2^43 + 1 · 2^20.
     let number = number_of("/home/ann/letters", 0, 5, b"\0\0\0\x01\0\0\0\x01");
     assert_eq!(rt; number, Some(43_980_466_159_616));

@@ -3,8 +3,8 @@
 use droid_core::{Limits, Service};
 use droid_frame::{Frame, reply_body};
 use droid_pronom::Registry;
+use droid_remote::{Broken, Connection};
 use droid_testing::SAMPLE;
-use droid_tree_connection::{Broken, Connection};
 use std::alloc::Global;
 use std::collections::VecDeque;
 

@@ -36,7 +36,9 @@ impl Tree for PageTree {
         wanted: u32,
         bytes: &mut Vec<u8>,
     ) -> Result<(), TreeFault>
-        ensures came { OnOk result (BytesCame (λ old observed new. Unit {0}) self.old _path.now entry.now from wanted bytes.old.items bytes.new.items self.new) }
+        ensures came { OnOk result
+            (BytesCame (λ old observed new. Unit {0}) self.old _path.now entry.now from wanted bytes.old.items
+            bytes.new.items self.new) }
         ensures unread { IfErr result (λ fault. fault ≡ faults.Unreadable → Unit {0}) }
         ensures exchanged { IfErr result (λ fault. fault ≡ faults.Changed → Unit {0}) }
     {

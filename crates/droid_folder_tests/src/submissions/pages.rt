@@ -1,15 +1,15 @@
-//! The examples of the pages of `droid_hash`, `droid_tree`, `droid_tree_upload`, `droid_tree_submission` and
-//! `droid_tree_remote`. What they work with is lent to them.
+//! The examples of crates/droid_upload/README.md and crates/droid_remote/README.md, and small runs of what they stand
+//! on: hashes, a tree, one file. The tree and the service of these runs are in memory.
 
 use crate::submissions::page_service::PageService;
 use crate::submissions::page_tree::{PageTree, Unwatched, entry_of};
-use droid_frame::{HashKind, HashValue, Text};
-use droid_hash::{RunningHash, RunningPuids};
+use droid_frame::{HashKind, HashValue, RunningHash, Text};
+use droid_hash::RunningPuids;
+use droid_remote::{Sender, export, submit};
 use droid_tree::{FolderEntry, count, name_of, read_folder};
-use droid_tree_remote::{Sender, export, submit};
-use droid_tree_submission::{Options, submit_tree};
-use droid_tree_upload::{
-    Destination, SubmissionFault, Upload, Uploaded, create_profile, upload_file,
+use droid_upload::{
+    Destination, Options, SubmissionFault, Upload, Uploaded, create_profile, submit_tree,
+    upload_file,
 };
 use std::alloc::Global;
 use std::test::Fail;
@@ -27,9 +27,15 @@ const DIGEST_OF_TWO: [u8; 32] = [
 
 /// What the service exports of the tree, by the model in tests/program/model.
 const TEXT: &str =
-    "\"ID\",\"PARENT_ID\",\"URI\",\"FILE_PATH\",\"NAME\",\"METHOD\",\"STATUS\",\"SIZE\",\"TYPE\",\"EXT\",\"LAST_MODIFIED\",\"EXTENSION_MISMATCH\",\"SHA256_HASH\",\"FORMAT_COUNT\",\"PUID\",\"MIME_TYPE\",\"FORMAT_NAME\",\"FORMAT_VERSION\"\n\
-\"1\",\"\",\"file:/a.txt\",\"/a.txt\",\"a.txt\",\"Extension\",\"Done\",\"5\",\"File\",\"txt\",\"1970-01-01T00:00:00\",\"false\",\"185f8db32271fe25f561a6fc938b2e264306ec304eda518007d1764826381969\",\"1\",\"dev/4\",\"text/plain\",\"Plain\",\"\"\n\
-\"2\",\"\",\"file:/b.txt\",\"/b.txt\",\"b.txt\",\"Extension\",\"Done\",\"3\",\"File\",\"txt\",\"1970-01-01T00:00:00\",\"false\",\"ba7816bf8f01cfea414140de5dae2223b00361a396177a9cb410ff61f20015ad\",\"1\",\"dev/4\",\"text/plain\",\"Plain\",\"\"\n";
+    "\"ID\",\"PARENT_ID\",\"URI\",\"FILE_PATH\",\"NAME\",\"METHOD\",\"STATUS\",\"SIZE\",\"TYPE\",\"EXT\",\"\
+    LAST_MODIFIED\",\"EXTENSION_MISMATCH\",\"SHA256_HASH\",\"FORMAT_COUNT\",\"PUID\",\"MIME_TYPE\",\"FORMAT_NAME\",\"\
+    FORMAT_VERSION\"\n\
+\"1\",\"\",\"file:/a.txt\",\"/a.txt\",\"a.txt\",\"Extension\",\"Done\",\"5\",\"File\",\"txt\",\"1970-01-01T00:00:00\",\
+\"false\",\"185f8db32271fe25f561a6fc938b2e264306ec304eda518007d1764826381969\",\"1\",\"dev/4\",\"text/plain\",\"\
+Plain\",\"\"\n\
+\"2\",\"\",\"file:/b.txt\",\"/b.txt\",\"b.txt\",\"Extension\",\"Done\",\"3\",\"File\",\"txt\",\"1970-01-01T00:00:00\",\
+\"false\",\"ba7816bf8f01cfea414140de5dae2223b00361a396177a9cb410ff61f20015ad\",\"1\",\"dev/4\",\"text/plain\",\"\
+Plain\",\"\"\n";
 
 const OPTIONS: Options = Options {
     scan_limit: 65_536,
@@ -112,33 +118,29 @@ fn upload(rt: HostRuntime) -> Result<(), Fail> {
     Ok(())
 }
 
-/// Returns whether all of the tree is submitted.
-fn submits(upload: &mut Run) -> Result<bool, SubmissionFault> {
-    let submitted = submit_tree(upload, OPTIONS)?;
-    Ok(submitted.whole && submitted.nodes.len() == 2)
-}
-
 #[test]
-fn submission(rt: HostRuntime) {
-    let mut upload = run_over(rt.alloc());
-    let submitted = submits(&mut upload);
-    assert!(rt; matches!(submitted, Ok(true)));
-}
-
-/// Returns whether all of the tree is submitted, and what is written is one export.
-fn exports(upload: &mut Run, csv: &mut Vec<u8>) -> bool {
-    let Ok(submitted) = submit(upload, OPTIONS) else {
-        return false;
+fn example_of_uploads(rt: HostRuntime) -> Result<(), Fail> {
+    let alloc = rt.alloc();
+    // a tree of two files, and the client of a service in memory
+    let mut upload = run_over(alloc);
+    let Ok(submitted) = submit_tree(&mut upload, OPTIONS) else {
+        return Err("the tree was not submitted".into());
     };
-    let is_one = export(&mut upload.client, submitted.profile, csv);
-    submitted.whole & matches!(is_one, Ok(true))
+    assert!(rt; submitted.whole & (submitted.nodes.len() == 2));
+    Ok(())
 }
 
 #[test]
-fn remote(rt: HostRuntime) {
+fn example_of_submissions(rt: HostRuntime) -> Result<(), Fail> {
     let alloc = rt.alloc();
     let mut csv = Vec::new(alloc);
+    // a tree of two files, and a `Sender` over a connection to a service in memory
     let mut upload = run_over(alloc);
-    let whole = exports(&mut upload, &mut csv);
-    assert!(rt; whole & (csv.as_slice() == TEXT.as_bytes()));
+    let Ok(submitted) = submit(&mut upload, OPTIONS) else {
+        return Err("the tree was not submitted".into());
+    };
+    let is_one = export(&mut upload.client, submitted.profile, &mut csv);
+    assert!(rt; submitted.whole & matches!(is_one, Ok(true)));
+    assert!(rt; csv.as_slice() == TEXT.as_bytes());
+    Ok(())
 }

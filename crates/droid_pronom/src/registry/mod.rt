@@ -1,10 +1,12 @@
 //! The registry.
 
-ghost use Rattle.std.specs.Prelude.{◌≡◌, ◌≢◌, ℕ, List, ◌+◌, ◌-◌, ◌<◌, ◌≤◌, ◌++◌, ◌∷◌, [], length, take, drop, min, IsTrue, IfSome, option_map, Some, None, Err, IfOk, IsErrOf, OnOk, OnErr, slice_get, true, ◌↔◌};
+ghost use Rattle.std.specs.Prelude.{◌≡◌, ◌≢◌, ℕ, List, ◌+◌, ◌-◌, ◌<◌, ◌≤◌, ◌++◌, ◌∷◌, [], length, take, drop, min};
+ghost use Rattle.std.specs.Prelude.{IsTrue, IfSome, option_map, Some, None, Err, IfOk, IsErrOf, OnOk, OnErr, slice_get};
+ghost use Rattle.std.specs.Prelude.{true, ◌↔◌};
 ghost use Rattle.std.specs.Option.{option_copied};
 ghost use Rattle.std.specs.List.{AllByRecursion};
-ghost use Rattle.droid_pronom_formats.specs.Found.{IsFound};
-ghost use Rattle.droid_pronom_formats.specs.RegistryFields.{is_puid};
+ghost use Rattle.droid_pronom.specs.Found.{IsFound};
+ghost use Rattle.droid_pronom.specs.RegistryFields.{is_puid};
 ghost use Rattle.droid_pronom.specs.RegistryFile.{File};
 ghost use Rattle.droid_frame.specs.Seen.{IsSound, ReportsFault};
 
@@ -14,13 +16,15 @@ pub mod fault;
 mod record_kind;
 mod row_text;
 
+use crate::format::Format;
+use crate::identification::Found;
 use crate::registry::csv_error::csv_fault;
 use crate::registry::draft::Draft;
 use crate::registry::fault::RegistryFault;
+use crate::rows::{ByteSequence, ListedExtension, Priority, Signature};
 use crate::windows::identify_windows;
 use csv::ReaderBuilder;
 use droid_frame::{InputFault, SteadyRead, read_to_end};
-use droid_pronom_formats::{ByteSequence, Format, Found, ListedExtension, Priority, Signature};
 use std::alloc::{AllocError, Global};
 use std::collections::BTreeMap;
 use std::marker::Model;
@@ -59,7 +63,7 @@ impl Drop for Registry {
 }
 
 impl Model for Registry {
-    ghost use Rattle.droid_pronom_formats.specs.Registry.{Contents};
+    ghost use Rattle.droid_pronom.specs.Registry.{Contents};
 
     ghost Value = { Contents };
 
@@ -71,8 +75,9 @@ impl Model for Registry {
 }
 
 impl Registry {
-    ghost use Rattle.droid_pronom_formats.specs.Registry.{nothing, place_of, IsRegistry, IsSigned};
-    ghost use Rattle.droid_pronom.specs.RegistryGrowth.{with_format, with_extension, with_priority, with_signature, with_sequence};
+    ghost use Rattle.droid_pronom.specs.Registry.{nothing, place_of, IsRegistry, IsSigned};
+    ghost use Rattle.droid_pronom.specs.RegistryGrowth.{with_format, with_extension, with_priority, with_signature};
+    ghost use Rattle.droid_pronom.specs.RegistryGrowth.{with_sequence};
 
     /// Reads a registry file: CSV as the kit's `csv` reads it with its default settings, without a header.
     ///
@@ -110,9 +115,11 @@ impl Registry {
     /// or was interrupted more than 64 times. All other errors are those of [`Registry::parse`].
     pub fn read<R: SteadyRead>(alloc: Global, reader: &mut R) -> Result<Registry, RegistryFault>
         // If the bytes of the reader are known, the result is that of these bytes.
-        ensures reads { (bytes : List ℕ) → R.remaining reader.old ≡ Some bytes → result ≢ Err RegistryFault.Memory → result ≢ Err RegistryFault.Read → File bytes result }
+        ensures reads { (bytes : List ℕ) → R.remaining reader.old ≡ Some bytes → result ≢ Err RegistryFault.Memory
+            → result ≢ Err RegistryFault.Read → File bytes result }
         // `Read` comes exactly if the reader failed or was interrupted for the 65th time.
-        ensures fault { IsSound (R.seen reader.old) → ReportsFault (R.seen reader.old).interruptions (R.seen reader.new) (IsErrOf result RegistryFault.Read) }
+        ensures fault { IsSound (R.seen reader.old)
+            → ReportsFault (R.seen reader.old).interruptions (R.seen reader.new) (IsErrOf result RegistryFault.Read) }
     {
         match read_to_end(alloc, reader, BYTES_LIMIT) {
             Ok(bytes) => Registry::parse(alloc, bytes.as_slice()),
@@ -162,7 +169,8 @@ impl Registry {
     pub fn by_puid(&self, puid: &str) -> Option<u32>
         ensures place { result ≡ place_of puid.now self.now.formats }
         // The format at that place has the PUID.
-        ensures found { IfSome result (λ place. option_map (λ format. format.puid) (slice_get self.now.formats place) ≡ Some puid.now) }
+        ensures found { IfSome result (λ place.
+            option_map (λ format. format.puid) (slice_get self.now.formats place) ≡ Some puid.now) }
         ensures below { IfSome result (λ place. place < length self.now.formats) }
     {
         self.places.get(puid).copied()
@@ -190,7 +198,10 @@ impl Registry {
         requires inside { length first.now ≤ size }
         // This is what is found in every file of that size that begins and ends with these bytes, under every
         // scan limit for which the windows have this length.
-        ensures found { IfOk result (λ found. (file : List ℕ) (scan_limit : ℕ) → length file ≡ size → min scan_limit size ≡ length first.now → take (length first.now) file ≡ first.now → drop (size - length first.now) file ≡ last.now → IsFound self.now name.now file scan_limit match_all found) }
+        ensures found { IfOk result (λ found.
+            (file : List ℕ) (scan_limit : ℕ) → length file ≡ size → min scan_limit size ≡ length first.now
+            → take (length first.now) file ≡ first.now → drop (size - length first.now) file ≡ last.now
+            → IsFound self.now name.now file scan_limit match_all found) }
         ensures few { IfOk result (λ found. length found.puids ≤ 4096) }
         ensures puids { IfOk result (λ found. AllByRecursion (λ puid. IsTrue (is_puid puid)) found.puids) }
     {

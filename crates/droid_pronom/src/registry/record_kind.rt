@@ -1,7 +1,7 @@
 //! The kinds of records.
 
 ghost use Rattle.std.specs.Prelude.{◌≡◌, option_map};
-ghost use Rattle.droid_pronom_formats.specs.RegistryFields as field;
+ghost use Rattle.droid_pronom.specs.RegistryFields as field;
 ghost use Rattle.droid_pronom.specs.RegistryCalls.{kind_is};
 
 /// The kind of a record. The letter is the record's first field.

@@ -6,7 +6,7 @@ ghost use Rattle.droid_pronom.specs.RegistryCalls.{ReportsPattern};
 
 use crate::registry::fault::{Fault, Refusal};
 use csv::StringRecord;
-use droid_pronom_pattern::{Pattern, PatternFault};
+use droid_pattern::{Pattern, PatternFault};
 use std::alloc::Global;
 
 /// The six texts of a record, in order.
@@ -24,7 +24,9 @@ impl<'a> RowText<'a> {
     /// Borrows the six texts of a record.
     pub(crate) fn of(row: &'a StringRecord) -> RowText<'a>
         requires { length (fields_of row.now) ≡ 6 }
-        ensures { fields_of row.now ≡ result.kind.now ∷ result.puid.now ∷ result.second.now ∷ result.third.now ∷ result.fourth.now ∷ result.fifth.now ∷ [] }
+        ensures { fields_of row.now
+            ≡ result.kind.now ∷ result.puid.now ∷ result.second.now ∷ result.third.now ∷ result.fourth.now
+            ∷ result.fifth.now ∷ [] }
     {
         RowText {
             kind: row.get(0).unwrap(),

@@ -6,8 +6,8 @@ use droid_pronom::Registry;
 use droid_testing::SAMPLE;
 use std::alloc::Global;
 
-/// How many places there are, the numbers that are used in turn, which of them are cached then, and which are not. A number
-/// that is used first is that of the next folder.
+/// How many places there are, the numbers that are used in turn, which of them are cached then, and which are not. A
+/// number that is used first is that of the next folder.
 type Use<'a> = (usize, &'a [u64], &'a [u64], &'a [u64]);
 
 const USED: &[Use] = &[
@@ -76,8 +76,8 @@ fn cached(rt: HostRuntime) {
     }
 }
 
-/// What is asked after a profile and 256 folders: the first of all again, the last, the first folder, and another profile
-/// under the first number.
+/// What is asked after a profile and 256 folders: the first of all again, the last, the first folder, and another
+/// profile under the first number.
 const LATER: [Step; 4] = [
     CREATE,
     ("1 257 folder 1 0 0 f257", "node 256\n"),

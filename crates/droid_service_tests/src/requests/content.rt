@@ -1,8 +1,7 @@
 //! How many bytes of content a service keeps of a file, and frames of versions that no stream carries.
 
 use crate::requests::steps::{CREATE, LARGEST, Step, is_answered, printed, service};
-use droid_core::Service;
-use droid_core_files::IdentifyFault;
+use droid_core::{IdentifyFault, Service};
 use droid_frame::{Blob, Reply, Request, request_frame};
 use droid_testing::frame;
 use std::alloc::Global;

@@ -52,8 +52,8 @@ const MORE: Step = ("3 100 file 1 0 0 4 4 x", "refused 17 unfinished\n");
 
 const MORE_2: Step = ("3 100 file 2 0 0 0 1 x", "refused 17 unfinished\n");
 
-/// The limits of profiles, of nodes and of unfinished files, and the steps. The last limit is that of the whole service: in each
-/// of two profiles one more is too many.
+/// The limits of profiles, of nodes and of unfinished files, and the steps. The last limit is that of the whole
+/// service: in each of two profiles one more is too many.
 const LIMITED: [(u32, u32, u32, &[Step]); 8] = [
     (64, 1, 64, ONE_FOLDER),
     (64, 1, 64, ONE_ABANDONED),
@@ -70,8 +70,8 @@ const LIMITED: [(u32, u32, u32, &[Step]); 8] = [
     ),
 ];
 
-/// Whether a service that caches one reply and one that caches 256 answer each step so, at once and once more; and then all
-/// steps alike, and those of accepted commands as before.
+/// Whether a service that caches one reply and one that caches 256 answer each step so, at once and once more; and then
+/// all steps alike, and those of accepted commands as before.
 fn are_answered(alloc: Global, limits: Limits, steps: &[Step<'_>]) -> Option<bool> {
     let mut few = service(alloc, limits, 1)?;
     let mut many = service(alloc, limits, 256)?;

@@ -9,7 +9,8 @@ use std::alloc::Global;
 
 const FINISHED: &str = "finished Signature false f96b697d7cb7938d525a2f31aaf161d0 dev/1,dev/3\n";
 
-/// The pieces of a file out of order, how far it is, its end, what comes again, a file that is abandoned, and an export.
+/// The pieces of a file out of order, how far it is, its end, what comes again, a file that is abandoned, and an
+/// export.
 const OUT_OF_ORDER: &[Step] = &[
     CREATE,
     ("1 2 file 1 0 0 14 4 m.msg", "node 1\n"),
@@ -49,7 +50,8 @@ const WORKED_ROW: &[Step] = &[
     ),
 ];
 
-/// Whether each step is answered as it should be, at once or when it comes again. `None` if the test itself had no memory.
+/// Whether each step is answered as it should be, at once or when it comes again. `None` if the test itself had no
+/// memory.
 fn passes(alloc: Global, places: usize, steps: &[Step<'_>]) -> Option<bool> {
     let mut service = service(alloc, LARGEST, places)?;
     let mut right = true;
@@ -92,8 +94,8 @@ const FOLDER: &str = "part 2 296 1\n\"";
 
 const NOTHING: &str = "refused 3\n";
 
-/// What a run prints, and what is shown then: if no request is refused for memory, if one is, and if there is no memory for
-/// the list of replies, so that no request was handled.
+/// What a run prints, and what is shown then: if no request is refused for memory, if one is, and if there is no memory
+/// for the list of replies, so that no request was handled.
 const RUNS: [(&str, &str); 6] = [
     ("made 1\nnode 1\nnode 1\nrefused 2\n", FOLDER),
     ("refused 18\nrefused 3\nrefused 3\nrefused 3\n", NOTHING),
@@ -103,8 +105,8 @@ const RUNS: [(&str, &str); 6] = [
     ("", NOTHING),
 ];
 
-/// Runs requests in a version: a profile, a folder, the same again, another folder under its number. Returns at which place of
-/// `RUNS` stands what comes of it, or past its end.
+/// Runs requests in a version: a profile, a folder, the same again, another folder under its number. Returns at which
+/// place of `RUNS` stands what comes of it, or past its end.
 fn place_of_run(alloc: Global, service: &mut Service, is_second: bool) -> Option<usize> {
     let lines = if is_second {
         [

@@ -7,8 +7,8 @@ use std::alloc::Global;
 
 const CREATE: &str = "1 0 create 65536 0";
 
-/// Whether the service answers a list of `count` requests at once, each as it would be answered alone: the first makes a profile, the
-/// others a folder each, under their places as numbers.
+/// Whether the service answers a list of `count` requests at once, each as it would be answered alone: the first makes
+/// a profile, the others a folder each, under their places as numbers.
 fn answers_all(alloc: Global, service: &mut Service, count: usize) -> Option<bool> {
     let mut frames = Vec::new(alloc);
     for place in 0..count {

@@ -4,7 +4,7 @@
 use crate::requests::steps::{LARGEST, answer_in_the_end, service};
 use droid_core::Service;
 use droid_lines::Tally;
-use droid_lines_script::{ScriptFault, script};
+use droid_script::{ScriptFault, script};
 use std::alloc::Global;
 
 /// A profile, a folder, a bad line, a file with no byte, and its end.
@@ -18,8 +18,8 @@ const LINES_IN_2: &[u8] =
 /// Asks for an export by its length and its first byte, which says how many requests were accepted.
 const SHOW: &str = "9 9 export 1 0 1";
 
-/// What the lines print, and what is shown then: if no request is refused for memory, and if one of the four is. Without a profile,
-/// and without a file, what follows is refused too.
+/// What the lines print, and what is shown then: if no request is refused for memory, and if one of the four is.
+/// Without a profile, and without a file, what follows is refused too.
 const PRINTED: [(&str, &str); 5] = [
     (
         "made 1\nnode 1\nbad line\nnode 2\nfinished Extension false d41d8cd98f00b204e9800998ecf8427e dev/4\n",
@@ -43,7 +43,8 @@ const PRINTED: [(&str, &str); 5] = [
     ),
 ];
 
-/// The first bytes of that, printed if memory ends after some lines, and what is shown then: the next may have been handled.
+/// The first bytes of that, printed if memory ends after some lines, and what is shown then: the next may have been
+/// handled.
 const FRONTS: [(usize, &str, &str); 5] = [
     (0, "refused 3\n", "part 1 193 1\n\""),
     (7, "part 1 193 1\n\"", "part 2 296 1\n\""),
@@ -73,8 +74,8 @@ fn is_front(printed: &[u8], shown: &[u8]) -> bool {
     false
 }
 
-/// Runs these lines, into a buffer, so that printing takes no memory, and shows the service then. Returns whether they were
-/// handled; `None` if the script ended for memory. Neither if the test itself had no memory.
+/// Runs these lines, into a buffer, so that printing takes no memory, and shows the service then. Returns whether they
+/// were handled; `None` if the script ended for memory. Neither if the test itself had no memory.
 fn run_lines(alloc: Global, service: &mut Service, lines: &[u8]) -> Option<Option<bool>> {
     let mut buffer = [0u8; 128];
     let (mut lines, mut left) = (lines, buffer.as_mut_slice());

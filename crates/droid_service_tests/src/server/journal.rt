@@ -1,10 +1,11 @@
-//! A journal over a file in memory. Tests of the built program with a journal are in tests/program/journal.
+//! A journal over a file in memory, with the examples of the pages README.md of droid_journal and droid_compaction.
+//! Tests of the built program with a journal are in tests/program/journal.
 
 ghost use Rattle.std.specs.Prelude.{[], ◌≡◌, true};
 
+use droid_compaction::{RewriteFault, is_mostly_ended, rewrite};
 use droid_frame::{Frame, Refusal, Reply};
 use droid_journal::{Fault, FileError, Handled, Journal, LogFile, Machine, open};
-use droid_journal_rewriting::{RewriteFault, is_mostly_ended, rewrite};
 use droid_testing::frame;
 use std::alloc::{AllocError, Global};
 use std::test::Fail;
@@ -120,8 +121,8 @@ impl LogFile for MemoryLog {
     }
 }
 
-/// An Abandon of file 0. Its record has 69 bytes: 25, a request of 26 and a reply of 18; the first of a turn has a mark of 16
-/// more.
+/// An Abandon of file 0. Its record has 69 bytes: 25, a request of 26 and a reply of 18; the first of a turn has a mark
+/// of 16 more.
 fn abandon(alloc: Global, number: u64) -> Result<Frame, AllocError> {
     frame(alloc, 2, 6, number, &[0; 8])
 }
@@ -142,6 +143,37 @@ fn written(alloc: Global, body: &[u8]) -> Result<Vec<u8>, Fail> {
 }
 
 #[test]
+fn example_of_journals(rt: HostRuntime) -> Result<(), Fail> {
+    let alloc = rt.alloc();
+    // a file in memory, and a machine that accepts each request
+    let mut file = MemoryLog::new(Vec::new(alloc), 99);
+    let Ok(opened) = open(alloc, &mut file, HEADER, Counter::new(99)) else {
+        return Err("an empty file was not opened".into());
+    };
+    let mut journal = Journal::new(alloc, file, opened);
+    let reply = journal.handle(abandon(alloc, 1)?);
+    // the reply may be sent after this
+    let settled = journal.settle().is_ok();
+    assert!(rt; settled && matches!(reply, Reply::Abandoned));
+    assert!(rt; journal.file.synced == journal.file.bytes.len());
+    Ok(())
+}
+
+#[test]
+fn example_of_compaction(rt: HostRuntime) -> Result<(), Fail> {
+    let alloc = rt.alloc();
+    // a journal of a piece of 988 bytes, and of the Abandon of its file
+    let old = MemoryLog::new(written(alloc, &[0; 1_000])?, 0);
+    let new = MemoryLog::new(Vec::new(alloc), 99);
+    let Ok(smaller) = rewrite(alloc, &old, HEADER, HEADER, new) else {
+        return Err("no smaller journal was written".into());
+    };
+    assert!(rt; smaller.before.records == 2 && smaller.after.records == 2);
+    assert!(rt; smaller.before.bytes > 1_000 && smaller.after.bytes < 300);
+    Ok(())
+}
+
+#[test]
 fn no_sync_no_reply(rt: HostRuntime) -> Result<(), Fail> {
     let alloc = rt.alloc();
     // Making the header takes two calls, an accepted request one.
@@ -157,8 +189,9 @@ fn no_sync_no_reply(rt: HostRuntime) -> Result<(), Fail> {
     Ok(())
 }
 
-/// What a journal of these bytes gives: how many records it has and whether more than half of its bytes are of pieces of files
-/// that have ended; or, by both calls, how many records stand before other bytes. `None`: it has another header.
+/// What a journal of these bytes gives: how many records it has and whether more than half of its bytes are of pieces
+/// of files that have ended; or, by both calls, how many records stand before other bytes. `None`: it has another
+/// header.
 fn found(alloc: Global, bytes: Vec<u8>, header: &[u8]) -> Option<Result<(u64, bool), u64>> {
     let old = MemoryLog::new(bytes, 0);
     let new = MemoryLog::new(Vec::new(alloc), 99);
@@ -173,8 +206,8 @@ fn found(alloc: Global, bytes: Vec<u8>, header: &[u8]) -> Option<Result<(u64, bo
     }
 }
 
-/// How many bytes of a journal are there, and what it gives. Its records end at 121 and 190 with a piece of 22 bytes, whose
-/// record has 111, 16 of them a mark. The other 95 are not more than half of the 190.
+/// How many bytes of a journal are there, and what it gives. Its records end at 121 and 190 with a piece of 22 bytes,
+/// whose record has 111, 16 of them a mark. The other 95 are not more than half of the 190.
 const FRONTS: [(usize, Option<Result<(u64, bool), u64>>); 9] = [
     (0, None),
     (9, None),

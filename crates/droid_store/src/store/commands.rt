@@ -2,7 +2,8 @@
 
 ghost use Rattle.std.specs.Prelude.{◌≡◌, ◌+◌, ◌<◌, ◌^◌, None, Some, length, OnOk, OnErr, IfErr};
 ghost use Rattle.std.specs.List.{AllByRecursion};
-ghost use Rattle.droid_store.specs.Changes.{IsNext, IsOfKind, IsOpen, IsWord, new_folder, new_file, finished, with_finished, with_node, with_profile, with_reply, without_node};
+ghost use Rattle.droid_store.specs.Changes.{IsNext, IsOfKind, IsOpen, IsWord, new_folder, new_file, finished};
+ghost use Rattle.droid_store.specs.Changes.{with_finished, with_node, with_profile, with_reply, without_node};
 ghost use Rattle.droid_store.specs.CommandChanges.{changed, IsInTurn, IsWritable, WritesARow};
 ghost use Rattle.droid_store.specs.Rows.{Node, child_at, node_at, reply_for, counts_of};
 ghost use Rattle.droid_store.specs.Sizes.{entry_size, node_size, FitsARow};
@@ -62,9 +63,13 @@ impl Store {
         requires small { entry.now.number < 2 ^ 63 }
         requires next { IsNext profile id self.old }
         requires free { child_at profile parent name.now self.old ≡ None }
-        ensures ok { OnOk result (self.new ≡ with_reply entry.now (with_node (new_folder profile id parent modified name.now path.now) self.old)) }
+        ensures ok { OnOk result
+            (self.new
+            ≡ with_reply entry.now (with_node (new_folder profile id parent modified name.now path.now) self.old)) }
         ensures err { OnErr result (self.new ≡ self.old) }
-        ensures memory { FitsARow (entry_size entry.now) → FitsARow (node_size (new_folder profile id parent modified name.now path.now)) → IfErr result (λ fault. fault ≡ Memory) }
+        ensures memory { FitsARow (entry_size entry.now)
+            → FitsARow (node_size (new_folder profile id parent modified name.now path.now))
+            → IfErr result (λ fault. fault ≡ Memory) }
     {
         let counts = self.counts;
         let node = NewNode {
@@ -99,9 +104,14 @@ impl Store {
         requires size { size < 2 ^ 63 }
         requires next { IsNext profile id self.old }
         requires free { child_at profile parent name.now self.old ≡ None }
-        ensures ok { OnOk result (self.new ≡ with_reply entry.now (with_node (new_file profile id parent modified size piece_size name.now path.now) self.old)) }
+        ensures ok { OnOk result
+            (self.new
+            ≡ with_reply entry.now
+            (with_node (new_file profile id parent modified size piece_size name.now path.now) self.old)) }
         ensures err { OnErr result (self.new ≡ self.old) }
-        ensures memory { FitsARow (entry_size entry.now) → FitsARow (node_size (new_file profile id parent modified size piece_size name.now path.now)) → IfErr result (λ fault. fault ≡ Memory) }
+        ensures memory { FitsARow (entry_size entry.now)
+            → FitsARow (node_size (new_file profile id parent modified size piece_size name.now path.now))
+            → IfErr result (λ fault. fault ≡ Memory) }
     {
         let counts = one_more_unfinished(self.counts)?;
         let node = NewNode {
@@ -146,9 +156,13 @@ impl Store {
         requires file { IsOpen profile file self.old }
         requires kind { IsOfKind profile hash self.old }
         requires puids { AllByRecursion IsWord puids.now }
-        ensures ok { OnOk result (self.new ≡ with_reply entry.now (with_finished profile file method mismatch hash puids.now self.old)) }
+        ensures ok { OnOk result
+            (self.new ≡ with_reply entry.now (with_finished profile file method mismatch hash puids.now self.old)) }
         ensures err { OnErr result (self.new ≡ self.old) }
-        ensures memory { FitsARow (entry_size entry.now) → ((n : Node) → node_at profile file self.old ≡ Some n → FitsARow (node_size (finished method mismatch hash puids.now n))) → IfErr result (λ fault. fault ≡ Memory) }
+        ensures memory { FitsARow (entry_size entry.now)
+            → ((n : Node) → node_at profile file self.old ≡ Some n
+            → FitsARow (node_size (finished method mismatch hash puids.now n)))
+            → IfErr result (λ fault. fault ≡ Memory) }
     {
         let counts = one_less_unfinished(self.counts);
         let formats = join(self.alloc, puids)?;
@@ -199,7 +213,8 @@ impl Store {
         requires counts { counts ≡ counts_of (changed change.now self.old) }
         ensures ok { OnOk result (self.new ≡ with_reply entry.now (changed change.now self.old)) }
         ensures err { OnErr result (self.new ≡ self.old) }
-        ensures memory { FitsARow (entry_size entry.now) → WritesARow change.now self.old → IfErr result (λ fault. fault ≡ Memory) }
+        ensures memory { FitsARow (entry_size entry.now) → WritesARow change.now self.old
+            → IfErr result (λ fault. fault ≡ Memory) }
     {
         let counts = one_more_reply(counts)?;
         write(&mut self.conn, entry, change)?;

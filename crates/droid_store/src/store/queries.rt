@@ -63,7 +63,8 @@ impl Store {
         name: &str,
     ) -> Result<Option<u32>, StoreFault>
         ensures same { self.new ≡ self.old }
-        ensures found { IfOk result (λ found. found ≡ option_map (λ n. n.id) (child_at profile parent name.now self.old)) }
+        ensures found { IfOk result (λ found.
+            found ≡ option_map (λ n. n.id) (child_at profile parent name.now self.old)) }
         ensures memory { IfErr result (λ fault. fault ≡ Memory) }
     {
         let Some(row) = find_child(&mut self.conn, profile, parent, name)? else {

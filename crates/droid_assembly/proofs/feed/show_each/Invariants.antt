@@ -2,7 +2,7 @@
 use Rattle.std.proofs.Common.{◌≡◌, ℕ, ◌++◌, List, take}
 use Rattle.std.specs.List.{concat}
 use Rattle.droid_assembly.specs.Fronts.{IsFront, FrontKnows}
-use Rattle.droid_assembly.specs.Hashing.{running_kind}
+use Rattle.droid_frame.specs.RunningHashes.{running_kind}
 use Rattle.droid_assembly.proofs.feed.show_each.Given as goal
 
 abbrev pub invariant-loop-place : goal.invariant-loop-place

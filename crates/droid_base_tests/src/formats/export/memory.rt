@@ -40,8 +40,8 @@ fn filter_with_lists(alloc: Global) -> Result<Filter, AllocError> {
     })
 }
 
-/// Returns whether the writer gets the text of the records. It is a buffer, so running out of memory may also be its own
-/// error.
+/// Returns whether the writer gets the text of the records. It is a buffer, so running out of memory may also be its
+/// own error.
 fn is_written(alloc: Global, registry: &Registry) -> Result<bool, AllocError> {
     let records = three(alloc)?;
     let filter = filter_with_lists(alloc)?;

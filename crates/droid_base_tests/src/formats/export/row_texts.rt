@@ -13,19 +13,26 @@ use std::test::Fail;
 
 /// The names of the columns of a profile with MD5, the row of a folder, and that of a file whose format is unknown.
 pub(crate) const HEADER: &str =
-    "\"ID\",\"PARENT_ID\",\"URI\",\"FILE_PATH\",\"NAME\",\"METHOD\",\"STATUS\",\"SIZE\",\"TYPE\",\"EXT\",\"LAST_MODIFIED\",\"EXTENSION_MISMATCH\",\"MD5_HASH\",\"FORMAT_COUNT\",\"PUID\",\"MIME_TYPE\",\"FORMAT_NAME\",\"FORMAT_VERSION\"\n";
+    "\"ID\",\"PARENT_ID\",\"URI\",\"FILE_PATH\",\"NAME\",\"METHOD\",\"STATUS\",\"SIZE\",\"TYPE\",\"EXT\",\"\
+    LAST_MODIFIED\",\"EXTENSION_MISMATCH\",\"MD5_HASH\",\"FORMAT_COUNT\",\"PUID\",\"MIME_TYPE\",\"FORMAT_NAME\",\"\
+    FORMAT_VERSION\"\n";
 
 const FOLDER: &str =
-    "\"1\",\"\",\"file:/in/\",\"/in\",\"in\",\"\",\"Done\",\"\",\"Folder\",\"\",\"1970-01-01T00:00:00\",\"false\",\"\",\"\",\"\",\"\",\"\",\"\"\n";
+    "\"1\",\"\",\"file:/in/\",\"/in\",\"in\",\"\",\"Done\",\"\",\"Folder\",\"\",\"1970-01-01T00:00:00\",\"false\",\"\",\
+    \"\",\"\",\"\",\"\",\"\"\n";
 
 const FILE: &str =
-    "\"2\",\"\",\"file:/a%22b\",\"/a\"\"b\",\"a\"\"b\",\"Signature\",\"Done\",\"3\",\"File\",\"\",\"1970-01-01T00:00:00\",\"false\",\"d41d8cd98f00b204e9800998ecf8427e\",\"1\",\"dev/9\",\"\",\"\",\"\"\n";
+    "\"2\",\"\",\"file:/a%22b\",\"/a\"\"b\",\"a\"\"b\",\"Signature\",\"Done\",\"3\",\"File\",\"\",\"\
+    1970-01-01T00:00:00\",\"false\",\"d41d8cd98f00b204e9800998ecf8427e\",\"1\",\"dev/9\",\"\",\"\",\"\"\n";
 
 /// The rows of an unidentified file, of one whose format is unknown, and of a folder in a folder.
 pub(crate) const ODD: [&str; 3] = [
-    "\"1\",\"\",\"file:/a.abc\",\"/a.abc\",\"a.abc\",\"\",\"Done\",\"0\",\"File\",\"abc\",\"1970-01-01T00:00:00\",\"false\",\"d41d8cd98f00b204e9800998ecf8427e\",\"0\",\"\",\"\",\"\",\"\"\n",
-    "\"7\",\"\",\"file:/a\",\"/a\",\"a\",\"Signature\",\"Done\",\"18446744073709551615\",\"File\",\"\",\"1970-01-01T00:00:00\",\"false\",\"d41d8cd98f00b204e9800998ecf8427e\",\"1\",\"dev/9\",\"\",\"\",\"\"\n",
-    "\"4294967295\",\"12\",\"file:/a/b/\",\"/a/b\",\"b\",\"\",\"Done\",\"\",\"Folder\",\"\",\"1970-01-01T00:00:00\",\"false\",\"\",\"\",\"\",\"\",\"\",\"\"\n",
+    "\"1\",\"\",\"file:/a.abc\",\"/a.abc\",\"a.abc\",\"\",\"Done\",\"0\",\"File\",\"abc\",\"1970-01-01T00:00:00\",\"\
+    false\",\"d41d8cd98f00b204e9800998ecf8427e\",\"0\",\"\",\"\",\"\",\"\"\n",
+    "\"7\",\"\",\"file:/a\",\"/a\",\"a\",\"Signature\",\"Done\",\"18446744073709551615\",\"File\",\"\",\"\
+    1970-01-01T00:00:00\",\"false\",\"d41d8cd98f00b204e9800998ecf8427e\",\"1\",\"dev/9\",\"\",\"\",\"\"\n",
+    "\"4294967295\",\"12\",\"file:/a/b/\",\"/a/b\",\"b\",\"\",\"Done\",\"\",\"Folder\",\"\",\"1970-01-01T00:00:00\",\"\
+    false\",\"\",\"\",\"\",\"\",\"\",\"\"\n",
 ];
 
 /// Their records. That of the folder says that it was identified by a signature, which no record of a service does.
@@ -69,8 +76,8 @@ fn quoted(alloc: Global) -> Result<Record, AllocError> {
     file(alloc, 2, "a\"b", 3, &["dev/9"])
 }
 
-/// Returns whether a writer that stops after this many bytes gets them. The rows stay, and another writer gets them, and one
-/// more row.
+/// Returns whether a writer that stops after this many bytes gets them. The rows stay, and another writer gets them,
+/// and one more row.
 fn goes_on_after(
     alloc: Global,
     registry: &Registry,

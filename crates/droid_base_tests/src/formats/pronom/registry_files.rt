@@ -2,7 +2,8 @@
 
 use droid_export::ExportFault;
 use droid_frame::Noted;
-use droid_pronom::{PatternFault, Registry, RegistryFault, extension};
+use droid_pattern::PatternFault;
+use droid_pronom::{Registry, RegistryFault, extension};
 use droid_testing::{Manner, NOWHERE, Place, SAMPLE, STEADY, ShakyReader, Stop};
 use std::alloc::Global;
 use std::test::Fail;

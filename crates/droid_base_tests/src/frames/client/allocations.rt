@@ -2,9 +2,9 @@
 //! Out of memory: a request that was not submitted and a reply that was not taken leave the client unchanged, and the
 //! same call again succeeds.
 
+use droid_client::{Client, HearFault, Heard, SubmitFault};
 use droid_frame::{Frame, Refusal, Reply, Request};
 use droid_testing::frame;
-use droid_wire_client::{Client, HearFault, Heard, SubmitFault};
 use std::alloc::{AllocError, Global};
 
 // The bodies of a Finished of one identifier, fmt/1, by a signature, with a digest of zero bytes: in version 1 MD5's,

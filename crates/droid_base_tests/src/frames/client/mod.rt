@@ -1,4 +1,5 @@
 //! The client's end.
 
 mod allocations;
+mod page;
 mod rows;

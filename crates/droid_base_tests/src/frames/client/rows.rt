@@ -1,8 +1,8 @@
-//! One request and the replies that arrive for it, step by step; and many requests, answered in another order. The bodies
-//! are those of the format.
+//! One request and the replies that arrive for it, step by step; and many requests, answered in another order. The
+//! bodies are those of the format.
 
+use droid_client::{Client, HearFault, Heard};
 use droid_frame::{Blob, Frame, HashKind, Refusal, Reply, Request};
-use droid_wire_client::{Client, HearFault, Heard};
 use std::alloc::{AllocError, Global};
 use std::test::Fail;
 
@@ -177,8 +177,8 @@ fn have_their_own(client: &Client) -> bool {
     right
 }
 
-/// Submits a hundred requests, of client 3 from number 0 on. Answers every third, then the others, each with its own number:
-/// 37 and 100 have no common divisor, so a hundred steps go to each number once. Returns whether all goes well.
+/// Submits a hundred requests, of client 3 from number 0 on. Answers every third, then the others, each with its own
+/// number: 37 and 100 have no common divisor, so a hundred steps go to each number once. Returns whether all goes well.
 fn are_answered(alloc: Global) -> Result<bool, AllocError> {
     let mut client = Client::new(alloc, 3, 0);
     let mut right = true;

@@ -40,8 +40,8 @@ fn read_in_turn_and_cut(rt: HostRuntime) -> Result<(), Fail> {
     Ok(())
 }
 
-/// Returns whether a header is refused like this, and no byte behind it is read. The end of the bytes within a header is
-/// judged before its version and length.
+/// Returns whether a header is refused like this, and no byte behind it is read. The end of the bytes within a header
+/// is judged before its version and length.
 fn is_refused(
     alloc: Global,
     bytes: [u8; 18],
@@ -97,8 +97,8 @@ fn comes_or_is_out_of_memory(alloc: Global, vector: &Vector) -> bool {
     }
 }
 
-/// Returns whether a reader that fails once, at each byte of the frame and behind it, and has more bytes after that, isn't
-/// read again by the same call.
+/// Returns whether a reader that fails once, at each byte of the frame and behind it, and has more bytes after that,
+/// isn't read again by the same call.
 fn is_not_read_again(alloc: Global, vector: &Vector, manner: Manner) -> bool {
     let mut right = true;
     for cut in 0..vector.bytes.len() {

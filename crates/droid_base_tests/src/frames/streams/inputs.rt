@@ -2,9 +2,8 @@
 
 use droid_frame::{
     Condition, InputFault, Noted, ReadFault, Retries, Seen, SteadyRead, WriteFault, WriteState,
-    read_some, read_to_end, write_all,
+    fill, read_some, read_to_end, write_all,
 };
-use droid_frame_stream::fill;
 use droid_testing::{
     BYTE_BY_BYTE, Manner, NOWHERE, Place, STEADY, ShakyReader, ShakyWriter, Stop, reader_of,
 };
@@ -115,7 +114,8 @@ fn interruptions_past_the_count(rt: HostRuntime) {
     }
 }
 
-// Streams over memory: a slice that is full takes no more, and a sink and a vector take all. A flush reaches the stream.
+// Streams over memory: a slice that is full takes no more, and a sink and a vector take all. A flush reaches the
+// stream.
 #[test]
 fn streams_over_memory(rt: HostRuntime) {
     let mut room = [0u8; 3];

@@ -1,10 +1,10 @@
-//! The example of the page crates/droid_lanes/README.md.
+//! Lanes of MD5 in which files of several lengths begin and end.
 
-use droid_lanes::Md5Lanes;
+use droid_hash::Md5Lanes;
 use md5::{Digest, Md5};
 
 #[test]
-fn the_page(rt: HostRuntime) {
+fn lanes_begin_anew(rt: HostRuntime) {
     let none = "".as_bytes();
     let mut lanes = Md5Lanes::new();
 

@@ -2,7 +2,7 @@
 //! against one message after the other by the kit's `md5` and `sha2`.
 
 use crate::hashes::chance::{LEN, Span, below, filled, lens, next};
-use droid_lanes::{Md5Lanes, Sha256Lanes};
+use droid_hash::{Md5Lanes, Sha256Lanes};
 use md5::{Digest as Md5Digest, Md5};
 use sha2::{Digest as Sha2Digest, Sha256};
 

@@ -1,12 +1,12 @@
 //! The first and the last bytes of files of many sizes, against slices of the whole file.
 
 use crate::hashes::chance::{LEN, below, filled, next, part};
-use droid_scan::EndBytes;
+use droid_hash::EndBytes;
 use std::alloc::{AllocError, Global};
 use std::test::Fail;
 
-// Gives a file's bytes in pieces of chance lengths, and more bytes than its size after them. Returns whether the ends are
-// then those of the file's bytes.
+// Gives a file's bytes in pieces of chance lengths, and more bytes than its size after them. Returns whether the ends
+// are then those of the file's bytes.
 fn has_ends(ends: &mut EndBytes, bytes: &[u8; LEN], size: usize, limit: usize) -> bool {
     ends.begin(size as u64);
     let (mut seed, mut from) = (size as u64, 0usize);

@@ -1,7 +1,7 @@
-//! The example of the page README.md of droid_scan.
+//! The example of the page README.md of droid_hash.
 
 use droid_frame::{HashKind, HashValue};
-use droid_scan::{EndBytes, HashLanes};
+use droid_hash::{EndBytes, HashLanes};
 use md5::{Digest, Md5};
 use std::test::Fail;
 

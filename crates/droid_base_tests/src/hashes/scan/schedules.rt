@@ -3,7 +3,7 @@
 
 use crate::hashes::chance::{LEN, Span, below, filled, lens, next};
 use droid_frame::{HashKind, HashValue};
-use droid_scan::HashLanes;
+use droid_hash::HashLanes;
 use md5::{Digest as Md5Digest, Md5};
 use sha2::{Digest as Sha2Digest, Sha256};
 

@@ -1,8 +1,9 @@
-//! Random edits by a fixed seed, removals until no row is left, and a list that is filled again.
+//! Random edits by a fixed seed, removals until no row is left, and a list that is filled again; and the example of
+//! crates/droid_store_trees/README.md.
 
 ghost use Rattle.std.specs.Prelude.{◌≡◌};
 
-use droid_store_entries::{Entries, PackedRow};
+use droid_store_trees::{Entries, PackedRow};
 use sqlite_value::row::Row;
 use sqlite_value::value::ValueRef;
 use std::alloc::{AllocError, Global};
@@ -91,5 +92,20 @@ fn agree(alloc: Global) -> Result<bool, AllocError> {
 #[test]
 fn random_edits_agree_with_a_plain_list(rt: HostRuntime) -> Result<(), Fail> {
     assert!(rt; agree(rt.alloc())?);
+    Ok(())
+}
+
+#[test]
+fn example_of_the_page(rt: HostRuntime) -> Result<(), Fail> {
+    let alloc = rt.alloc();
+    let mut rows = Entries::new();
+    rows.insert(alloc, 0, row(alloc, 7)?)?;
+    let before = rows.copy()?;
+    rows.set(alloc, 0, row(alloc, 8)?)?;
+    let (Some(old), Some(new)) = (before.get(0), rows.get(0)) else {
+        return Err("a row is missing".into());
+    };
+    assert!(rt; matches!(old.first(), ValueRef::Int(7)));
+    assert!(rt; matches!(new.first(), ValueRef::Int(8)));
     Ok(())
 }

@@ -1,6 +1,6 @@
 //! Packs rows with values of each kind and reads them back.
 
-use droid_store_entries::PackedRow;
+use droid_store_trees::PackedRow;
 use sqlite_value::keys::Order;
 use sqlite_value::row::Row;
 use sqlite_value::value::ValueRef;

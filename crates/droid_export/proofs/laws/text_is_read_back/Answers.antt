@@ -3,7 +3,7 @@ use Rattle.std.specs.List.{flat_map}
 use Rattle.csv.specs.Machine.{next_record}
 use Rattle.csv.specs.Reading.{AreRecords, default_config, strip_bom}
 use Rattle.csv.specs.declared.parser.State.TheVariants as st
-use Rattle.droid_frame.specs.types.hash_kind.HashKind.{HashKind}
+use Rattle.droid_frame.specs.declared.hash_kind.HashKind.{HashKind}
 use Rattle.droid_export.specs.Csv.{quoted, joined, line}
 use Rattle.droid_export.specs.Rows.{Row, fields, header}
 use Rattle.droid_export.specs.Text.{chosen_rows, row_text, shown_rows, text}

@@ -1,7 +1,7 @@
 use Rattle.std.proofs.Common.{◌≡◌, ℕ, List, ◌++◌, ◌∙◌, sym, ap, append_assoc, arith}
 use Rattle.std.specs.List.{flat_map}
 use Rattle.std.proofs.lemmas.List.{take_all}
-use Rattle.droid_frame.specs.types.record.Record.{Record}
+use Rattle.droid_frame.specs.declared.record.Record.{Record}
 use Rattle.droid_export.specs.Text.{chosen_rows, record_text, row_text}
 use Rattle.droid_export.proofs.TextConcatenation.{kept, passed_over}
 use Rattle.droid_export.proofs.text.add_records.Goals as goal

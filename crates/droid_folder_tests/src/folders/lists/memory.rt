@@ -3,12 +3,12 @@
 
 use crate::folders::lists::cases::{is_reported, items};
 use droid_fixity::{FilePair, Inventory, file_pairs};
-use droid_fixity_lists::{ListFault, read_profile};
+use droid_lists::{ListFault, read_profile};
 use std::alloc::{AllocError, Global};
 use std::test::Fail;
 
-/// Returns whether a comparison is right: `/a` has another length, `/b` another moment, `/c` is now `/y`, `/e` is missing, and
-/// `/z` is new.
+/// Returns whether a comparison is right: `/a` has another length, `/b` another moment, `/c` is now `/y`, `/e` is
+/// missing, and `/z` is new.
 fn is_compared(alloc: Global) -> Result<bool, AllocError> {
     is_reported(
         alloc,
@@ -63,7 +63,11 @@ fn each_growth_of_pairs(rt: HostRuntime) -> Result<(), Fail> {
 
 /// Two files, the first with two formats, and a folder.
 const CSV: &str =
-    "ID,PARENT_ID,URI,FILE_PATH,NAME,METHOD,STATUS,SIZE,TYPE,EXT,LAST_MODIFIED,EXTENSION_MISMATCH,MD5_HASH,FORMAT_COUNT,PUID,MIME_TYPE,FORMAT_NAME,FORMAT_VERSION\n1,,u,/b,b,,Done,5,File,,2026-01-31T23:59:51,false,07070707070707070707070707070731,2,fmt/1,,,\n1,,u,/b,b,,Done,5,File,,2026-01-31T23:59:51,false,07070707070707070707070707070731,2,fmt/2,,,\n2,,u,/a,a,,Done,5,File,,2026-01-31T23:59:52,false,07070707070707070707070707070732,0,,,,\n3,,u,/d,d,,Done,,Folder,,2026-01-31T23:59:53,false,,,,,,\n";
+    "ID,PARENT_ID,URI,FILE_PATH,NAME,METHOD,STATUS,SIZE,TYPE,EXT,LAST_MODIFIED,EXTENSION_MISMATCH,MD5_HASH,\
+    FORMAT_COUNT,PUID,MIME_TYPE,FORMAT_NAME,FORMAT_VERSION\n1,,u,/b,b,,Done,5,File,,2026-01-31T23:59:51,false,\
+    07070707070707070707070707070731,2,fmt/1,,,\n1,,u,/b,b,,Done,5,File,,2026-01-31T23:59:51,false,\
+    07070707070707070707070707070731,2,fmt/2,,,\n2,,u,/a,a,,Done,5,File,,2026-01-31T23:59:52,false,\
+    07070707070707070707070707070732,0,,,,\n3,,u,/d,d,,Done,,Folder,,2026-01-31T23:59:53,false,,,,,,\n";
 
 /// Returns whether a profile is read right.
 fn is_read(alloc: Global) -> Result<bool, AllocError> {

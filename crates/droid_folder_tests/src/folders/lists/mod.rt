@@ -1,5 +1,5 @@
-//! What differs between two inventories, by the public calls of `droid_fixity`, `droid_fixity_lists` and
-//! `droid_fixity_profile`. (How `verify` reads the CSV of a profile is tested in
+//! What differs between two inventories, by the public calls of `droid_fixity`, `droid_lists` and
+//! `droid_lists`. (How `verify` reads the CSV of a profile is tested in
 //! tests/program/folders/verify_rows.py.)
 
 mod cases;

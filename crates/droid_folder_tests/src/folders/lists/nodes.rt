@@ -1,7 +1,7 @@
 //! Items of folders and files. Python's `datetime` computed the moments, its `hashlib` the hash.
 
-use droid_fixity_profile::item_of_node;
 use droid_frame::{HashValue, NodeKind};
+use droid_lists::item_of_node;
 use std::alloc::{AllocError, Global};
 use std::test::Fail;
 
@@ -24,7 +24,8 @@ type Node = (
 #[rattlefmt::skip]
 const NODES: [Node; 10] = [
     (NodeKind::File, 6, 1_769_903_999, MD5, Some((Some(6), b"2026-01-31T23:59:59", MD5))),
-    (NodeKind::File, u64::MAX, 0, HashValue::Nothing, Some((Some(u64::MAX), b"1970-01-01T00:00:00", HashValue::Nothing))),
+    (NodeKind::File, u64::MAX, 0, HashValue::Nothing,
+    Some((Some(u64::MAX), b"1970-01-01T00:00:00", HashValue::Nothing))),
     (NodeKind::Folder, 6, -1, MD5, Some((None, b"1969-12-31T23:59:59", HashValue::Nothing))),
     (NodeKind::Folder, 0, 951_782_400, HashValue::Nothing, Some((None, b"2000-02-29T00:00:00", HashValue::Nothing))),
     (NodeKind::File, 0, -62_135_596_800, MD5, Some((Some(0), b"0001-01-01T00:00:00", MD5))),

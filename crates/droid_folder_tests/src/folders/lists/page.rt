@@ -1,13 +1,14 @@
-//! The examples of the pages README.md of droid_fixity and droid_fixity_lists.
+//! The examples of the pages README.md of droid_fixity and droid_lists.
 
 use droid_fixity::{Difference, Inventory, Item, compare};
-use droid_fixity_lists::read_profile;
 use droid_frame::{Blob, HashValue, NodeKind};
+use droid_lists::read_profile;
 use std::test::Fail;
 
 /// The names of the columns of a profile with MD5 hashes.
 const NAMES: &str =
-    "ID,PARENT_ID,URI,FILE_PATH,NAME,METHOD,STATUS,SIZE,TYPE,EXT,LAST_MODIFIED,EXTENSION_MISMATCH,MD5_HASH,FORMAT_COUNT,PUID,MIME_TYPE,FORMAT_NAME,FORMAT_VERSION\n";
+    "ID,PARENT_ID,URI,FILE_PATH,NAME,METHOD,STATUS,SIZE,TYPE,EXT,LAST_MODIFIED,EXTENSION_MISMATCH,MD5_HASH,\
+    FORMAT_COUNT,PUID,MIME_TYPE,FORMAT_NAME,FORMAT_VERSION\n";
 
 #[test]
 fn example_of_fixity(rt: HostRuntime) -> Result<(), Fail> {

@@ -1,29 +1,35 @@
-//! The CSV of a profile beside what is known of its folders and files. Python's `hashlib` computed the digests, its `datetime`
-//! the moments. (More wrong CSVs are in tests/program/submissions/submit_texts.py.)
+//! The CSV of a profile beside what is known of its folders and files. Python's `hashlib` computed the digests, its
+//! `datetime` the moments. (More wrong CSVs are in tests/program/submissions/submit_texts.py.)
 
-use droid_fixity_profile::{
+use droid_frame::{HashKind, HashValue, Method, NodeKind, Text};
+use droid_hash::{Finding, no_finding};
+use droid_lists::{
     Difference, Known, TextFault, a_text_is_wrong_in_one_place, check_text, column_name,
     export_lists_its_records, the_items_of_the_list_agree,
 };
-use droid_frame::{HashKind, HashValue, Method, NodeKind, Text};
-use droid_hash::{Finding, no_finding};
 use std::alloc::{AllocError, Global};
 use std::test::Fail;
 
 /// The names of the columns of a profile with MD5 hashes, as an export writes them.
 const NAMES: &str =
-    "\"ID\",\"PARENT_ID\",\"URI\",\"FILE_PATH\",\"NAME\",\"METHOD\",\"STATUS\",\"SIZE\",\"TYPE\",\"EXT\",\"LAST_MODIFIED\",\"EXTENSION_MISMATCH\",\"MD5_HASH\",\"FORMAT_COUNT\",\"PUID\",\"MIME_TYPE\",\"FORMAT_NAME\",\"FORMAT_VERSION\"\n";
+    "\"ID\",\"PARENT_ID\",\"URI\",\"FILE_PATH\",\"NAME\",\"METHOD\",\"STATUS\",\"SIZE\",\"TYPE\",\"EXT\",\"\
+    LAST_MODIFIED\",\"EXTENSION_MISMATCH\",\"MD5_HASH\",\"FORMAT_COUNT\",\"PUID\",\"MIME_TYPE\",\"FORMAT_NAME\",\"\
+    FORMAT_VERSION\"\n";
 
 /// The folder and the file of docs/CSV.md.
 const FOLDER: &str =
-    "\"1\",\"\",\"file:/letters/\",\"/letters\",\"letters\",\"\",\"Done\",\"\",\"Folder\",\"\",\"2026-01-31T23:59:59\",\"false\",\"\",\"\",\"\",\"\",\"\",\"\"\n";
+    "\"1\",\"\",\"file:/letters/\",\"/letters\",\"letters\",\"\",\"Done\",\"\",\"Folder\",\"\",\"2026-01-31T23:59:59\",\
+    \"false\",\"\",\"\",\"\",\"\",\"\",\"\"\n";
 
 const FILE: &str =
-    "\"2\",\"1\",\"file:/letters/first.txt\",\"/letters/first.txt\",\"first.txt\",\"Extension\",\"Done\",\"9\",\"File\",\"txt\",\"2026-01-31T23:59:59\",\"false\",\"b59a94e604faec0d5849fb2179502bac\",\"1\",\"x-fmt/111\",\"text/plain\",\"Plain Text File\",\"\"\n";
+    "\"2\",\"1\",\"file:/letters/first.txt\",\"/letters/first.txt\",\"first.txt\",\"Extension\",\"Done\",\"9\",\"\
+    File\",\"txt\",\"2026-01-31T23:59:59\",\"false\",\"b59a94e604faec0d5849fb2179502bac\",\"1\",\"x-fmt/111\",\"\
+    text/plain\",\"Plain Text File\",\"\"\n";
 
 /// A file behind it, with no format.
 const LAST: &str =
-    "\"3\",\"\",\"file:/z\",\"/z\",\"z\",\"\",\"Done\",\"0\",\"File\",\"\",\"2026-01-31T23:59:59\",\"false\",\"d41d8cd98f00b204e9800998ecf8427e\",\"0\",\"\",\"\",\"\",\"\"\n";
+    "\"3\",\"\",\"file:/z\",\"/z\",\"z\",\"\",\"Done\",\"0\",\"File\",\"\",\"2026-01-31T23:59:59\",\"false\",\"\
+    d41d8cd98f00b204e9800998ecf8427e\",\"0\",\"\",\"\",\"\",\"\"\n";
 
 /// The MD5 of the file in docs/CSV.md.
 const MD5: [u8; 16] = [
@@ -66,8 +72,8 @@ fn known(alloc: Global, size: u64) -> Result<Vec<Known>, AllocError> {
     Ok(known)
 }
 
-/// CSVs, the length that is known of the file, and what `check_text` says: differences, each by its place or path, its record
-/// and its column, or the fault. A CSV has a letter for each row.
+/// CSVs, the length that is known of the file, and what `check_text` says: differences, each by its place or path, its
+/// record and its column, or the fault. A CSV has a letter for each row.
 #[rattlefmt::skip]
 const TEXTS: [(&str, u64, &str); 11] = [
     ("ndf", 9, ""),
@@ -155,9 +161,9 @@ fn each_growth_of_a_text(rt: HostRuntime) -> Result<(), Fail> {
     Ok(())
 }
 
-/// The example of the page README.md of droid_fixity_profile.
+/// A file that is known and has no row.
 #[test]
-fn example_of_a_profile(rt: HostRuntime) -> Result<(), Fail> {
+fn a_missing_row(rt: HostRuntime) -> Result<(), Fail> {
     let alloc = rt.alloc();
     let mut known = Vec::new(alloc);
     known.push(Known {

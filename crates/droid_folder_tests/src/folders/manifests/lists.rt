@@ -1,7 +1,7 @@
-//! Lists of checksums. The program reads no list whose first line is at fault as the manifest of a bag, and writes no list
-//! without hashes; tests/program/folders/checksum_lists.py has all other lists.
+//! Lists of checksums. The program reads no list whose first line is at fault as the manifest of a bag, and writes no
+//! list without hashes; tests/program/folders/checksum_lists.py has all other lists.
 
-use droid_fixity_manifest::{ManifestFault, ManifestForm, add_line, read_manifest};
+use droid_fixity::{ManifestFault, ManifestForm, add_line, read_manifest};
 use droid_frame::HashValue;
 use std::test::Fail;
 

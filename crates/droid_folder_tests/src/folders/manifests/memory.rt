@@ -1,7 +1,7 @@
 // Each test also passes if any one allocation is refused: tests/memory refuses each in turn.
 //! Out of memory: a call that fails for it works when it is called again.
 
-use droid_fixity_manifest::{ManifestFault, ManifestForm, add_line, read_manifest};
+use droid_fixity::{ManifestFault, ManifestForm, add_line, read_manifest};
 use droid_frame::HashValue;
 use std::alloc::{AllocError, Global};
 use std::test::Fail;

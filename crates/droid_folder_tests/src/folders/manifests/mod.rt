@@ -1,5 +1,5 @@
-//! Lists of checksums, by the public calls of `droid_fixity_manifest`.
+//! Lists of checksums, by the public calls of `droid_fixity`.
 
+mod line;
 mod lists;
 mod memory;
-mod page;

@@ -1,6 +1,6 @@
 //! The texts of the errors of trees, walks and profiles.
 
-use droid_profile_csv::CsvFault;
+use droid_profile::CsvFault;
 use droid_tree::{TreeFault, WalkFault};
 use std::alloc::Global;
 use std::fmt::Display;
@@ -15,11 +15,9 @@ const TREE_FAULTS: [(TreeFault, &str); 3] = [
     ),
 ];
 
-const WALK_FAULTS: [(WalkFault, &str); 7] = [
+const WALK_FAULTS: [(WalkFault, &str); 5] = [
     (WalkFault::Memory, "out of memory"),
-    (WalkFault::Exchange, "no reply came"),
     (WalkFault::Reply, "a reply was not to the request"),
-    (WalkFault::TooLong, "a request is too long"),
     (WalkFault::Folders, "there are too many folders"),
     (WalkFault::Entries, "there are too many folders and files"),
     (WalkFault::Bytes, "the files are too long together"),

@@ -3,7 +3,7 @@
 
 use crate::folders::profiles::small_trees::{LIST, ROWS, TEXT, WHOLE, WrittenProfile, written};
 use droid_frame::HashKind;
-use droid_profile_csv::CsvFault;
+use droid_profile::CsvFault;
 use droid_pronom::Registry;
 use droid_testing::SAMPLE;
 use std::test::Fail;
@@ -26,7 +26,8 @@ fn each_allocation(rt: HostRuntime) -> Result<(), Fail> {
     Ok(())
 }
 
-/// Returns whether what was written is as the result says: all, whole rows and lines of the first records, or first bytes.
+/// Returns whether what was written is as the result says: all, whole rows and lines of the first records, or first
+/// bytes.
 pub fn is_front(got: &WrittenProfile) -> bool {
     let text = got.csv.stream.taken();
     let list = got.list.stream.taken();

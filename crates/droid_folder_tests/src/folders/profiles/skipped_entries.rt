@@ -1,5 +1,5 @@
-//! What no folder of this machine has: a name three times, and a name of 256 bytes. (tests/program/folders has all else that
-//! is skipped.)
+//! What no folder of this machine has: a name three times, and a name of 256 bytes. (tests/program/folders has all else
+//! that is skipped.)
 
 use crate::folders::memory_tree::Row;
 use crate::folders::profiles::small_trees::{WHOLE, written};

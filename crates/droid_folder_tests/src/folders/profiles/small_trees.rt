@@ -4,8 +4,7 @@ use crate::folders::memory_tree::{MemoryTree, Row};
 use crate::folders::noting_watcher::NotingWatcher;
 use crate::folders::profiles::memory::is_front;
 use droid_frame::{HashKind, Noted};
-use droid_profile::{Options, Profiler};
-use droid_profile_csv::{CsvFault, CsvRecipient, write_profile};
+use droid_profile::{CsvFault, CsvRecipient, Options, Profiler, write_profile};
 use droid_pronom::Registry;
 use droid_testing::{SAMPLE, STEADY, ShakyWriter, Stop};
 use droid_tree::EntryKind;
@@ -26,12 +25,19 @@ pub const ROWS: [Row; 4] = [
 ];
 
 pub const TEXT: &str =
-    "\"ID\",\"PARENT_ID\",\"URI\",\"FILE_PATH\",\"NAME\",\"METHOD\",\"STATUS\",\"SIZE\",\"TYPE\",\"EXT\",\"LAST_MODIFIED\",\"EXTENSION_MISMATCH\",\"MD5_HASH\",\"FORMAT_COUNT\",\"PUID\",\"MIME_TYPE\",\"FORMAT_NAME\",\"FORMAT_VERSION\"\n\
-\"1\",\"\",\"file:/a.abc\",\"/a.abc\",\"a.abc\",\"\",\"Done\",\"1\",\"File\",\"abc\",\"1970-01-01T00:00:00\",\"false\",\"0cc175b9c0f1b6a831c399e269772661\",\"0\",\"\",\"\",\"\",\"\"\n\
-\"2\",\"\",\"file:/d/\",\"/d\",\"d\",\"\",\"Done\",\"\",\"Folder\",\"\",\"1970-01-01T00:00:00\",\"false\",\"\",\"\",\"\",\"\",\"\",\"\"\n\
-\"3\",\"\",\"file:/none.txt\",\"/none.txt\",\"none.txt\",\"Extension\",\"Done\",\"0\",\"File\",\"txt\",\"1970-01-01T00:00:00\",\"false\",\"d41d8cd98f00b204e9800998ecf8427e\",\"1\",\"dev/4\",\"text/plain\",\"Plain\",\"\"\n\
-\"4\",\"2\",\"file:/d/digest.msg\",\"/d/digest.msg\",\"digest.msg\",\"Signature\",\"Done\",\"14\",\"File\",\"msg\",\"1970-01-01T00:00:00\",\"false\",\"f96b697d7cb7938d525a2f31aaf161d0\",\"2\",\"dev/1\",\"\",\"Message\",\"1\"\n\
-\"4\",\"2\",\"file:/d/digest.msg\",\"/d/digest.msg\",\"digest.msg\",\"Signature\",\"Done\",\"14\",\"File\",\"msg\",\"1970-01-01T00:00:00\",\"false\",\"f96b697d7cb7938d525a2f31aaf161d0\",\"2\",\"dev/3\",\"\",\"Letters\",\"\"\n";
+    "\"ID\",\"PARENT_ID\",\"URI\",\"FILE_PATH\",\"NAME\",\"METHOD\",\"STATUS\",\"SIZE\",\"TYPE\",\"EXT\",\"\
+    LAST_MODIFIED\",\"EXTENSION_MISMATCH\",\"MD5_HASH\",\"FORMAT_COUNT\",\"PUID\",\"MIME_TYPE\",\"FORMAT_NAME\",\"\
+    FORMAT_VERSION\"\n\
+\"1\",\"\",\"file:/a.abc\",\"/a.abc\",\"a.abc\",\"\",\"Done\",\"1\",\"File\",\"abc\",\"1970-01-01T00:00:00\",\"false\",\
+\"0cc175b9c0f1b6a831c399e269772661\",\"0\",\"\",\"\",\"\",\"\"\n\
+\"2\",\"\",\"file:/d/\",\"/d\",\"d\",\"\",\"Done\",\"\",\"Folder\",\"\",\"1970-01-01T00:00:00\",\"false\",\"\",\"\",\"\
+\",\"\",\"\",\"\"\n\
+\"3\",\"\",\"file:/none.txt\",\"/none.txt\",\"none.txt\",\"Extension\",\"Done\",\"0\",\"File\",\"txt\",\"\
+1970-01-01T00:00:00\",\"false\",\"d41d8cd98f00b204e9800998ecf8427e\",\"1\",\"dev/4\",\"text/plain\",\"Plain\",\"\"\n\
+\"4\",\"2\",\"file:/d/digest.msg\",\"/d/digest.msg\",\"digest.msg\",\"Signature\",\"Done\",\"14\",\"File\",\"msg\",\"\
+1970-01-01T00:00:00\",\"false\",\"f96b697d7cb7938d525a2f31aaf161d0\",\"2\",\"dev/1\",\"\",\"Message\",\"1\"\n\
+\"4\",\"2\",\"file:/d/digest.msg\",\"/d/digest.msg\",\"digest.msg\",\"Signature\",\"Done\",\"14\",\"File\",\"msg\",\"\
+1970-01-01T00:00:00\",\"false\",\"f96b697d7cb7938d525a2f31aaf161d0\",\"2\",\"dev/3\",\"\",\"Letters\",\"\"\n";
 
 /// What `md5sum a.abc none.txt d/digest.msg` of GNU coreutils 9.1 prints in a folder with these files.
 pub const LIST: &str = "0cc175b9c0f1b6a831c399e269772661  a.abc\n\

@@ -1,9 +1,9 @@
-//! Profiles whose CSV or list can't be written to its end. (tests/program/folders/profile_output.py has writers that stop
-//! in the walk.)
+//! Profiles whose CSV or list can't be written to its end. (tests/program/folders/profile_output.py has writers that
+//! stop in the walk.)
 
 use crate::folders::profiles::small_trees::{LIST, ROWS, TEXT, written};
 use droid_frame::HashKind;
-use droid_profile_csv::CsvFault;
+use droid_profile::CsvFault;
 use droid_pronom::Registry;
 use droid_testing::SAMPLE;
 use std::alloc::Global;

@@ -19,7 +19,8 @@ pub(crate) const ROWS: [Row; 9] = [
 
 /// Its profile before, with a format that the registry doesn't have.
 pub(crate) const LIST: &str =
-    "ID,PARENT_ID,URI,FILE_PATH,NAME,METHOD,STATUS,SIZE,TYPE,EXT,LAST_MODIFIED,EXTENSION_MISMATCH,MD5_HASH,FORMAT_COUNT,PUID,MIME_TYPE,FORMAT_NAME,FORMAT_VERSION\n\
+    "ID,PARENT_ID,URI,FILE_PATH,NAME,METHOD,STATUS,SIZE,TYPE,EXT,LAST_MODIFIED,EXTENSION_MISMATCH,MD5_HASH,\
+    FORMAT_COUNT,PUID,MIME_TYPE,FORMAT_NAME,FORMAT_VERSION\n\
 1,,u,/changed,changed,,Done,3,File,,1970-01-01T00:00:00,false,f97c5d29941bfb1b2fdab0874906ab82,0,,,,\n\
 2,,u,/d,d,,Done,,Folder,,1970-01-01T00:00:00,false,,,,,,\n\
 3,,u,/gone,gone,,Done,4,File,,1970-01-01T00:00:00,false,50c1f58be7f5e47e0f53d64c094783c2,0,,,,\n\
@@ -32,22 +33,28 @@ pub(crate) const LIST: &str =
 
 /// The report, formats included.
 pub(crate) const REPORT: &str =
-    "\"difference\",\"path\",\"size\",\"hash\",\"formats\",\"found_path\",\"found_size\",\"found_hash\",\"found_formats\",\"reason\"\n\
-\"changed\",\"/changed\",\"3\",\"f97c5d29941bfb1b2fdab0874906ab82\",\"\",\"/changed\",\"3\",\"bc21e6484530fc9d0313cb816b733396\",\"\",\"\"\n\
+    "\"difference\",\"path\",\"size\",\"hash\",\"formats\",\"found_path\",\"found_size\",\"found_hash\",\"\
+    found_formats\",\"reason\"\n\
+\"changed\",\"/changed\",\"3\",\"f97c5d29941bfb1b2fdab0874906ab82\",\"\",\"/changed\",\"3\",\"\
+bc21e6484530fc9d0313cb816b733396\",\"\",\"\"\n\
 \"missing\",\"/gone\",\"4\",\"50c1f58be7f5e47e0f53d64c094783c2\",\"\",\"\",\"\",\"\",\"\",\"\"\n\
 \"unreadable\",\"/grown\",\"\",\"\",\"\",\"\",\"\",\"\",\"\",\"it changed while it was read\"\n\
-\"moved\",\"/moving\",\"6\",\"7b3ef1b118f53a58660b8530d1aa4683\",\"\",\"/d/moved\",\"6\",\"7b3ef1b118f53a58660b8530d1aa4683\",\"\",\"\"\n\
+\"moved\",\"/moving\",\"6\",\"7b3ef1b118f53a58660b8530d1aa4683\",\"\",\"/d/moved\",\"6\",\"\
+7b3ef1b118f53a58660b8530d1aa4683\",\"\",\"\"\n\
 \"new\",\"/new\",\"\",\"\",\"\",\"/new\",\"3\",\"f97c5d29941bfb1b2fdab0874906ab82\",\"\",\"\"\n\
-\"unreadable\",\"/pipe\",\"\",\"\",\"\",\"\",\"\",\"\",\"\",\"neither a folder nor a regular file, or it can't be looked at\"\n\
+\"unreadable\",\"/pipe\",\"\",\"\",\"\",\"\",\"\",\"\",\"\",\"neither a folder nor a regular file, or it can't be \
+looked at\"\n\
 \"format\",\"/same\",\"\",\"\",\"dev/9\",\"\",\"\",\"\",\"dev/1\",\"\"\n\
 \"unreadable\",\"/sealed\",\"\",\"\",\"\",\"\",\"\",\"\",\"\",\"it could not be opened or read\"\n";
 
 /// The report if no file is read.
 pub(crate) const QUICK_REPORT: &str =
-    "\"difference\",\"path\",\"size\",\"hash\",\"formats\",\"found_path\",\"found_size\",\"found_hash\",\"found_formats\",\"reason\"\n\
+    "\"difference\",\"path\",\"size\",\"hash\",\"formats\",\"found_path\",\"found_size\",\"found_hash\",\"\
+    found_formats\",\"reason\"\n\
 \"new\",\"/d/moved\",\"\",\"\",\"\",\"/d/moved\",\"6\",\"\",\"\",\"\"\n\
 \"missing\",\"/gone\",\"4\",\"50c1f58be7f5e47e0f53d64c094783c2\",\"\",\"\",\"\",\"\",\"\",\"\"\n\
 \"missing\",\"/moving\",\"6\",\"7b3ef1b118f53a58660b8530d1aa4683\",\"\",\"\",\"\",\"\",\"\",\"\"\n\
 \"new\",\"/new\",\"\",\"\",\"\",\"/new\",\"3\",\"\",\"\",\"\"\n\
-\"unreadable\",\"/pipe\",\"\",\"\",\"\",\"\",\"\",\"\",\"\",\"neither a folder nor a regular file, or it can't be looked at\"\n\
+\"unreadable\",\"/pipe\",\"\",\"\",\"\",\"\",\"\",\"\",\"\",\"neither a folder nor a regular file, or it can't be \
+looked at\"\n\
 \"changed\",\"/touched\",\"6\",\"673d4f049f0db3d188488f447477968a\",\"\",\"/touched\",\"6\",\"\",\"\",\"\"\n";

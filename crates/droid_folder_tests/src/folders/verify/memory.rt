@@ -4,9 +4,8 @@
 use crate::folders::memory_tree::MemoryTree;
 use crate::folders::noting_watcher::NotingWatcher;
 use crate::folders::verify::changed_tree::{LIST, QUICK_REPORT, REPORT, ROWS};
-use droid_desk_arguments::VerifyOptions;
-use droid_desk_comparison::Measure;
-use droid_desk_verify::{VerifyEnding, read_lists, verify_as};
+use droid_arguments::VerifyOptions;
+use droid_cmd_verify::{Measure, VerifyEnding, read_lists, verify_as};
 use droid_frame::Noted;
 use droid_pronom::Registry;
 use droid_testing::SAMPLE;

@@ -1,15 +1,14 @@
-//! The examples of the pages README.md of droid_desk_verify and droid_desk_report.
+//! The examples of the pages README.md of droid_cmd_verify and droid_cmd_profile.
 
 use crate::folders::memory_tree::MemoryTree;
 use crate::folders::noting_watcher::NotingWatcher;
 use crate::folders::verify::changed_tree::ROWS;
-use droid_desk_comparison::{ItemKeeper, Measure};
-use droid_desk_outputs::Recorder;
-use droid_desk_report::{PageTexts, page_of_csv};
-use droid_desk_verify::{VerifyEnding, read_lists, verify_tree};
+use droid_cmd_profile::{PageTexts, page_of_csv};
+use droid_cmd_verify::{ItemKeeper, Measure, VerifyEnding, read_lists, verify_tree};
 use droid_frame::{HashKind, Noted};
 use droid_profile::{Options, Profiler};
 use droid_pronom::Registry;
+use droid_terminal::Recorder;
 use droid_testing::SAMPLE;
 use std::test::Fail;
 
@@ -43,7 +42,8 @@ fn example_of_verify(rt: HostRuntime) -> Result<(), Fail> {
 
 /// A profile of one file.
 const CSV: &str =
-    "ID,PARENT_ID,URI,FILE_PATH,NAME,METHOD,STATUS,SIZE,TYPE,EXT,LAST_MODIFIED,EXTENSION_MISMATCH,MD5_HASH,FORMAT_COUNT,PUID,MIME_TYPE,FORMAT_NAME,FORMAT_VERSION\n\
+    "ID,PARENT_ID,URI,FILE_PATH,NAME,METHOD,STATUS,SIZE,TYPE,EXT,LAST_MODIFIED,EXTENSION_MISMATCH,MD5_HASH,\
+    FORMAT_COUNT,PUID,MIME_TYPE,FORMAT_NAME,FORMAT_VERSION\n\
 1,,file:/a.txt,/a.txt,a.txt,,Done,3,File,txt,1970-01-01T00:00:00,false,900150983cd24fb0d6963f7d28e17f72,0,,,,\n";
 
 #[test]

@@ -1,7 +1,7 @@
 use Rattle.std.proofs.Common.{false, [], ap}
-use Rattle.droid_frame.specs.types.hash_value.HashValue.{HashValue}
-use Rattle.droid_frame.specs.types.hash_value.HashValue.TheVariants as values
-use Rattle.droid_frame.specs.types.method.Method.TheVariants.{Unidentified}
+use Rattle.droid_frame.specs.declared.hash_value.HashValue.{HashValue}
+use Rattle.droid_frame.specs.declared.hash_value.HashValue.TheVariants as values
+use Rattle.droid_frame.specs.declared.method.Method.TheVariants.{Unidentified}
 use Rattle.droid_hash.proofs.finding.no_finding.Goals as goal
 
 pub returns : goal.returns

@@ -1,7 +1,7 @@
 use Rattle.std.proofs.Common.{◌≡◌, ◌∙◌, List, ℕ, ◌++◌, Err, ap, append_assoc, subst, inr}
-use Rattle.droid_journal_chain.specs.Chains.{journal_bytes}
-use Rattle.droid_journal_chain.specs.Fronts.{IsFront}
-use Rattle.droid_journal_chain.specs.Records.{Record}
+use Rattle.droid_journal.specs.Chains.{journal_bytes}
+use Rattle.droid_journal.specs.Fronts.{IsFront}
+use Rattle.droid_journal.specs.Records.{Record}
 use Rattle.droid_journal.specs.Standing.{AreOnDisk, ahead_bytes}
 use Rattle.droid_journal.specs.declared.journal_fault.Fault.TheVariants as faults
 use Rattle.droid_journal.proofs.crash.crash_and_reopen.Goals as goal

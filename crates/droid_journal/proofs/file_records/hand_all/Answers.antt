@@ -1,6 +1,6 @@
 use Rattle.std.proofs.Common.{◌≡◌, ◌++◌, [], Err, refl, ap, arith}
 use Rattle.droid_journal.specs.declared.journal_fault.Fault.TheVariants as faults
-use Rattle.droid_journal_chain.proofs.Chains.{chain_long}
+use Rattle.droid_journal.proofs.Chains.{chain_long}
 use Rattle.droid_journal.proofs.Handing.{at_is, fails_on, hands_none, hands_on, records_is, stand_on}
 use Rattle.droid_journal.proofs.file_records.hand_all.Goals as goal
 

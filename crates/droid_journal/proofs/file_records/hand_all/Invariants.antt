@@ -1,5 +1,5 @@
 use Rattle.std.proofs.Common.{◌≡◌, ℕ, List, length}
-use Rattle.droid_journal_chain.specs.Records.{Record}
+use Rattle.droid_journal.specs.Records.{Record}
 use Rattle.droid_journal.specs.Opening.{Hands, StandIn}
 use Rattle.droid_journal.proofs.file_records.hand_all.Given as goal
 

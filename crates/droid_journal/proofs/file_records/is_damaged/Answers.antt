@@ -1,6 +1,6 @@
 use Rattle.std.proofs.Common.{rules, ◌≡◌, ◌+◌, false, take, drop, refl, arith}
 use Rattle.std.specs.Prelude.{IsTrue}
-use Rattle.droid_journal_chain.specs.Chains.{HasLater}
+use Rattle.droid_journal.specs.Chains.{HasLater}
 use Rattle.droid_journal.proofs.Handing.{none_more, none_there, some_there}
 use Rattle.droid_journal.proofs.file_records.is_damaged.Goals as goal
 

@@ -1,7 +1,7 @@
 use Rattle.std.proofs.Common.{rules, ◌≡◌, ◌<◌, ◌∙◌, ℕ, List, length, take, drop, ap, subst, arith}
 use Rattle.std.specs.Prelude.{◌↔◌, IsTrue}
 use Rattle.std.proofs.lemmas.List.{length-take}
-use Rattle.droid_journal_chain.specs.Chains.{HasLater}
+use Rattle.droid_journal.specs.Chains.{HasLater}
 use Rattle.droid_journal.proofs.file_records.search_some.Goals as goal
 
 pub returns-clause-later : goal.returns-clause-later

@@ -1,6 +1,6 @@
 use Rattle.std.proofs.Common.{◌≡◌, ◌∙◌, ◌++◌, ℕ, List, ap, subst}
 use Rattle.std.specs.Prelude.{OnErr, OnOk}
-use Rattle.droid_journal_chain.specs.Fronts.{IsFront}
+use Rattle.droid_journal.specs.Fronts.{IsFront}
 use Rattle.droid_journal.proofs.Standing.{left_out}
 use Rattle.droid_journal.proofs.journal.append_lacking.Goals as goal
 

@@ -1,6 +1,6 @@
 use Rattle.std.proofs.Common.{◌≡◌, Err, ap, arith}
 use Rattle.droid_journal.specs.declared.journal_fault.Fault.TheVariants as faults
-use Rattle.droid_journal_chain.specs.Records.{made}
+use Rattle.droid_journal.specs.Records.{made}
 use Rattle.droid_journal.proofs.Going.{begun, fails, goes_on, shorter, went, within}
 use Rattle.droid_journal.proofs.replay.replay.Goals as goal
 

@@ -1,7 +1,7 @@
 use Rattle.std.proofs.Common.{rules, ◌≡◌, ◌∙◌, Bool, true, false, List, ℕ, [], ◌∷◌, ◌++◌, sym, ap, ap₂, subst, inl, inr}
 use Rattle.std.specs.Prelude.{IsTrue}
 use Rattle.droid_frame.specs.ReplyFrames.{reply_frame}
-use Rattle.droid_journal_chain.specs.Records.{Record, checksum, made}
+use Rattle.droid_journal.specs.Records.{Record, checksum, made}
 use Rattle.droid_journal.specs.Machines.{extended, record_of}
 use Rattle.droid_journal.proofs.Marks.{sum_is}
 use Rattle.droid_journal.proofs.replay.replay_one.Goals as goal

@@ -1,6 +1,6 @@
 use Rattle.std.proofs.Common.{rules, ◌≡◌, drop, subst, sym, arith}
-use Rattle.droid_journal_chain.specs.Chains.{IsMark}
-use Rattle.droid_journal_chain.specs.declared.key.Form.TheVariants as forms
+use Rattle.droid_journal.specs.Chains.{IsMark}
+use Rattle.droid_journal.specs.declared.records.key.Form.TheVariants as forms
 use Rattle.droid_journal.proofs.Handing.{mark_front, mark_untaken}
 use Rattle.droid_journal.proofs.start.is_begun_at.Goals as goal
 

@@ -1,8 +1,8 @@
 use Rattle.std.proofs.Common.{rules, ◌≡◌, ◌∙◌, ◌+◌, List, ℕ, false, Err, drop, sym, ap, subst, arith}
 use Rattle.std.specs.Prelude.{IsTrue}
-use Rattle.droid_journal_chain.specs.Chains.{HasLater, ShowsDamage, form_of, key_of, skipped}
-use Rattle.droid_journal_chain.specs.declared.key.Key.{Key}
-use Rattle.droid_journal_chain.specs.declared.place.Place.{Place}
+use Rattle.droid_journal.specs.Chains.{HasLater, ShowsDamage, form_of, key_of, skipped}
+use Rattle.droid_journal.specs.declared.records.key.Key.{Key}
+use Rattle.droid_journal.specs.declared.records.place.Place.{Place}
 use Rattle.droid_journal.specs.Opening.{HandedOn, Hands}
 use Rattle.droid_journal.specs.Replaying.{Fails}
 use Rattle.droid_journal.specs.declared.journal_fault.Fault.TheVariants as faults

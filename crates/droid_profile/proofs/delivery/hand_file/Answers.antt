@@ -1,9 +1,9 @@
 use Rattle.std.proofs.Common.{subst}
 use Rattle.std.proofs.lemmas.Result.{err_from_is_err_and}
-use Rattle.droid_profile_spec.specs.Kids.{heard_of_file}
-use Rattle.droid_profile_files.specs.FilesRead.{IsSettled}
-use Rattle.droid_profile_files.specs.declared.file_row.FileRow.{FileRow}
-use Rattle.droid_profile_rows.specs.RowsTaken.{records_by}
+use Rattle.droid_profile.specs.Kids.{heard_of_file}
+use Rattle.droid_profile.specs.FilesRead.{IsSettled}
+use Rattle.droid_profile.specs.declared.lanes.file_row.FileRow.{FileRow}
+use Rattle.droid_profile.specs.RowsTaken.{records_by}
 use Rattle.droid_profile.proofs.FileHanded.{front_of_memory, front_whole}
 use Rattle.droid_profile.proofs.delivery.hand_file.Goals as goal
 

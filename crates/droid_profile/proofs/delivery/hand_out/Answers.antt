@@ -1,7 +1,7 @@
 use Rattle.std.proofs.Common.{List}
 use Rattle.std.proofs.lemmas.Result.{err_from_is_err_and}
-use Rattle.droid_profile_rows.specs.RowsTaken.{heard_of_row, records_of_row}
-use Rattle.droid_profile_rows.specs.declared.row.Row.{Row}
+use Rattle.droid_profile.specs.RowsTaken.{heard_of_row, records_of_row}
+use Rattle.droid_profile.specs.declared.walk.row.Row.{Row}
 use Rattle.droid_profile.proofs.Handing.{front_row, hands_row}
 use Rattle.droid_profile.proofs.Waiting.{row_counted}
 use Rattle.droid_profile.proofs.delivery.hand_out.Goals as goal

@@ -2,9 +2,9 @@
 use Rattle.std.proofs.Common.{List, take}
 use Rattle.std.specs.List.{flat_map}
 use Rattle.droid_pronom.specs.Registry.{Contents}
-use Rattle.droid_profile_spec.specs.declared.options.Options.{Options}
-use Rattle.droid_profile_files.specs.declared.file_row.FileRow.{FileRow}
-use Rattle.droid_profile_rows.specs.RowsTaken.{Readings, heard_of_row, records_of_row}
+use Rattle.droid_profile.specs.declared.options.Options.{Options}
+use Rattle.droid_profile.specs.declared.lanes.file_row.FileRow.{FileRow}
+use Rattle.droid_profile.specs.RowsTaken.{Readings, heard_of_row, records_of_row}
 use Rattle.droid_profile.specs.HandedOut.{AreSettled, Hands}
 use Rattle.droid_profile.proofs.delivery.hand_out.Given as goal
 

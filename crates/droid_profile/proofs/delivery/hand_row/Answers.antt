@@ -2,9 +2,9 @@ use Rattle.std.proofs.Common.{◌<◌, List, [], ◌∷◌, length, Option, refl
 use Rattle.std.proofs.lemmas.Option.{slice_get_read}
 use Rattle.std.proofs.lemmas.Result.{err_from_is_err_and}
 use Rattle.droid_tree.specs.Heard.{TookFolder}
-use Rattle.droid_profile_files.specs.declared.file_row.FileRow.{FileRow}
-use Rattle.droid_profile_rows.specs.RowsTaken.{IsReady, heard_at, heard_of_row, records_at, records_of_row}
-use Rattle.droid_profile_rows.specs.declared.row.Row.{Row}
+use Rattle.droid_profile.specs.declared.lanes.file_row.FileRow.{FileRow}
+use Rattle.droid_profile.specs.RowsTaken.{IsReady, heard_at, heard_of_row, records_at, records_of_row}
+use Rattle.droid_profile.specs.declared.walk.row.Row.{Row}
 use Rattle.droid_profile.specs.HandedOut.{Hands, HandsFront}
 use Rattle.droid_profile.proofs.FileHanded.{front_of_recipient}
 use Rattle.droid_profile.proofs.delivery.hand_row.Goals as goal

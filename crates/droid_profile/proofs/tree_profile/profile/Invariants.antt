@@ -1,7 +1,7 @@
 -- all that was taken was read and handed out
 use Rattle.std.specs.Prelude.{◌≡◌, []}
-use Rattle.droid_profile_files.specs.LaneSteps.{IsFor}
-use Rattle.droid_profile_rows.specs.StepsTaken.{scan_left}
+use Rattle.droid_profile.specs.LaneSteps.{IsFor}
+use Rattle.droid_profile.specs.StepsTaken.{scan_left}
 use Rattle.droid_profile.specs.Walking.{StandsAt}
 use Rattle.droid_profile.proofs.tree_profile.profile.Given as goal
 

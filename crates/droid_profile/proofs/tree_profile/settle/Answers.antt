@@ -1,9 +1,9 @@
 use Rattle.std.proofs.Common.{List, sym, subst}
 use Rattle.std.specs.List.{flat_map}
 use Rattle.std.proofs.lemmas.Result.{err_from_is_err_and}
-use Rattle.droid_profile_files.specs.declared.file_row.FileRow.{FileRow}
-use Rattle.droid_profile_rows.specs.RowsTaken.{heard_of_row, records_of_row}
-use Rattle.droid_profile_rows.specs.declared.row.Row.{Row}
+use Rattle.droid_profile.specs.declared.lanes.file_row.FileRow.{FileRow}
+use Rattle.droid_profile.specs.RowsTaken.{heard_of_row, records_of_row}
+use Rattle.droid_profile.specs.declared.walk.row.Row.{Row}
 use Rattle.droid_profile.specs.HandedOut.{AreSettled, Hands, HandsFront}
 use Rattle.droid_profile.proofs.FileHanded.{moments_kept}
 use Rattle.droid_profile.proofs.WalkEnds.{ends_handing, ends_reading}

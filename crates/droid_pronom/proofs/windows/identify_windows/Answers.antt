@@ -1,7 +1,7 @@
 use Rattle.std.proofs.Common.{◌≡◌, ◌∙◌, [], ap}
 use Rattle.std.specs.Str.{str_to_ascii_lowercase}
-use Rattle.droid_pronom_formats.specs.Found.{extension_of}
-use Rattle.droid_pronom_formats.specs.FoundWindows.{HitsWindows}
+use Rattle.droid_pronom.specs.Found.{extension_of}
+use Rattle.droid_pronom.specs.FoundWindows.{HitsWindows}
 use Rattle.droid_pronom.proofs.FoundSteps.{found_signature, found_extension, found_nothing}
 use Rattle.droid_pronom.proofs.windows.identify_windows.Goals as goal
 use Rattle.droid_pronom.proofs.windows.identify_windows.Goals.{then-is_empty, else-is_empty}

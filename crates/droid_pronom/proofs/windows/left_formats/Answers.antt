@@ -1,7 +1,7 @@
 use Rattle.std.proofs.Common.{◌≡◌, ◌∙◌, Bool, false, length, ap, sym}
 use Rattle.std.specs.List.{list_any}
 use Rattle.std.proofs.lemmas.Result.{IfOk-weaker}
-use Rattle.droid_pronom_formats.specs.FoundWindows.{HitsWindows}
+use Rattle.droid_pronom.specs.FoundWindows.{HitsWindows}
 use Rattle.droid_pronom.proofs.FoundSteps.{none_left, report_left, without_length}
 use Rattle.droid_pronom.proofs.windows.left_formats.Goals as goal
 

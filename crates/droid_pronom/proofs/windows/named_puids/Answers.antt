@@ -2,8 +2,8 @@ use Rattle.std.proofs.Common.{◌≡◌, ◌∙◌, [], length, sym}
 use Rattle.std.proofs.lemmas.Bool.{eqb-true}
 use Rattle.std.proofs.lemmas.List.{nil_from_length}
 use Rattle.std.proofs.lemmas.Result.{IfOk-weaker}
-use Rattle.droid_pronom_formats.specs.Found.{IsNamed}
-use Rattle.droid_pronom_formats.specs.FoundWindows.{Stands}
+use Rattle.droid_pronom.specs.Found.{IsNamed}
+use Rattle.droid_pronom.specs.FoundWindows.{Stands}
 use Rattle.droid_pronom.proofs.FoundSteps.{chosen_same, report_named, unnamed}
 use Rattle.droid_pronom.proofs.windows.named_puids.Goals as goal
 

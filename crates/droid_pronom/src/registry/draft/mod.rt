@@ -3,7 +3,7 @@
 ghost use Rattle.std.specs.Prelude.{◌≡◌, ◌<◌, ◌^◌, length, IfOk};
 ghost use Rattle.csv.specs.Records.{fields_of};
 ghost use Rattle.droid_pronom.specs.RegistryCalls.{draft_of, Gives, HasOutcome};
-ghost use Rattle.droid_pronom_formats.specs.RegistryFields as field;
+ghost use Rattle.droid_pronom.specs.RegistryFields as field;
 ghost use Rattle.droid_pronom.specs.RegistryFile.{empty_draft, taken_count};
 ghost use Rattle.droid_pronom.specs.RegistryRecords.{Step, Judged, known};
 
@@ -71,7 +71,9 @@ impl Draft {
 
     /// Adds a record of six texts, or returns what is wrong with it.
     fn judge(&mut self, alloc: Global, row: RowText) -> Result<(), Refusal>
-        ensures { HasOutcome result (draft_of self.new) (Judged (draft_of self.old) (field.kind_of row.entry.kind.now) row.entry.puid.now row.entry.second.now row.entry.third.now row.entry.fourth.now row.entry.fifth.now) }
+        ensures { HasOutcome result (draft_of self.new)
+            (Judged (draft_of self.old) (field.kind_of row.entry.kind.now) row.entry.puid.now row.entry.second.now
+            row.entry.third.now row.entry.fourth.now row.entry.fifth.now) }
     {
         let RowText {
             kind,

@@ -1,14 +1,16 @@
 //! S and B records: a new signature, and one more byte sequence of the signature before it.
 
 ghost use Rattle.std.specs.Prelude.{◌≡◌, ◌<◌, ◌&&◌, nat_lt, Some, length, IfOk};
-ghost use Rattle.droid_pronom_formats.specs.Registry.{place_of};
+ghost use Rattle.droid_pronom.specs.Registry.{place_of};
 ghost use Rattle.droid_pronom.specs.RegistryCalls.{draft_of, Gives, HasOutcome};
-ghost use Rattle.droid_pronom.specs.RegistryRecords.{WithPattern, signature_head, signature_added, sequence_head, sequence_added, is_same_place};
+ghost use Rattle.droid_pronom.specs.RegistryRecords.{WithPattern, signature_head, signature_added, sequence_head};
+ghost use Rattle.droid_pronom.specs.RegistryRecords.{sequence_added, is_same_place};
 
+use crate::fields::{is_puid, offsets_of};
 use crate::registry::draft::{Draft, ROWS_LIMIT};
 use crate::registry::fault::{Fault, Refusal, check};
 use crate::registry::row_text::pattern_of;
-use droid_pronom_formats::{ByteSequence, Offsets, Signature, is_puid, offsets_of};
+use crate::rows::{ByteSequence, Offsets, Signature};
 use std::alloc::Global;
 
 /// The most byte sequences that a registry may have.
@@ -24,7 +26,8 @@ impl Draft {
         min: &str,
         max: &str,
     ) -> Result<(u32, Offsets), Refusal>
-        ensures gives { Gives (λ head. head) result (signature_head (draft_of self.now) puid.now anchor.now min.now max.now) }
+        ensures gives { Gives (λ head. head) result
+            (signature_head (draft_of self.now) puid.now anchor.now min.now max.now) }
         ensures below { IfOk result (λ head. head.0 < length self.now.registry.formats) }
     {
         check(is_puid(puid), Fault::BadRecord)?;
@@ -46,7 +49,9 @@ impl Draft {
         max: &str,
         pattern: &str,
     ) -> Result<(), Refusal>
-        ensures { HasOutcome result (draft_of self.new) (WithPattern (signature_head (draft_of self.old) puid.now anchor.now min.now max.now) pattern.now (signature_added (draft_of self.old))) }
+        ensures { HasOutcome result (draft_of self.new)
+            (WithPattern (signature_head (draft_of self.old) puid.now anchor.now min.now max.now) pattern.now
+            (signature_added (draft_of self.old))) }
     {
         let (place, offsets) = self.signature_head(puid, anchor, min, max)?;
         let pattern = pattern_of(alloc, pattern)?;
@@ -69,7 +74,8 @@ impl Draft {
         first: ByteSequence,
     ) -> Result<(), Refusal>
         requires { place < length self.old.registry.formats }
-        ensures { Gives (λ _. draft_of self.new) result (signature_added (draft_of self.old) (place, first.offsets) (Some first.pattern)) }
+        ensures { Gives (λ _. draft_of self.new) result
+            (signature_added (draft_of self.old) (place, first.offsets) (Some first.pattern)) }
     {
         check(self.has_room(), Fault::TooMany)?;
         let signature = Signature::new(alloc, place, first)?;
@@ -98,7 +104,8 @@ impl Draft {
         min: &str,
         max: &str,
     ) -> Result<Offsets, Refusal>
-        ensures { Gives (λ offsets. offsets) result (sequence_head (draft_of self.now) puid.now anchor.now min.now max.now) }
+        ensures { Gives (λ offsets. offsets) result
+            (sequence_head (draft_of self.now) puid.now anchor.now min.now max.now) }
     {
         let Some(offsets) = offsets_of(anchor, min, max) else {
             return Err(Refusal::Fault(Fault::BadRecord));
@@ -118,7 +125,9 @@ impl Draft {
         max: &str,
         pattern: &str,
     ) -> Result<(), Refusal>
-        ensures { HasOutcome result (draft_of self.new) (WithPattern (sequence_head (draft_of self.old) puid.now anchor.now min.now max.now) pattern.now (sequence_added (draft_of self.old))) }
+        ensures { HasOutcome result (draft_of self.new)
+            (WithPattern (sequence_head (draft_of self.old) puid.now anchor.now min.now max.now) pattern.now
+            (sequence_added (draft_of self.old))) }
     {
         let offsets = self.sequence_head(puid, anchor, min, max)?;
         let pattern = pattern_of(alloc, pattern)?;
@@ -128,7 +137,8 @@ impl Draft {
     /// Adds a byte sequence to the last signature, within the limit.
     #[tactic(auto, unfolding(crate::specs::RegistryRecords::sequence_added))]
     fn add_sequence(&mut self, sequence: ByteSequence) -> Result<(), Refusal>
-        ensures { Gives (λ _. draft_of self.new) result (sequence_added (draft_of self.old) sequence.offsets (Some sequence.pattern)) }
+        ensures { Gives (λ _. draft_of self.new) result
+            (sequence_added (draft_of self.old) sequence.offsets (Some sequence.pattern)) }
     {
         check(self.sequences < SEQUENCES_LIMIT, Fault::TooMany)?;
         self.registry.push_sequence(sequence)?;

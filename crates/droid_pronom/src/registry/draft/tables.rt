@@ -3,13 +3,14 @@
 ghost use Rattle.droid_pronom.specs.RegistryCalls.{draft_of, Gives};
 ghost use Rattle.droid_pronom.specs.RegistryRecords.{format_taken, extension_taken, priority_taken};
 
+use crate::format::Format;
+use crate::letter_case::lower_case;
+use crate::record_forms::{is_format, is_listing, is_priority};
 use crate::registry::FORMATS_LIMIT;
 use crate::registry::draft::{Draft, ROWS_LIMIT};
 use crate::registry::fault::{Fault, Refusal, check};
+use crate::rows::{ListedExtension, Priority};
 use droid_frame::Text;
-use droid_pronom_formats::{
-    Format, ListedExtension, Priority, is_format, is_listing, is_priority, lower_case,
-};
 use std::alloc::Global;
 
 impl Draft {
@@ -24,7 +25,8 @@ impl Draft {
         mime: &str,
         empty: &str,
     ) -> Result<(), Refusal>
-        ensures { Gives (λ _. draft_of self.new) result (format_taken (draft_of self.old) puid.now name.now version.now mime.now empty.now) }
+        ensures { Gives (λ _. draft_of self.new) result
+            (format_taken (draft_of self.old) puid.now name.now version.now mime.now empty.now) }
     {
         check(
             is_format(puid, name, version, mime, empty),
@@ -54,7 +56,8 @@ impl Draft {
         more: &str,
         last: &str,
     ) -> Result<(), Refusal>
-        ensures { Gives (λ _. draft_of self.new) result (extension_taken (draft_of self.old) puid.now extension.now empty.now more.now last.now) }
+        ensures { Gives (λ _. draft_of self.new) result
+            (extension_taken (draft_of self.old) puid.now extension.now empty.now more.now last.now) }
     {
         check(
             is_listing(puid, extension, empty, more, last),
@@ -82,7 +85,8 @@ impl Draft {
         more: &str,
         last: &str,
     ) -> Result<(), Refusal>
-        ensures { Gives (λ _. draft_of self.new) result (priority_taken (draft_of self.old) puid.now other.now empty.now more.now last.now) }
+        ensures { Gives (λ _. draft_of self.new) result
+            (priority_taken (draft_of self.old) puid.now other.now empty.now more.now last.now) }
     {
         check(
             is_priority(puid, other, empty, more, last),

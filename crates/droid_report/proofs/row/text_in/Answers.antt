@@ -1,4 +1,4 @@
-use Rattle.droid_report.proofs.Texts.{a_text, no_text}
+use Rattle.droid_report.proofs.TextBytes.{a_text, no_text}
 use Rattle.droid_report.proofs.row.text_in.Goals as goal
 
 pub returns-in-Ok : goal.returns-in-Ok

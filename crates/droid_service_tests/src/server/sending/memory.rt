@@ -2,10 +2,9 @@
 //! Out of memory: sending reports it, and what was written before is the first part of what it writes in full. Sending
 //! again writes it in full.
 
+use droid_client::Client;
 use droid_frame::FrameFault;
-use droid_lines::Tally;
-use droid_lines_send::{SendFault, send};
-use droid_wire::Client;
+use droid_lines::{SendFault, Tally, send};
 use std::alloc::Global;
 
 const LINES: &[u8] = b"create 65536 0\nstatus\nfinish 1 1\nexport 1 0 4 all ext=txt\n";
@@ -14,19 +13,22 @@ const LINES: &[u8] = b"create 65536 0\nstatus\nfinish 1 1\nexport 1 0 4 all ext=
 const FRAMES: &[u8] = b"\
     \x01\x01\x00\x00\x00\x07\x00\x00\x00\x00\x00\x00\x00\x01\x00\x00\x00\x05\x00\x01\x00\x00\x00\
     \x01\x05\x00\x00\x00\x07\x00\x00\x00\x00\x00\x00\x00\x02\x00\x00\x00\x08\x00\x00\x00\x01\x00\x00\x00\x01\
-    \x01\x08\x00\x00\x00\x07\x00\x00\x00\x00\x00\x00\x00\x03\x00\x00\x00\x18\x00\x00\x00\x01\x00\x00\x00\x00\x00\x00\x00\x00\x00\x00\x00\x04\x01\x01\x03\x01\x03txt";
+    \x01\x08\x00\x00\x00\x07\x00\x00\x00\x00\x00\x00\x00\x03\x00\x00\x00\x18\x00\x00\x00\x01\x00\x00\x00\x00\x00\x00\
+    \x00\x00\x00\x00\x00\x04\x01\x01\x03\x01\x03txt";
 
 const REPLIES: &[u8] = b"\
     \x01\x81\x00\x00\x00\x07\x00\x00\x00\x00\x00\x00\x00\x01\x00\x00\x00\x04\x00\x00\x00\x01\
-    \x01\x84\x00\x00\x00\x07\x00\x00\x00\x00\x00\x00\x00\x02\x00\x00\x00\x1a\x02\x00\xd4\x1d\x8c\xd9\x8f\x00\xb2\x04\xe9\x80\x09\x98\xec\xf8\x42\x7e\x00\x01\x05dev/4\
-    \x01\x87\x00\x00\x00\x07\x00\x00\x00\x00\x00\x00\x00\x03\x00\x00\x00\x14\x00\x00\x00\x00\x00\x00\x00\x02\x00\x00\x00\x00\x00\x00\x01\x28\"ID\"";
+    \x01\x84\x00\x00\x00\x07\x00\x00\x00\x00\x00\x00\x00\x02\x00\x00\x00\x1a\x02\x00\xd4\x1d\x8c\xd9\x8f\x00\xb2\x04\
+    \xe9\x80\x09\x98\xec\xf8\x42\x7e\x00\x01\x05dev/4\
+    \x01\x87\x00\x00\x00\x07\x00\x00\x00\x00\x00\x00\x00\x03\x00\x00\x00\x14\x00\x00\x00\x00\x00\x00\x00\x02\x00\x00\
+    \x00\x00\x00\x00\x01\x28\"ID\"";
 
 /// What the lines print, which ends at 7, 16, 80 and 97.
 const PRINTED: &[u8] =
     b"made 1\nbad line\nfinished Extension false d41d8cd98f00b204e9800998ecf8427e dev/4\npart 2 296 4\n\"ID\"";
 
-/// How many bytes of frames and of text may be written where memory runs out: the first lines were sent, and of the next one
-/// at most its frame.
+/// How many bytes of frames and of text may be written where memory runs out: the first lines were sent, and of the
+/// next one at most its frame.
 fn may_be_written(frames: usize, text: usize) -> bool {
     matches!(
         (frames, text),
@@ -34,8 +36,8 @@ fn may_be_written(frames: usize, text: usize) -> bool {
     )
 }
 
-/// Sends the lines as client 7 from number 1 on, into buffers, so that writing allocates nothing. Returns whether what was written
-/// is right. `None`: memory ran out, and it is right for that.
+/// Sends the lines as client 7 from number 1 on, into buffers, so that writing allocates nothing. Returns whether what
+/// was written is right. `None`: memory ran out, and it is right for that.
 fn are_sent(alloc: Global) -> Option<bool> {
     let (mut frames, mut text) = ([0u8; 128], [0u8; 128]);
     let (mut frames_left, mut text_left) = (frames.as_mut_slice(), text.as_mut_slice());

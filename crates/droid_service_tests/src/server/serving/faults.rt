@@ -1,7 +1,8 @@
 //! The messages of the faults of both ends of a stream. A frame's fault is displayed with its own message.
 
+use droid_client::{HearFault, SubmitFault};
 use droid_frame::FrameFault;
-use droid_wire::{HearFault, ServeFault, SubmitFault};
+use droid_wire::ServeFault;
 use std::alloc::Global;
 use std::fmt::Display;
 

@@ -32,8 +32,8 @@ const SHORT: [&[u8]; 4] = [
     \x01\x88\x00\x00\x00\x01\x00\x00\x00\x00\x00\x00\x00\x02\x00\x00\x00\x01\x12",
 ];
 
-/// Serves the requests, into a buffer, so that writing allocates nothing. Returns whether what was written is right. `None`:
-/// memory ran out, and it is right for that.
+/// Serves the requests, into a buffer, so that writing allocates nothing. Returns whether what was written is right.
+/// `None`: memory ran out, and it is right for that.
 fn are_served(alloc: Global, service: &mut Service) -> Option<bool> {
     let mut buffer = [0u8; 128];
     let (mut input, mut left) = (REQUESTS, buffer.as_mut_slice());

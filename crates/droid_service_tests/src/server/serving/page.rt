@@ -1,10 +1,11 @@
 //! The example of the crate's page, README.md of droid_wire.
 
 use crate::server::serving::LIMITS;
+use droid_client::Client;
 use droid_core::Service;
 use droid_frame::{Arrival, HashKind, Noted, Reply, Request, body_limit, read_frame, write_frame};
 use droid_pronom::Registry;
-use droid_wire::{Client, Ended, serve};
+use droid_wire::{Ended, serve};
 use std::test::Fail;
 
 fn is_made(answer: Option<&Reply>, wanted: u32) -> bool {

@@ -1,5 +1,5 @@
-//! How many frames of a stream are answered. The built program has one number for that, and tests/program cuts its streams
-//! after each byte.
+//! How many frames of a stream are answered. The built program has one number for that, and tests/program cuts its
+//! streams after each byte.
 
 use crate::server::serving::{REPLIES, REQUESTS, service};
 use droid_frame::Noted;
@@ -7,9 +7,9 @@ use droid_testing::{STEADY, ShakyReader, ShakyWriter, Stop};
 use droid_wire::{Ended, serve};
 use std::alloc::Global;
 
-/// How many frames are answered at most, how many bytes of the requests there are, and how they stop. Then how serving ends, how many
-/// bytes of replies are written, and how many of the requests are left unread. After the last frame nothing is read, and without
-/// one nothing is written.
+/// How many frames are answered at most, how many bytes of the requests there are, and how they stop. Then how serving
+/// ends, how many bytes of replies are written, and how many of the requests are left unread. After the last frame
+/// nothing is read, and without one nothing is written.
 type Turns = (u32, usize, Stop, Ended, usize, usize);
 
 const TURNS: [Turns; 7] = [

@@ -1,11 +1,11 @@
-//! Four connections in memory that send one frame at a time, in one order after the other of three frames each. Nothing here
-//! allocates.
+//! Four connections in memory that send one frame at a time, in one order after the other of three frames each. Nothing
+//! here allocates.
 
 ghost use Rattle.std.specs.Prelude.{length};
-ghost use Rattle.droid_wire_turns.specs.Events.{CameWithin};
+ghost use Rattle.droid_turns.specs.Events.{CameWithin};
 
 use droid_frame::{Frame, FrameFault, Reply};
-use droid_wire_turns::{
+use droid_turns::{
     Came, Connections, Departure, Handler, Rules, Served, Took, WaitFault, serve_in_turns,
 };
 use std::alloc::Global;
@@ -37,7 +37,8 @@ pub struct Hall {
     pub accepted: u64,
     /// How many orders came.
     pub orders: u32,
-    /// How many writes there were, and how many of them were not the reply to the frame that came last, to its connection.
+    /// How many writes there were, and how many of them were not the reply to the frame that came last, to its
+    /// connection.
     written: u32,
     wrong: u32,
     /// How many closed since their input ended, with all their frames handled, and how many since memory ran out.
@@ -46,8 +47,8 @@ pub struct Hall {
 }
 
 impl Hall {
-    /// Makes four connections that send in each order of which these are the last two digits and that is behind this one, and
-    /// give at most `width` bytes at once.
+    /// Makes four connections that send in each order of which these are the last two digits and that is behind this
+    /// one, and give at most `width` bytes at once.
     pub fn new(order: u32, width: usize) -> Hall {
         Hall {
             order,
@@ -65,8 +66,8 @@ impl Hall {
         }
     }
 
-    /// Serves all of them. Returns how that ended, and whether each frame was answered by one write, of its own reply, to its
-    /// own connection, before the next one came.
+    /// Serves all of them. Returns how that ended, and whether each frame was answered by one write, of its own reply,
+    /// to its own connection, before the next one came.
     pub fn serve(&mut self, alloc: Global) -> (Served, bool) {
         let mut handler = Counter { handled: 0 };
         let rules = Rules {
@@ -83,8 +84,8 @@ impl Hall {
 
 /// Answers each frame with how many came before it, on all connections.
 #[derive(Drop)]
-struct Counter {
-    handled: u32,
+pub struct Counter {
+    pub handled: u32,
 }
 
 impl Handler for Counter {

@@ -3,3 +3,4 @@
 mod hall;
 mod memory;
 mod orders;
+mod page;

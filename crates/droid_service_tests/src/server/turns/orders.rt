@@ -1,10 +1,10 @@
 //! Every order in which four connections may send three frames each.
 
 use crate::server::turns::hall::Hall;
-use droid_wire_turns::Served;
+use droid_turns::Served;
 
-/// How many orders begin with two frames of one connection, 10! / 3!^3, and with frames of two, 10! / (2! 2! 3! 3!): in all
-/// 4 * 16,800 + 12 * 25,200 = 12! / 3!^4.
+/// How many orders begin with two frames of one connection, 10! / 3!^3, and with frames of two, 10! / (2! 2! 3! 3!): in
+/// all 4 * 16,800 + 12 * 25,200 = 12! / 3!^4.
 const ORDERS: [u32; 2] = [16_800, 25_200];
 
 #[test]

@@ -1,6 +1,6 @@
 -- One more format is seen.
 use Rattle.std.proofs.Common.{◌∙◌, ◌++◌, take, sym, ap, append_assoc, arith}
-use Rattle.droid_signature_combinations.proofs.Sifting.{by_place_more}
+use Rattle.droid_signature.proofs.Sifting.{by_place_more}
 use Rattle.droid_signature.specs.AllLeftOut.{AreCountsOf, is_without, listed_if, without, without_at}
 use Rattle.droid_signature.proofs.omissions.push_without.Goals as goal
 

@@ -1,6 +1,6 @@
 -- The first formats are seen.
 use Rattle.std.proofs.Common.{◌≡◌, ◌++◌, List, take}
-use Rattle.droid_signature_combinations.specs.table_types.left_out.LeftOut.{LeftOut}
+use Rattle.droid_signature.specs.declared.left_out.LeftOut.{LeftOut}
 use Rattle.droid_signature.specs.AllLeftOut.{AreCountsOf, without}
 use Rattle.droid_signature.proofs.omissions.push_without.Given as goal
 

@@ -11,7 +11,7 @@ use Rattle.droid_store.proofs.Closed.{kept_is, kept_still}
 use Rattle.droid_store.proofs.FoundRows.{found_is}
 use Rattle.droid_store.proofs.FindsReplies.{finds_reply}
 use Rattle.sqlite.specs.State.{QueriesRow}
-use Rattle.droid_store_sql.proofs.MemoryFaults.{in_memory}
+use Rattle.droid_store.proofs.MemoryFaults.{in_memory}
 use Rattle.droid_store.specs.declared.statements.TheConstants.{FIND_REPLY}
 use Rattle.droid_store.proofs.MemoryFaultsOfLookUps.{row_or_none, reply_runs_out}
 use Rattle.droid_store.specs.Encoded.{number}

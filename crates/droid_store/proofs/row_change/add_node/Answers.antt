@@ -1,7 +1,7 @@
 use Rattle.std.proofs.Common.{◌∙◌}
 use Rattle.std.proofs.lemmas.Int.{to_z-of_z}
 use Rattle.std.specs.Int.{w64}
-use Rattle.droid_store_sql.proofs.Transactions.{on_err}
+use Rattle.droid_store.proofs.Transactions.{on_err}
 use Rattle.droid_store.specs.Nodes.{node_of}
 use Rattle.droid_store.proofs.NodeEffects.{with_last_node}
 use Rattle.droid_store.proofs.MemoryFaultsOfLookUps.{handed_on}

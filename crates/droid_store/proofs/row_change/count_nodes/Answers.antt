@@ -5,7 +5,7 @@ use Rattle.droid_store.proofs.Clean.{trees_are_clean}
 use Rattle.droid_store.specs.declared.statements.TheConstants.{COUNT_NODES}
 use Rattle.droid_store.proofs.Effects.{stepped, kept_safe}
 use Rattle.droid_store.proofs.NodeEffects.{counts_nodes, with_counted}
-use Rattle.droid_store_sql.proofs.MemoryFaults.{in_memory}
+use Rattle.droid_store.proofs.MemoryFaults.{in_memory}
 use Rattle.droid_store.proofs.MemoryFaultsIn.{runs_out_by}
 use Rattle.droid_store.proofs.MemoryFaultsOfChanges.{count_params, count_runs_out}
 use Rattle.droid_store.proofs.row_change.count_nodes.Goals as goal

@@ -7,7 +7,7 @@ use Rattle.droid_store.specs.Changes.{without_node}
 use Rattle.droid_store.specs.Encoded.{number}
 use Rattle.droid_store.proofs.ChangesNodes.{removes_node}
 use Rattle.droid_store.proofs.Effects.{stepped, kept_safe}
-use Rattle.droid_store_sql.proofs.MemoryFaults.{in_memory}
+use Rattle.droid_store.proofs.MemoryFaults.{in_memory}
 use Rattle.droid_store.proofs.MemoryFaultsIn.{runs_out_by}
 use Rattle.droid_store.proofs.MemoryFaultsOfChanges.{remove_params, remove_runs_out}
 use Rattle.droid_store.proofs.row_change.delete_node.Goals as goal

@@ -10,7 +10,7 @@ use Rattle.droid_frame.specs.Fields.{method_number}
 use Rattle.droid_store.specs.Encoded.{number, flag, joined}
 use Rattle.droid_store.proofs.ChangesNodes.{finishes_node}
 use Rattle.droid_store.proofs.Effects.{stepped, kept_safe}
-use Rattle.droid_store_sql.proofs.MemoryFaults.{in_memory}
+use Rattle.droid_store.proofs.MemoryFaults.{in_memory}
 use Rattle.droid_store.proofs.MemoryFaultsIn.{runs_out_by}
 use Rattle.droid_store.proofs.MemoryFaultsOfChanges.{finish_params, finish_runs_out}
 use Rattle.droid_store.proofs.row_change.finish_node.Goals as goal

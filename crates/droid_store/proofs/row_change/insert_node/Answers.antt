@@ -10,7 +10,7 @@ use Rattle.std.proofs.lemmas.Int.{to_z-of_z}
 use Rattle.std.specs.Int.{w64}
 use Rattle.droid_store.specs.Nodes.{node_of}
 use Rattle.droid_store.proofs.NodeEffects.{adds_node, with_last_node}
-use Rattle.droid_store_sql.proofs.MemoryFaults.{in_memory}
+use Rattle.droid_store.proofs.MemoryFaults.{in_memory}
 use Rattle.droid_store.proofs.MemoryFaultsIn.{runs_out_by, node_params, node_runs_out}
 use Rattle.droid_store.proofs.row_change.insert_node.Goals as goal
 

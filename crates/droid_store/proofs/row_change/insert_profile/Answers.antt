@@ -3,10 +3,9 @@ use Rattle.sqlite.specs.Held.{state}
 use Rattle.droid_store_trees.specs.Over.{over_trees}
 use Rattle.droid_store.proofs.Clean.{trees_are_clean}
 use Rattle.droid_store.specs.declared.statements.TheConstants.{ADD_PROFILE}
-use Rattle.droid_store.proofs.Effects.{stepped, kept_safe}
+use Rattle.droid_store.proofs.Effects.{stepped, kept_safe, adds_profile}
 use Rattle.droid_store.specs.Changes.{with_profile}
-use Rattle.droid_store.proofs.Effects.{adds_profile}
-use Rattle.droid_store_sql.proofs.MemoryFaults.{in_memory}
+use Rattle.droid_store.proofs.MemoryFaults.{in_memory}
 use Rattle.droid_store.proofs.MemoryFaultsIn.{runs_out_by, profile_params, profile_runs_out}
 use Rattle.droid_store.proofs.row_change.insert_profile.Goals as goal
 

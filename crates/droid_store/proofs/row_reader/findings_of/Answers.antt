@@ -1,6 +1,6 @@
 use Rattle.std.proofs.Common.{◌≡◌, ◌∙◌, ap, sym, refl, string_bytes, arith}
 use Rattle.sqlite.specs.Order.{column}
-use Rattle.droid_store_sql.proofs.Values.{same_flag, same_text}
+use Rattle.droid_store.proofs.Values.{same_flag, same_text}
 use Rattle.droid_store.specs.declared.row_reader.Findings.{Findings}
 use Rattle.droid_store.specs.Encoded.{joined, words_of}
 use Rattle.droid_store.specs.Rows.{hash_of}

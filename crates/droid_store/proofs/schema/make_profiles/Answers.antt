@@ -2,7 +2,7 @@ use Rattle.sqlite.specs.Held.{state}
 use Rattle.droid_store_trees.specs.Over.{over_trees}
 use Rattle.droid_store.proofs.Clean.{trees_are_clean}
 use Rattle.droid_store.proofs.Makes.{makes_profiles}
-use Rattle.droid_store_sql.proofs.MemoryFaults.{in_memory}
+use Rattle.droid_store.proofs.MemoryFaults.{in_memory}
 use Rattle.droid_store.proofs.MemoryFaultsOfTables.{profiles_runs_out}
 use Rattle.droid_store.proofs.schema.make_profiles.Goals as goal
 

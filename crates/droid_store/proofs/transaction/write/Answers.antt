@@ -2,10 +2,10 @@ use Rattle.std.proofs.Common.{◌≡◌, OnOk, OnErr, refl, subst, rules, ◌∙
 use Rattle.sqlite.specs.Held.{Held, state}
 use Rattle.droid_store_trees.specs.Over.{over_trees}
 use Rattle.droid_store.proofs.Clean.{trees_are_clean}
-use Rattle.droid_store_sql.specs.Transactions.{Settled}
+use Rattle.droid_store.specs.Transactions.{Settled}
 use Rattle.droid_store_trees.specs.declared.storage.TreeStore.{TreeStore}
-use Rattle.droid_store_sql.proofs.Transactions.{on_err, rolled_back, ends_ok, ends_err}
-use Rattle.droid_store_sql.proofs.MemoryFaults.{in_memory, commit_runs_out}
+use Rattle.droid_store.proofs.Transactions.{on_err, rolled_back, ends_ok, ends_err}
+use Rattle.droid_store.proofs.MemoryFaults.{in_memory, commit_runs_out}
 use Rattle.droid_store.proofs.MemoryFaultsOfLookUps.{failed_for, handed_on}
 use Rattle.droid_store.proofs.Unique.{keys_of}
 use Rattle.droid_store.specs.Changes.{with_reply}

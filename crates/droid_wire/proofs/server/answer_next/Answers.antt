@@ -2,7 +2,7 @@ use Rattle.std.proofs.Common.{◌≡◌, ℕ, Option, Result, refl, arith, inl, 
 use Rattle.std.specs.Prelude.{IsErrAnd, IsErrOf}
 use Rattle.droid_frame.proofs.Stopping.{room_stays}
 use Rattle.droid_frame.specs.InTurn.{ReportsFaultInOne}
-use Rattle.droid_frame.specs.declared.stream.fault.FrameFault.TheVariants.{Read}
+use Rattle.droid_frame.specs.declared.streams.fault.FrameFault.TheVariants.{Read}
 use Rattle.droid_wire.specs.Turns.{ReadsFrame}
 use Rattle.droid_wire.specs.declared.serve_fault.ServeFault.{ServeFault}
 use Rattle.droid_wire.specs.declared.serve_fault.ServeFault.TheVariants as faults

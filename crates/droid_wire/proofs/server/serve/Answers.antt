@@ -1,8 +1,8 @@
 use Rattle.std.proofs.Common.{◌≡◌, ◌+◌, ◌≤◌, ℕ, Result, refl, arith}
 use Rattle.std.specs.Prelude.{IfSome, IsErrAnd, IsErrOf}
-use Rattle.droid_frame.specs.types.frame.Frame.{Frame}
-use Rattle.droid_frame.specs.types.reply.Reply.{Reply}
-use Rattle.droid_frame.specs.declared.stream.fault.FrameFault.TheVariants.{Read}
+use Rattle.droid_frame.specs.declared.frame.Frame.{Frame}
+use Rattle.droid_frame.specs.declared.reply.Reply.{Reply}
+use Rattle.droid_frame.specs.declared.streams.fault.FrameFault.TheVariants.{Read}
 use Rattle.droid_wire.specs.declared.serve_fault.ServeFault.TheVariants as faults
 use Rattle.droid_frame.specs.InTurn.{ReportsFaultInTurn}
 use Rattle.droid_wire.specs.Turns.{ReadsFrame, WritesReply}

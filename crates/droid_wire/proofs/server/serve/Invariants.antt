@@ -1,9 +1,9 @@
 -- The frames so far were handled, their replies were written, and both streams lasted.
 use Rattle.std.proofs.Common.{◌≡◌, ◌*◌, ◌≤◌, None, IfSome}
 use Rattle.droid_frame.specs.Seen.{IsSound}
-use Rattle.droid_wire_journal.specs.core.Standing.{StandsFor, limits_of, registry_of}
-use Rattle.droid_wire_journal.specs.core.Histories.{History}
-use Rattle.droid_wire_journal.specs.core.Setting.{Setting}
+use Rattle.droid_core.specs.Standing.{StandsFor, limits_of, registry_of}
+use Rattle.droid_core_spec.specs.Histories.{History}
+use Rattle.droid_core_spec.specs.Setting.{Setting}
 use Rattle.droid_wire.specs.Turns.{ReadsFrame, WritesReply}
 use Rattle.droid_wire.specs.Serving.{GoesOnFrom}
 use Rattle.droid_frame.proofs.InTurn.{OverItems}

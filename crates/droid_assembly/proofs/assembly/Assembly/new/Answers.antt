@@ -11,7 +11,7 @@ width_is c = omega (arith, c.in_ok-with_room.ensures.width)
 first_is : (c : In_ok-empty_places) → vec_capacity c.in_ok-with_room.field-0.first ≡ min c.args.size c.args.scan_limit
 first_is c = omega (arith, c.in_ok-with_room.ensures.first_reserved)
 
-last_is : (c : In_ok-empty_places) → vec_capacity c.in_ok-with_room.field-0.last.bytes ≡ min c.args.size c.args.scan_limit
+last_is : (c : In_ok-empty_places) → c.in_ok-with_room.field-0.last.capacity ≡ min c.args.size c.args.scan_limit
 last_is c = omega (arith, c.in_ok-with_room.ensures.last_reserved)
 
 pub invariant_of-result : goal.invariant_of-result

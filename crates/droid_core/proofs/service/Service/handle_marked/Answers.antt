@@ -1,10 +1,10 @@
 use Rattle.std.proofs.Common.{◌≡◌, ℕ, List, Some, refl, sym, ap, ◌∙◌}
-use Rattle.droid_frame.specs.types.refusal.Refusal.TheVariants.{Malformed}
-use Rattle.droid_frame.specs.types.reply.Reply.TheVariants.{Refused}
-use Rattle.droid_core_requests.specs.stamps.Stamp.{Stamp}
+use Rattle.droid_frame.specs.declared.refusal.Refusal.TheVariants.{Malformed}
+use Rattle.droid_frame.specs.declared.reply.Reply.TheVariants.{Refused}
+use Rattle.droid_core.specs.declared.stamps.Stamp.{Stamp}
 use Rattle.droid_core_spec.proofs.Asked.{asked, is_asked, nothing_asked}
 use Rattle.droid_core.specs.Standing.{StandsFor}
-use Rattle.droid_core.proofs.Added.{malformed_adds}
+use Rattle.droid_core.proofs.AddedEntries.{malformed_adds}
 use Rattle.droid_core.proofs.Handling.{handles_malformed, never_store}
 use Rattle.droid_core.proofs.service.Service.handle_marked.Goals as goal
 

@@ -2,9 +2,9 @@ use Rattle.std.proofs.Common.{◌≡◌, ◌≢◌, ◌++◌, ◌∷◌, [], con
 use Rattle.std.proofs.lemmas.Grind.{common_steps}
 use Rattle.std.proofs.lemmas.Iterator.Adapters.{YieldsList-from_vec}
 use Rattle.std.proofs.lemmas.Iterator.Consumers.{YieldsList-turn, YieldsList-end}
-use Rattle.droid_frame.specs.types.refusal.Refusal.TheVariants.{Store}
-use Rattle.droid_frame.specs.types.reply.Reply.{Reply}
-use Rattle.droid_frame.specs.types.reply.Reply.TheVariants.{Refused}
+use Rattle.droid_frame.specs.declared.refusal.Refusal.TheVariants.{Store}
+use Rattle.droid_frame.specs.declared.reply.Reply.{Reply}
+use Rattle.droid_frame.specs.declared.reply.Reply.TheVariants.{Refused}
 use Rattle.droid_core_spec.proofs.Each.{each_with_one_more}
 use Rattle.droid_core.proofs.Running.{Runs-push}
 use Rattle.droid_core.proofs.service.Service.run.Goals as goal

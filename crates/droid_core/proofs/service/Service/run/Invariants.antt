@@ -1,9 +1,9 @@
 -- The replies so far are those of a run over the requests so far, and there is room for the others.
 use Rattle.std.proofs.Common.{◌≡◌, ◌≢◌, ◌≤◌, length}
 use Rattle.std.specs.List.{AllByRecursion}
-use Rattle.droid_frame.specs.types.refusal.Refusal.TheVariants.{Store}
-use Rattle.droid_frame.specs.types.reply.Reply.{Reply}
-use Rattle.droid_frame.specs.types.reply.Reply.TheVariants.{Refused}
+use Rattle.droid_frame.specs.declared.refusal.Refusal.TheVariants.{Store}
+use Rattle.droid_frame.specs.declared.reply.Reply.{Reply}
+use Rattle.droid_frame.specs.declared.reply.Reply.TheVariants.{Refused}
 use Rattle.std.specs.Prelude.{vec_len, vec_capacity}
 use Rattle.droid_core_spec.specs.Histories.{History}
 use Rattle.droid_core_spec.specs.Setting.{Setting}

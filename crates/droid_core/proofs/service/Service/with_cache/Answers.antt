@@ -1,6 +1,6 @@
 use Rattle.std.proofs.Common.{[], ap, sym, ◌∙◌}
 use Rattle.droid_core_spec.specs.Limits.{Limits}
-use Rattle.droid_core_requests.specs.holdings.Holdings.{Holdings}
+use Rattle.droid_core.specs.declared.holdings.Holdings.{Holdings}
 use Rattle.droid_core.proofs.Starting.{starts}
 use Rattle.droid_core.proofs.service.Service.with_cache.Goals as goal
 

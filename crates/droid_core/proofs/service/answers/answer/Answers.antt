@@ -1,8 +1,8 @@
 use Rattle.std.proofs.Common.{◌≡◌, false, Some, refl, subst}
-use Rattle.droid_core_requests.specs.stamps.Stamp.{Stamp}
+use Rattle.droid_core.specs.declared.stamps.Stamp.{Stamp}
 use Rattle.droid_store.specs.Rows.{reply_for}
 use Rattle.droid_core.specs.declared.service.Service.{Service}
-use Rattle.droid_core.proofs.Added.{repeated_adds}
+use Rattle.droid_core.proofs.AddedEntries.{repeated_adds}
 use Rattle.droid_core.proofs.Handling.{answers_again}
 use Rattle.droid_core.proofs.LookedUp.{after_look_ups}
 use Rattle.droid_core.proofs.Recalling.{not_new, store_has, with_recent}

@@ -1,18 +1,18 @@
 use Rattle.std.proofs.Common.{◌≡◌, Some, IsTrue, sym, subst, ap, ◌∙◌}
 use Rattle.droid_frame.specs.Replies.{HasReplySpelling}
-use Rattle.droid_frame.specs.types.frame.Frame.{Frame}
-use Rattle.droid_frame.specs.types.reply.Reply.{Reply}
-use Rattle.droid_frame.specs.types.request.Request.{Request}
+use Rattle.droid_frame.specs.declared.frame.Frame.{Frame}
+use Rattle.droid_frame.specs.declared.reply.Reply.{Reply}
+use Rattle.droid_frame.specs.declared.request.Request.{Request}
 use Rattle.droid_core_spec.specs.Histories.{History, Handles, command, world_of}
 use Rattle.droid_core_spec.specs.Judging.{judge}
 use Rattle.droid_core_spec.specs.Setting.{Setting}
-use Rattle.droid_core_requests.specs.Standing.{limits_given}
-use Rattle.droid_core_requests.specs.Changes.{Comes, answered, stamp_of}
-use Rattle.droid_core_requests.specs.stamps.Stamp.{Stamp}
-use Rattle.droid_core_requests.specs.KeptTexts.{is_followed}
+use Rattle.droid_core.specs.HoldingsStanding.{limits_given}
+use Rattle.droid_core.specs.Changes.{Comes, answered, stamp_of}
+use Rattle.droid_core.specs.declared.stamps.Stamp.{Stamp}
+use Rattle.droid_core.specs.KeptTexts.{is_followed}
 use Rattle.droid_core.specs.declared.service.Service.{Service}
 use Rattle.droid_core.specs.Standing.{Stand, StandsFor}
-use Rattle.droid_core.proofs.Added.{new_adds}
+use Rattle.droid_core.proofs.AddedEntries.{new_adds}
 use Rattle.droid_core.proofs.FollowedTexts.{is_query, still_for}
 use Rattle.droid_core.proofs.Handling.{answers_anew}
 use Rattle.droid_core.proofs.Recalling.{with_new}

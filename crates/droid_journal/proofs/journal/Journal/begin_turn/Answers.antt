@@ -1,9 +1,9 @@
 use Rattle.std.proofs.Common.{rules, ◌≡◌, ◌++◌, List, ℕ, [], false, refl, subst, sym}
 use Rattle.std.proofs.lemmas.List.{append-nil}
-use Rattle.droid_journal_chain.specs.Chains.{journal_bytes}
-use Rattle.droid_journal_chain.specs.Fronts.{IsFront}
-use Rattle.droid_journal_chain.specs.Records.{turn_mark}
-use Rattle.droid_journal_chain.specs.declared.key.Form.TheVariants as forms
+use Rattle.droid_journal.specs.Chains.{journal_bytes}
+use Rattle.droid_journal.specs.Fronts.{IsFront}
+use Rattle.droid_journal.specs.Records.{turn_mark}
+use Rattle.droid_journal.specs.declared.records.key.Form.TheVariants as forms
 use Rattle.droid_journal.specs.Standing.{ahead_bytes}
 use Rattle.droid_journal.proofs.Standing.{begun, nothing, was_clean}
 use Rattle.droid_journal.proofs.journal.Journal.begin_turn.Goals as goal

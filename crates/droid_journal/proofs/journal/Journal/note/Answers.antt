@@ -1,9 +1,9 @@
 use Rattle.std.proofs.Common.{◌≡◌, ◌∙◌, ◌++◌, Bool, List, ℕ, length, not, sym, ap, subst, arith}
 use Rattle.droid_frame.specs.ReplyFrames.{reply_frame}
-use Rattle.droid_journal_chain.specs.Fronts.{IsFront}
-use Rattle.droid_journal_chain.specs.Records.{Record, made, place_after, record_bytes}
-use Rattle.droid_journal_chain.specs.declared.place.Place.{Place}
-use Rattle.droid_journal_chain.proofs.Chains.{place_same}
+use Rattle.droid_journal.specs.Fronts.{IsFront}
+use Rattle.droid_journal.specs.Records.{Record, made, place_after, record_bytes}
+use Rattle.droid_journal.specs.declared.records.place.Place.{Place}
+use Rattle.droid_journal.proofs.Chains.{place_same}
 use Rattle.droid_journal.proofs.Standing.{left_out}
 use Rattle.droid_journal.proofs.journal.Journal.note.Goals as goal
 

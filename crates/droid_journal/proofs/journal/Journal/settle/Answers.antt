@@ -1,6 +1,6 @@
 use Rattle.std.proofs.Common.{◌++◌, refl}
-use Rattle.droid_journal_chain.specs.Chains.{journal_bytes}
-use Rattle.droid_journal_chain.specs.Records.{turn_mark}
+use Rattle.droid_journal.specs.Chains.{journal_bytes}
+use Rattle.droid_journal.specs.Records.{turn_mark}
 use Rattle.droid_journal.specs.Standing.{ahead_bytes}
 use Rattle.droid_journal.proofs.Standing.{nothing, settled}
 use Rattle.droid_journal.proofs.journal.Journal.settle.Goals as goal

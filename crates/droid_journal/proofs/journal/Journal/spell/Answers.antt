@@ -1,6 +1,6 @@
 use Rattle.std.proofs.Common.{◌≡◌, ◌∙◌, ◌++◌, Bool, ℕ, List, length, not, ap, arith}
 use Rattle.droid_frame.specs.ReplyFrames.{reply_frame}
-use Rattle.droid_journal_chain.specs.Records.{made, next_check, record_bytes}
+use Rattle.droid_journal.specs.Records.{made, next_check, record_bytes}
 use Rattle.droid_journal.proofs.Rooms.{reply_long}
 use Rattle.droid_journal.proofs.journal.Journal.spell.Goals as goal
 

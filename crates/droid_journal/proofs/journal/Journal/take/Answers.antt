@@ -1,9 +1,9 @@
 use Rattle.std.proofs.Common.{rules, ◌≡◌, ◌∙◌, Bool, true, false, not, List, ℕ, [], ◌∷◌, ◌++◌, refl, sym, ap, subst, inl, inr, arith}
 use Rattle.droid_frame.specs.Frames.{frame_bytes, mark_of}
 use Rattle.droid_frame.specs.ReplyFrames.{reply_frame}
-use Rattle.droid_journal_chain.specs.Chains.{journal_bytes}
-use Rattle.droid_journal_chain.specs.Fronts.{IsFront}
-use Rattle.droid_journal_chain.specs.Records.{made}
+use Rattle.droid_journal.specs.Chains.{journal_bytes}
+use Rattle.droid_journal.specs.Fronts.{IsFront}
+use Rattle.droid_journal.specs.Records.{made}
 use Rattle.droid_journal.specs.Machines.{extended, record_of}
 use Rattle.droid_journal.specs.Standing.{Stands, ahead_bytes}
 use Rattle.droid_journal.proofs.Standing.{noted, part_front, turn_more}

@@ -1,5 +1,5 @@
 use Rattle.std.proofs.Common.{◌≡◌, ◌∙◌}
-use Rattle.droid_pronom_formats.specs.Registry.{place_of}
+use Rattle.droid_pronom.specs.Registry.{place_of}
 use Rattle.droid_pronom.proofs.RegistryTables.{place_within, place_there}
 use Rattle.droid_pronom.proofs.registry.Registry.by_puid.Goals as goal
 

@@ -1,5 +1,5 @@
 use Rattle.std.proofs.lemmas.Result.{IfOk-weaker}
-use Rattle.droid_pronom_formats.specs.FoundWindows.{HitsWindows}
+use Rattle.droid_pronom.specs.FoundWindows.{HitsWindows}
 use Rattle.droid_pronom.proofs.FoundSteps.{found_few, found_puids}
 use Rattle.droid_pronom.proofs.FoundFile.{found_in_file}
 use Rattle.droid_pronom.proofs.registry.Registry.identify.Goals as goal

@@ -2,7 +2,7 @@ use Rattle.std.proofs.Common.{◌≡◌, ◌<◌, true, ℕ, List, Some, Result}
 use Rattle.csv.specs.Reading.{Ready, default_config, source_of, strip_bom}
 use Rattle.csv.specs.declared.parser.State.TheVariants as st
 use Rattle.csv.specs.declared.reader.Trim.TheVariants as trim
-use Rattle.droid_pronom_formats.specs.Registry.{Contents}
+use Rattle.droid_pronom.specs.Registry.{Contents}
 use Rattle.droid_pronom.specs.RegistryCalls.{draft_of}
 use Rattle.droid_pronom.specs.RegistryFile.{Outcome, empty_draft}
 use Rattle.droid_pronom.specs.declared.registry.fault.RegistryFault.{RegistryFault}

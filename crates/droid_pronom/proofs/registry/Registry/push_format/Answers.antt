@@ -1,6 +1,6 @@
 use Rattle.std.proofs.Common.{◌≡◌, ◌∙◌, ◌++◌, ◌∷◌, [], List, length, refl, ap, false, Bool, string_bytes}
 use Rattle.std.proofs.lemmas.Map.Text.{btree_map_updates_text}
-use Rattle.droid_pronom_formats.specs.declared.format.Format.{Format}
+use Rattle.droid_pronom.specs.declared.format.Format.{Format}
 use Rattle.droid_pronom.proofs.RegistryTables.{kept_format}
 use Rattle.droid_pronom.proofs.registry.Registry.push_format.Goals as goal
 

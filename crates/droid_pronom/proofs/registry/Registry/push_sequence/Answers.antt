@@ -1,5 +1,5 @@
 use Rattle.std.proofs.Common.{◌≡◌, ◌∙◌, List, length, refl, sym, ap, arith}
-use Rattle.droid_pronom_formats.specs.Registry.{Contents, Signed}
+use Rattle.droid_pronom.specs.Registry.{Contents, Signed}
 use Rattle.droid_pronom.specs.RegistryGrowth.{with_sequence}
 use Rattle.droid_pronom.proofs.RegistryTables.{kept_sequence, extended_is}
 use Rattle.droid_pronom.proofs.registry.Registry.push_sequence.Goals as goal

@@ -1,7 +1,7 @@
 -- One more is counted.
 use Rattle.std.proofs.Common.{◌++◌, ◌∷◌, [], List, take, sym, subst, arith}
 use Rattle.std.proofs.lemmas.List.{take_more}
-use Rattle.droid_signature_combinations.specs.table_types.left_out.LeftOut.{LeftOut}
+use Rattle.droid_signature.specs.declared.left_out.LeftOut.{LeftOut}
 use Rattle.droid_signature.specs.AllLeftOut.{AreCountsOf}
 use Rattle.droid_signature.proofs.omissions.Counts.of.Goals as goal
 

@@ -1,5 +1,5 @@
 use Rattle.std.proofs.Common.{◌+◌, ◌∙◌, ap, sym}
-use Rattle.droid_store_sql.proofs.Transactions.{on_err}
+use Rattle.droid_store.proofs.Transactions.{on_err}
 use Rattle.droid_store.specs.declared.rows.Counts.{Counts}
 use Rattle.droid_store.specs.Changes.{with_reply}
 use Rattle.droid_store.specs.CommandChanges.{changed}

@@ -1,0 +1,34 @@
+//! Values of options.
+
+ghost use Rattle.std.specs.Prelude.{option_map};
+ghost use Rattle.clap.specs.Words.{found_of, one_of, rows_of};
+ghost use Rattle.droid_arguments.specs.Values.{IsFlag, IsHash, Reads};
+
+use clap::ArgMatches;
+use droid_frame::HashKind;
+
+/// Reads the name of a hash: `md5`, `sha256` or `none`. Without a name the hash is MD5. No other name is one of a hash.
+pub fn hash_of(word: Option<&str>) -> Option<HashKind>
+    ensures { Reads result (IsHash (option_map (λ text. text.now) word.entry)) }
+{
+    let Some(word) = word else {
+        return Some(HashKind::Md5);
+    };
+    if word == "md5" {
+        return Some(HashKind::Md5);
+    }
+    if word == "sha256" {
+        return Some(HashKind::Sha256);
+    }
+    if word == "none" {
+        return Some(HashKind::Nothing);
+    }
+    None
+}
+
+/// Returns whether a flag is set.
+pub fn flag_of(matches: &ArgMatches<'_>, name: &str) -> bool
+    ensures { IsFlag (one_of name.now (rows_of (found_of matches.now))) result }
+{
+    matches.get_one(name).unwrap_or(false)
+}

@@ -1,0 +1,5 @@
+pub mod FolderEnds
+pub mod KeptTexts
+pub mod OtherEntries
+pub mod SkippedLines
+pub mod WriterEnds

@@ -1,0 +1,10 @@
+pub mod Abouts
+pub mod Endings
+pub mod Kept
+pub mod NamedRegistries
+pub mod OtherFiles
+pub mod PagesOfCsv
+pub mod ProfileEndings
+pub mod ProfiledFolders
+pub mod SkippedFiles
+pub mod WalkOptions

@@ -1,0 +1,10 @@
+//! The page of a CSV that was just written, or of a file, as the command `report` makes it.
+
+pub mod about;
+pub mod csv_page;
+pub mod csv_report;
+pub mod page_fault;
+pub mod page_writer;
+pub mod profile_report;
+pub mod report_ending;
+pub mod report_sentences;

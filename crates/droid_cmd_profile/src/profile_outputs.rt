@@ -1,0 +1,188 @@
+//! The files that a profile writes: each is complete, or as it was before.
+
+use crate::profile_ending::ProfileEnding;
+use droid_arguments::ProfileOptions;
+use droid_disk::{FileId, Output, OutputFault};
+use droid_terminal::is_same_place;
+use std::alloc::Global;
+use std::fs::{File, Files};
+
+/// A file that a profile writes.
+#[derive(Clone, Copy)]
+pub enum OutputFile {
+    /// The CSV.
+    Csv,
+    /// The list of checksums.
+    Manifest,
+    /// The CSV of what was skipped.
+    Skipped,
+    /// The page.
+    Page,
+}
+
+/// The files that are named by options.
+#[derive(Drop)]
+pub(crate) struct OutputFiles<'a, R: Files> {
+    /// The CSV.
+    pub csv: Option<Output<'a, R>>,
+    /// The list of checksums.
+    pub manifest: Option<Output<'a, R>>,
+    /// The CSV of what was skipped.
+    pub skipped: Option<Output<'a, R>>,
+}
+
+impl<'a, R: Files<File = File> + AllocGlobal> OutputFiles<'a, R> {
+    /// Checks that all files that are named can be created, and that no two are the same.
+    pub fn create(
+        rt: &'a R,
+        options: ProfileOptions<'_>,
+    ) -> Result<OutputFiles<'a, R>, ProfileEnding> {
+        see_other(rt, options.output, options.manifest, OutputFile::Manifest)?;
+        see_other(rt, options.output, options.skipped, OutputFile::Skipped)?;
+        see_other(rt, options.manifest, options.skipped, OutputFile::Skipped)?;
+        let csv = create(rt, options.output, OutputFile::Csv)?;
+        let manifest = match create(rt, options.manifest, OutputFile::Manifest) {
+            Ok(manifest) => manifest,
+            Err(ending) => {
+                give_up(csv);
+                return Err(ending);
+            }
+        };
+        let skipped = match create(rt, options.skipped, OutputFile::Skipped) {
+            Ok(skipped) => skipped,
+            Err(ending) => {
+                give_up(csv);
+                give_up(manifest);
+                return Err(ending);
+            }
+        };
+        Ok(OutputFiles {
+            csv,
+            manifest,
+            skipped,
+        })
+    }
+
+    /// Creates them, and returns which they are.
+    pub fn begin(&mut self, alloc: Global) -> Result<Vec<FileId>, ProfileEnding> {
+        let mut own = Vec::new(alloc);
+        begin(&mut self.csv, OutputFile::Csv, &mut own)?;
+        begin(&mut self.manifest, OutputFile::Manifest, &mut own)?;
+        begin(&mut self.skipped, OutputFile::Skipped, &mut own)?;
+        Ok(own)
+    }
+
+    /// Puts all in their places, the CSV last. If one can't be put there, those behind it are given up.
+    pub fn complete(self) -> Result<(), ProfileEnding> {
+        let OutputFiles {
+            csv,
+            manifest,
+            skipped,
+        } = self;
+        if let Err(ending) = complete(skipped, OutputFile::Skipped) {
+            give_up(manifest);
+            give_up(csv);
+            return Err(ending);
+        }
+        if let Err(ending) = complete(manifest, OutputFile::Manifest) {
+            give_up(csv);
+            return Err(ending);
+        }
+        complete(csv, OutputFile::Csv)
+    }
+
+    /// Removes all that was written. Older files stay.
+    pub fn give_up(self) {
+        let OutputFiles {
+            csv,
+            manifest,
+            skipped,
+        } = self;
+        give_up(csv);
+        give_up(manifest);
+        give_up(skipped);
+    }
+}
+
+/// Checks that the file for the page can be created, if one is named, and that it is none of the others. It is created
+/// only after them, so that no walk meets it.
+pub(crate) fn create_page<'a, R: Files<File = File> + AllocGlobal>(
+    rt: &'a R,
+    options: ProfileOptions<'_>,
+) -> Result<Option<Output<'a, R>>, ProfileEnding> {
+    see_other(rt, options.output, options.report, OutputFile::Page)?;
+    see_other(rt, options.manifest, options.report, OutputFile::Page)?;
+    see_other(rt, options.skipped, options.report, OutputFile::Page)?;
+    create(rt, options.report, OutputFile::Page)
+}
+
+/// Checks that the second of two files that may be named is not the first.
+fn see_other<R: Files + AllocGlobal>(
+    rt: &R,
+    first: Option<&str>,
+    second: Option<&str>,
+    file: OutputFile,
+) -> Result<(), ProfileEnding> {
+    let (Some(first), Some(second)) = (first, second) else {
+        return Ok(());
+    };
+    match is_same_place(rt, first, second) {
+        Ok(false) => Ok(()),
+        Ok(true) => Err(ProfileEnding::SameFile(file)),
+        Err(_) => Err(ProfileEnding::NoOutput(file, OutputFault::Memory)),
+    }
+}
+
+/// Checks that a file can be created, if one is named.
+fn create<'a, R: Files<File = File> + AllocGlobal>(
+    rt: &'a R,
+    path: Option<&str>,
+    file: OutputFile,
+) -> Result<Option<Output<'a, R>>, ProfileEnding> {
+    let Some(path) = path else {
+        return Ok(None);
+    };
+    match Output::create(rt.alloc(), rt, path) {
+        Ok(output) => Ok(Some(output)),
+        Err(fault) => Err(ProfileEnding::NoOutput(file, fault)),
+    }
+}
+
+/// Creates a file, if there is one, and appends which it is.
+fn begin<R: Files<File = File>>(
+    output: &mut Option<Output<'_, R>>,
+    file: OutputFile,
+    own: &mut Vec<FileId>,
+) -> Result<(), ProfileEnding> {
+    let Some(output) = output else {
+        return Ok(());
+    };
+    match output.begin() {
+        Ok(id) => match own.push(id) {
+            Ok(()) => Ok(()),
+            Err(_) => Err(ProfileEnding::NoOutput(file, OutputFault::Memory)),
+        },
+        Err(fault) => Err(ProfileEnding::NoOutput(file, fault)),
+    }
+}
+
+/// Puts a file in its place, if there is one.
+fn complete<R: Files<File = File>>(
+    output: Option<Output<'_, R>>,
+    file: OutputFile,
+) -> Result<(), ProfileEnding> {
+    let Some(output) = output else {
+        return Ok(());
+    };
+    match output.complete() {
+        Ok(()) => Ok(()),
+        Err(fault) => Err(ProfileEnding::NoOutput(file, fault)),
+    }
+}
+
+/// Removes what was written of a file, if there is one.
+pub(crate) fn give_up<R: Files>(output: Option<Output<'_, R>>) {
+    if let Some(output) = output {
+        output.give_up();
+    }
+}

@@ -1,0 +1,152 @@
+//! The files of this machine.
+
+ghost use Rattle.std.specs.Prelude.{◌≤◌, length, IfOk};
+ghost use Rattle.droid_cmd_registry.specs.Machines.{MayDo};
+
+use crate::registry_places::{Part, Places, Unput, Unread};
+use droid_disk::{Output, OutputFault};
+use droid_frame::{InputFault, Noted, WriteState, read_to_end, write_all};
+use std::alloc::Global;
+use std::fs::{File, Files, OpenFile};
+use std::io::ErrorKind;
+use std::os::unix::fs::MetadataExt;
+use std::{fs, io};
+
+/// The most bytes of a signature file.
+const BYTES_LIMIT: usize = 67_108_864;
+
+/// The files of this machine, standard output and standard error.
+#[derive(Drop)]
+pub(crate) struct Machine<'a, R> {
+    pub rt: &'a R,
+    /// The path of the signature file.
+    pub file: &'a str,
+    /// The path of the registry. Without one it goes to standard output.
+    pub output: Option<&'a str>,
+}
+
+impl<R: Files<File = File> + Print + Eprint + AllocGlobal> Places for Machine<'_, R> {
+    ghost does = { λ old act new. MayDo act };
+
+    fn read_file(&mut self, alloc: Global) -> Result<Vec<u8>, Unread> {
+        file_bytes(self.rt, alloc, self.file)
+    }
+
+    fn put(&mut self, part: Part, bytes: &[u8]) -> Result<(), Unput> {
+        match (part, self.output) {
+            (Part::Registry, None) => put_on_output(self.rt, bytes),
+            (Part::Registry, Some(path)) => put_file(self.rt, self.file, path, bytes),
+            (Part::Note, None) => Ok(()),
+            (Part::Note, Some(path)) => put_beside(self.rt, self.file, path, bytes),
+        }
+    }
+
+    fn report(&mut self, text: &str) {
+        let _ = eprint!(self.rt; "{text}");
+    }
+}
+
+/// Reads all bytes of a file.
+fn file_bytes<R: Files<File = File>>(rt: &R, alloc: Global, path: &str) -> Result<Vec<u8>, Unread>
+    ensures { IfOk result (λ bytes. length bytes.items ≤ 67108864) }
+{
+    let file = match open_file(rt, path) {
+        Ok(file) => file,
+        Err(kind) => return Err(Unread::Unopened(kind)),
+    };
+    match read_to_end(alloc, &mut Noted::new(file), BYTES_LIMIT) {
+        Ok(bytes) => Ok(bytes),
+        Err(InputFault::TooLong) => Err(Unread::TooLong),
+        Err(InputFault::Memory) => Err(Unread::Memory),
+        Err(InputFault::Read) => Err(Unread::Failed),
+    }
+}
+
+/// Opens a file. The error says why it could not be opened, or that it is a folder.
+fn open_file<R: Files<File = File>>(rt: &R, path: &str) -> Result<File, ErrorKind> {
+    let file = match fs::open(rt, path) {
+        Ok(file) => file,
+        Err(error) => return Err(error.kind()),
+    };
+    if let Ok(metadata) = file.metadata()
+        && metadata.is_dir()
+    {
+        return Err(ErrorKind::IsADirectory);
+    }
+    Ok(file)
+}
+
+/// Writes to standard output.
+fn put_on_output<R: Print>(rt: &R, bytes: &[u8]) -> Result<(), Unput> {
+    match write_all(
+        &mut Noted::new(io::writer(rt)),
+        bytes,
+        &mut WriteState::new(),
+    ) {
+        Ok(()) => Ok(()),
+        Err(_) => Err(Unput::Unwritten),
+    }
+}
+
+/// Writes the note to the file beside a registry.
+fn put_beside<R: Files<File = File> + AllocGlobal>(
+    rt: &R,
+    file: &str,
+    path: &str,
+    bytes: &[u8],
+) -> Result<(), Unput> {
+    match format!(in rt.alloc(); "{path}.txt") {
+        Ok(beside) => put_file(rt, file, beside.as_str(), bytes),
+        Err(_) => Err(Unput::Memory),
+    }
+}
+
+/// Writes a file, which is put in its place once it is complete. It may not be the signature file.
+fn put_file<R: Files<File = File> + AllocGlobal>(
+    rt: &R,
+    file: &str,
+    path: &str,
+    bytes: &[u8],
+) -> Result<(), Unput> {
+    if is_same_file(rt, file, path) {
+        return Err(Unput::SameFile);
+    }
+    let mut output = match Output::create(rt.alloc(), rt, path) {
+        Ok(output) => output,
+        Err(fault) => return Err(unput(fault)),
+    };
+    if let Err(fault) = output.begin() {
+        return Err(unput(fault));
+    }
+    if write_all(&mut output, bytes, &mut WriteState::new()).is_err() {
+        output.give_up();
+        return Err(Unput::Unwritten);
+    }
+    match output.complete() {
+        Ok(()) => Ok(()),
+        Err(fault) => Err(unput(fault)),
+    }
+}
+
+fn unput(fault: OutputFault) -> Unput {
+    match fault {
+        OutputFault::Memory => Unput::Memory,
+        OutputFault::Refused => Unput::Refused,
+    }
+}
+
+/// Returns whether two paths lead to the same file.
+fn is_same_file<R: Files>(rt: &R, first: &str, second: &str) -> bool {
+    match (identity_of(rt, first), identity_of(rt, second)) {
+        (Some(one), Some(other)) => one == other,
+        _ => false,
+    }
+}
+
+/// Returns the device of a file and its number there, if there is one.
+fn identity_of<R: Files>(rt: &R, path: &str) -> Option<(u64, u64)> {
+    match fs::metadata(rt, path) {
+        Ok(found) => Some((found.dev(), found.ino())),
+        Err(_) => None,
+    }
+}

@@ -1,0 +1,129 @@
+//! The commands of a service, over files, standard streams and ports of this machine.
+
+ghost use Rattle.std.specs.Prelude.{◌<◌, ◌^◌};
+
+use crate::client::send_lines;
+use crate::command_end::Ended;
+use crate::exit::Ending;
+use crate::registry::{note_formats, open_registry, service_for};
+use crate::scripts::{script_by_registry, script_by_sample};
+use crate::stream::answer_stream;
+use droid_arguments::RegistrySource;
+use droid_core::Service;
+use droid_frame::{NUMBER_LIMIT, Noted};
+use droid_lines::SendFault;
+use droid_pronom::common_registry;
+use droid_turns::Pipe;
+use droid_wire::ServiceHandler;
+use std::fs::Files;
+use std::io;
+use std::io::BufReader;
+use std::net::{Ipv4Addr, Net, TcpListener, TcpStream};
+
+/// Runs a script from standard input to standard output, over a new service.
+pub fn script_command<'a, R: Files + Input + Print + Eprint + AllocGlobal>(
+    rt: &R,
+    source: RegistrySource<'a>,
+) -> Ended<'a> {
+    let mut input = Noted::new(rt.reader());
+    let mut output = Noted::new(io::writer(rt));
+    let ending = match source {
+        RegistrySource::Sample => script_by_sample(rt.alloc(), &mut input, &mut output),
+        RegistrySource::Everyday => script_by_registry(
+            rt.alloc(),
+            &mut common_registry(),
+            &mut None,
+            &mut input,
+            &mut output,
+        ),
+        RegistrySource::File(path) => return script_by_file(rt, path),
+    };
+    Ended::over(ending, source)
+}
+
+fn script_by_file<'a, R: Files + Input + Print + Eprint + AllocGlobal>(
+    rt: &R,
+    path: &'a str,
+) -> Ended<'a> {
+    let source = RegistrySource::File(path);
+    let file = match open_registry(rt, path) {
+        Ok(file) => file,
+        Err(cause) => return Ended::unopened(source, cause),
+    };
+    let mut formats = None;
+    let ending = script_by_registry(
+        rt.alloc(),
+        &mut Noted::new(file),
+        &mut formats,
+        &mut Noted::new(rt.reader()),
+        &mut Noted::new(io::writer(rt)),
+    );
+    note_formats(rt, path, formats);
+    Ended::over(ending, source)
+}
+
+/// Answers the frames of standard input on standard output, by a new service.
+pub fn run_command<'a, R: Files + Input + Print + Eprint + AllocGlobal>(
+    rt: &R,
+    source: RegistrySource<'a>,
+) -> Ended<'a> {
+    note_sample(rt, source);
+    match service_for(rt, source) {
+        Ok(service) => Ended::over(answer_input(rt, service), source),
+        Err(ended) => ended,
+    }
+}
+
+fn answer_input<R: Input + Print + AllocGlobal>(rt: &R, service: Service) -> Ending {
+    let mut handler = ServiceHandler { service };
+    let mut pipe = Pipe::new(Noted::new(rt.reader()), Noted::new(io::writer(rt)));
+    answer_stream(rt.alloc(), &mut handler, &mut pipe)
+}
+
+/// Notes on standard error that the sample registry is used.
+pub(crate) fn note_sample<R: Eprint>(rt: &R, source: RegistrySource<'_>) {
+    if let RegistrySource::Sample = source {
+        let _ = eprintln!(rt;
+            "registry: the sample of four invented formats, for trying: use --everyday or --registry FILE for real ones"
+        );
+    }
+}
+
+/// Sends the requests of the lines of standard input to a port, as this client, under numbers from `first` on.
+pub fn send_command<'a, R>(rt: &R, port: u16, client: u32, first: u64) -> Ended<'a>
+where
+    R: Input + Print + AllocGlobal + Net<Listener = TcpListener, Stream = TcpStream>,
+{
+    if first >= NUMBER_LIMIT {
+        return Ended::at(Ending::Send(SendFault::NumbersUsedUp), port);
+    }
+    match TcpStream::connect(rt, (Ipv4Addr::LOCALHOST, port)) {
+        Ok(stream) => Ended::at(send_over(rt, &stream, client, first), port),
+        Err(error) => Ended::unconnected(port, error.kind()),
+    }
+}
+
+fn send_over<R: Input + Print + AllocGlobal>(
+    rt: &R,
+    stream: &TcpStream,
+    client: u32,
+    first: u64,
+) -> Ending
+    requires { first < 2 ^ 63 }
+{
+    // A request's frame is two writes, and the client waits for the reply: the system should not delay the second
+    // write.
+    let _ = stream.set_nodelay(true);
+    let Ok(replies) = BufReader::new(rt.alloc(), stream) else {
+        return Ending::Send(SendFault::Memory);
+    };
+    send_lines(
+        rt.alloc(),
+        client,
+        first,
+        &mut Noted::new(rt.reader()),
+        &mut Noted::new(replies),
+        &mut Noted::new(stream),
+        &mut Noted::new(io::writer(rt)),
+    )
+}

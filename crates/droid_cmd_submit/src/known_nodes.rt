@@ -1,0 +1,88 @@
+//! What is known of the folders and files of a submission.
+
+ghost use Rattle.std.specs.Prelude.{◌≡◌, ◌++◌, [], ◌∷◌, cond, IfOk, OnOk};
+ghost use Rattle.droid_cmd_submit.specs.KnownNodes.{known_of_node, known_of_nodes, node_kind, unread_in};
+
+use droid_frame::NodeKind;
+use droid_lists::Known;
+use droid_tree::EntryKind;
+use droid_upload::Node;
+use std::alloc::{AllocError, Global};
+
+/// Returns what is known of the folders and files that were submitted. Their paths are moved.
+pub(crate) fn known_of_nodes(alloc: Global, nodes: Vec<Node>) -> Result<Vec<Known>, AllocError>
+    ensures { IfOk result (λ known. known.items ≡ known_of_nodes nodes.items) }
+{
+    let mut known = Vec::with_capacity(alloc, nodes.len())?;
+    for node in nodes {
+        add_known(&mut known, node)?;
+    }
+    Ok(known)
+}
+
+/// Appends what is known of a folder or file.
+fn add_known(known: &mut Vec<Known>, node: Node) -> Result<(), AllocError>
+    ensures { OnOk result (known.new.items ≡ known.old.items ++ known_of_node node ∷ []) }
+{
+    let one = known_of_node(node);
+    known.push(one)?;
+    Ok(())
+}
+
+/// Returns what is known of a folder or file.
+fn known_of_node(node: Node) -> Known
+    ensures { result ≡ known_of_node node }
+{
+    let Node {
+        number,
+        parent,
+        path,
+        kind,
+        modified,
+        len,
+        found,
+        ..
+    } = node;
+    Known {
+        number,
+        parent,
+        path,
+        kind: node_kind(kind),
+        size: len,
+        modified,
+        found,
+    }
+}
+
+fn node_kind(kind: EntryKind) -> NodeKind
+    ensures { result ≡ node_kind kind }
+{
+    match kind {
+        EntryKind::Folder => NodeKind::Folder,
+        EntryKind::File => NodeKind::File,
+        EntryKind::Link => NodeKind::File,
+        EntryKind::Other => NodeKind::File,
+        EntryKind::TooLong => NodeKind::File,
+    }
+}
+
+/// Returns how many files are in the profile and were not read in this run.
+pub(crate) fn unread_in(nodes: &[Node]) -> usize
+    ensures { result ≡ unread_in nodes.now }
+{
+    let mut count = 0usize;
+    for node in nodes {
+        count += one_if(!node.is_read);
+    }
+    count
+}
+
+/// Returns 1 if it is true, and 0 if not.
+fn one_if(truth: bool) -> usize
+    ensures { result ≡ cond truth 1 0 }
+{
+    if truth {
+        return 1;
+    }
+    0
+}

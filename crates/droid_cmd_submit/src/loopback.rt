@@ -1,0 +1,170 @@
+//! Connections to a port of this machine.
+
+ghost use Rattle.std.specs.Prelude.{◌≡◌};
+ghost use Rattle.droid_cmd_submit.specs.Waits.{OpensOne, WaitsOn, is_over, next_pause};
+
+use droid_frame::Noted;
+use droid_remote::{Broken, Open};
+use droid_terminal::Verbosity;
+use std::io::ErrorKind;
+use std::net::{Ipv4Addr, Net, TcpListener, TcpStream};
+use std::time::{Clock, Duration, Instant};
+use std::{io, thread};
+
+/// The shortest pause before another try, in milliseconds.
+const SHORTEST_PAUSE: u64 = 50;
+
+/// The longest pause, in milliseconds.
+const LONGEST_PAUSE: u64 = 2_000;
+
+/// Where to connect to, and how long to wait.
+#[derive(Clone, Copy)]
+pub struct LoopbackSettings {
+    /// The port.
+    pub port: u16,
+    /// For how many seconds connecting is tried.
+    pub wait: u32,
+    /// How many seconds a read or a write may take before the connection counts as broken.
+    pub timeout: u32,
+    /// Whether it is printed that nobody listens yet, and how.
+    pub verbosity: Verbosity,
+}
+
+/// A port of this machine.
+#[derive(Drop)]
+pub struct Loopback<'a, R> {
+    /// The runtime.
+    pub runtime: &'a R,
+    /// Where to connect to, and how long to wait.
+    pub settings: LoopbackSettings,
+    /// The pause before the next try, in milliseconds.
+    pub pause: u64,
+    /// When waiting began. `None` if the clock could not be read.
+    pub begun: Option<Instant>,
+    /// Why the last try to connect failed, or `None` if it did not.
+    pub failed: Option<ErrorKind>,
+    /// Whether a connection was ever made.
+    pub has_joined: bool,
+    /// Whether it was printed that nobody listens yet.
+    pub has_printed: bool,
+}
+
+impl<'a, R: Clock> Loopback<'a, R> {
+    /// Takes a port to connect to. The time that may be waited begins.
+    pub fn new(runtime: &'a R, settings: LoopbackSettings) -> Loopback<'a, R>
+        ensures settings { result.settings ≡ settings }
+        ensures pause { result.pause ≡ 50 }
+    {
+        Loopback {
+            runtime,
+            settings,
+            pause: SHORTEST_PAUSE,
+            begun: Instant::now(runtime).ok(),
+            failed: None,
+            has_joined: false,
+            has_printed: false,
+        }
+    }
+
+    /// Returns whether the time that may be waited is over. It is, if the clock cannot be read.
+    fn is_over(&self) -> bool {
+        match self.milliseconds() {
+            Some(milliseconds) => is_over(self.settings.wait, milliseconds),
+            None => true,
+        }
+    }
+
+    /// Returns the milliseconds since waiting began.
+    fn milliseconds(&self) -> Option<u64> {
+        let begun = self.begun?;
+        let now = Instant::now(self.runtime).ok()?;
+        u64::try_from(now.saturating_duration_since(begun).as_millis()).ok()
+    }
+}
+
+impl<R: Clock + Eprint + Net<Listener = TcpListener, Stream = TcpStream>> Open<Noted<TcpStream>>
+    for Loopback<'_, R> {
+    ghost opens = { λ old stream new. OpensOne old new };
+
+    ghost waits = { WaitsOn };
+
+    fn open(&mut self) -> Result<Noted<TcpStream>, Broken> {
+        match connect(self.runtime, self.settings) {
+            Ok(stream) => {
+                self.failed = None;
+                self.has_joined = true;
+                Ok(Noted::new(stream))
+            }
+            Err(cause) => {
+                self.failed = Some(cause);
+                if !self.has_joined && !self.has_printed {
+                    self.has_printed = true;
+                    print_waiting(self.runtime, self.settings, cause);
+                }
+                Err(Broken)
+            }
+        }
+    }
+
+    fn pause(&mut self) -> bool {
+        if self.is_over() {
+            return false;
+        }
+        thread::sleep(self.runtime, Duration::from_millis(self.pause));
+        self.pause = next_pause(self.pause);
+        true
+    }
+
+    fn start_wait(&mut self) {
+        self.begun = Instant::now(self.runtime).ok();
+        self.pause = SHORTEST_PAUSE;
+    }
+}
+
+/// Connects to the port. A read or a write then fails when it takes longer than the timeout.
+fn connect<R: Net<Listener = TcpListener, Stream = TcpStream>>(
+    rt: &R,
+    settings: LoopbackSettings,
+) -> Result<TcpStream, ErrorKind> {
+    match connected(rt, settings) {
+        Ok(stream) => Ok(stream),
+        Err(error) => Err(error.kind()),
+    }
+}
+
+fn connected<R: Net<Listener = TcpListener, Stream = TcpStream>>(
+    rt: &R,
+    settings: LoopbackSettings,
+) -> io::Result<TcpStream> {
+    let stream = TcpStream::connect(rt, (Ipv4Addr::LOCALHOST, settings.port))?;
+    let timeout = Duration::from_secs(u64::from(settings.timeout));
+    stream.set_read_timeout(Some(timeout))?;
+    stream.set_write_timeout(Some(timeout))?;
+    // A request's frame is two writes, and its reply may be waited for: don't delay the second.
+    let _ = stream.set_nodelay(true);
+    Ok(stream)
+}
+
+/// Prints that nobody listens on the port yet, if that is why it could not be connected to.
+fn print_waiting<R: Eprint>(rt: &R, settings: LoopbackSettings, cause: ErrorKind) {
+    if settings.verbosity == Verbosity::Quiet || settings.wait == 0 {
+        return;
+    }
+    if cause == ErrorKind::ConnectionRefused {
+        let _ = eprintln!(rt; "waiting: nobody listens on port {} yet", settings.port);
+    }
+}
+
+/// Returns whether the time that may be waited is over after these milliseconds.
+fn is_over(wait: u32, milliseconds: u64) -> bool
+    ensures { result ≡ is_over wait milliseconds }
+{
+    milliseconds >= u64::from(wait) * 1_000
+}
+
+/// Returns the pause that follows one of this many milliseconds.
+fn next_pause(pause: u64) -> u64
+    ensures { result ≡ next_pause pause }
+{
+    pause.saturating_mul(2).min(LONGEST_PAUSE)
+}

@@ -1,0 +1,139 @@
+//! The files that a submission writes: each is complete, or as it was before.
+
+use crate::submission_ending::{OutputFile, SubmissionEnding};
+use droid_arguments::SubmitOptions;
+use droid_cmd_profile::{PageFault, page_now, put_page, title_of};
+use droid_disk::{Output, OutputFault};
+use droid_frame::{WriteState, write_all};
+use droid_terminal::{
+    SkippedEntry, absolute_path, folder_of, is_same_place, lies_in, name_of, skipped_csv,
+};
+use std::fs::{File, Files};
+use std::time::Clock;
+
+/// Checks that the files can be created, that no two are the same, and that none would lie in the folder with this
+/// absolute path.
+pub(crate) fn see_outputs<R: Files<File = File> + AllocGlobal>(
+    rt: &R,
+    options: SubmitOptions<'_>,
+    absolute: &str,
+) -> Result<(), SubmissionEnding> {
+    see_other(rt, options.export, options.skipped, OutputFile::Skipped)?;
+    see_other(rt, options.export, options.report, OutputFile::Page)?;
+    see_other(rt, options.skipped, options.report, OutputFile::Page)?;
+    see_place(rt, absolute, options.export, OutputFile::Export)?;
+    see_place(rt, absolute, options.skipped, OutputFile::Skipped)?;
+    see_place(rt, absolute, options.report, OutputFile::Page)?;
+    Ok(())
+}
+
+/// Checks that two files are not the same, if both are named.
+fn see_other<R: Files + AllocGlobal>(
+    rt: &R,
+    first: Option<&str>,
+    second: Option<&str>,
+    file: OutputFile,
+) -> Result<(), SubmissionEnding> {
+    let (Some(first), Some(second)) = (first, second) else {
+        return Ok(());
+    };
+    match is_same_place(rt, first, second) {
+        Ok(false) => Ok(()),
+        Ok(true) => Err(SubmissionEnding::SameFile(file)),
+        Err(_) => Err(SubmissionEnding::NoMemory),
+    }
+}
+
+/// Checks that a file can be created, and that it would not lie in the folder. There it would change the modification
+/// time of the folder around it, and with it the request that adds that folder.
+fn see_place<R: Files<File = File> + AllocGlobal>(
+    rt: &R,
+    absolute: &str,
+    path: Option<&str>,
+    file: OutputFile,
+) -> Result<(), SubmissionEnding> {
+    let Some(path) = path else {
+        return Ok(());
+    };
+    let Ok(folder) = absolute_path(rt, folder_of(path)) else {
+        return Err(SubmissionEnding::NoMemory);
+    };
+    if lies_in(folder.as_str(), absolute) {
+        return Err(SubmissionEnding::InFolder(file));
+    }
+    match Output::create(rt.alloc(), rt, path) {
+        Ok(output) => {
+            output.give_up();
+            Ok(())
+        }
+        Err(fault) => Err(SubmissionEnding::NoOutput(file, fault)),
+    }
+}
+
+/// Writes the CSV of the profile, if a file is named for it.
+pub(crate) fn write_export<R: Files<File = File> + AllocGlobal>(
+    rt: &R,
+    path: Option<&str>,
+    csv: &[u8],
+) -> Result<(), SubmissionEnding> {
+    match path {
+        Some(path) => write_file(rt, path, csv, OutputFile::Export),
+        None => Ok(()),
+    }
+}
+
+/// Writes the CSV of what was skipped, if a file is named for it.
+pub(crate) fn write_skipped<R: Files<File = File> + AllocGlobal>(
+    rt: &R,
+    path: Option<&str>,
+    skipped: &[SkippedEntry],
+) -> Result<(), SubmissionEnding> {
+    let Some(path) = path else {
+        return Ok(());
+    };
+    match skipped_csv(rt.alloc(), skipped) {
+        Ok(csv) => write_file(rt, path, csv.as_slice(), OutputFile::Skipped),
+        Err(_) => Err(SubmissionEnding::NoOutput(OutputFile::Skipped, OutputFault::Memory)),
+    }
+}
+
+/// Writes the page of the profile, if a file is named for it. `absolute` is the absolute path of the folder, whose name
+/// is the title. The page says that it is made from the CSV's file, or from the folder if no file is named for the CSV.
+pub(crate) fn write_report<R: Files<File = File> + Clock + AllocGlobal>(
+    rt: &R,
+    options: SubmitOptions<'_>,
+    absolute: &str,
+    csv: &[u8],
+) -> Result<(), PageFault> {
+    let Some(path) = options.report else {
+        return Ok(());
+    };
+    let title = title_of(absolute);
+    let name = name_of(options.export.unwrap_or(absolute));
+    let page = page_now(rt, csv, title, name, None)?;
+    match Output::create(rt.alloc(), rt, path) {
+        Ok(output) => put_page(output, page.as_str()),
+        Err(fault) => Err(PageFault::NoOutput(fault)),
+    }
+}
+
+/// Writes a file, which is put in its place once it is complete.
+fn write_file<R: Files<File = File> + AllocGlobal>(
+    rt: &R,
+    path: &str,
+    bytes: &[u8],
+    file: OutputFile,
+) -> Result<(), SubmissionEnding> {
+    let mut output = match Output::create(rt.alloc(), rt, path) {
+        Ok(output) => output,
+        Err(fault) => return Err(SubmissionEnding::NoOutput(file, fault)),
+    };
+    if write_all(&mut output, bytes, &mut WriteState::new()).is_err() {
+        output.give_up();
+        return Err(SubmissionEnding::Unwritten(file));
+    }
+    match output.complete() {
+        Ok(()) => Ok(()),
+        Err(fault) => Err(SubmissionEnding::NoOutput(file, fault)),
+    }
+}

@@ -1,0 +1,14 @@
+pub mod Agreements
+pub mod CheckedTrees
+pub mod Compared
+pub mod Findings
+pub mod KeptItems
+pub mod ListedTrees
+pub mod Lists
+pub mod NotedFiles
+pub mod Outcomes
+pub mod ReportTexts
+pub mod Summaries
+pub mod Verifications
+pub mod VerifyEndings
+pub mod WalkOptions

@@ -1,0 +1,37 @@
+//! By what files are compared.
+
+ghost use Rattle.std.specs.Prelude.{◌≡◌};
+ghost use Rattle.droid_cmd_verify.specs.Compared as compared;
+
+/// By what the files of a list and of a tree are compared.
+#[derive(Clone, Copy, PartialEq, Eq)]
+pub enum Measure {
+    /// By their hashes. A file without a hash of both sides is reported.
+    Hashes,
+    /// By their sizes alone: the list has no hash at all.
+    Sizes,
+    /// By their sizes and modification times, and no file is read.
+    Moments,
+}
+
+/// Returns whether modification times are compared.
+pub fn by_moments(how: Measure) -> bool
+    ensures { result ≡ compared.by_moments how }
+{
+    match how {
+        Measure::Hashes => false,
+        Measure::Sizes => false,
+        Measure::Moments => true,
+    }
+}
+
+/// Returns whether files are compared by their hashes.
+pub fn by_hashes(how: Measure) -> bool
+    ensures { result ≡ compared.by_hashes how }
+{
+    match how {
+        Measure::Hashes => true,
+        Measure::Sizes => false,
+        Measure::Moments => false,
+    }
+}

@@ -1,0 +1,13 @@
+pub mod Aims
+pub mod BareFrames
+pub mod Faults
+pub mod Fields
+pub mod Noting
+pub mod Numbers
+pub mod Shortening
+pub mod Sizes
+pub mod Skimming
+pub mod Sums
+pub mod Taking
+pub mod Weighing
+pub mod Writing

@@ -1,0 +1,48 @@
+//! A name in a folder of this machine.
+
+use crate::exchange::Exchange;
+use droid_journal::{FileError, LogFile, sync_folder};
+use std::fs::{File, Files};
+use std::{fs, io};
+
+/// A file's name in a folder of this machine, and that of the new file beside it.
+#[derive(Drop)]
+pub struct Folder<'a, R> {
+    runtime: &'a R,
+    path: &'a str,
+    beside: &'a str,
+}
+
+impl<'a, R: Files<File = File>> Folder<'a, R> {
+    /// Names the file, and the new file. Both must be in one folder.
+    pub fn new(runtime: &'a R, path: &'a str, beside: &'a str) -> Folder<'a, R> {
+        Folder {
+            runtime,
+            path,
+            beside,
+        }
+    }
+}
+
+fn file_result(answer: io::Result<()>) -> Result<(), FileError> {
+    match answer {
+        Ok(()) => Ok(()),
+        Err(_) => Err(FileError),
+    }
+}
+
+// The clauses hold since nothing is assumed of where a name leads. That the system renames in one step, and that a
+// synced folder keeps its names, is trusted.
+impl<'a, F: LogFile, R: Files<File = File>> Exchange<F> for Folder<'a, R> {
+    ghost leads = { λ folder bytes. ⊥ };
+
+    ghost may_lead = { λ folder bytes. ⊥ };
+
+    fn rename(&mut self, _new: &F) -> Result<(), FileError> {
+        file_result(fs::rename(self.runtime, self.beside, self.path))
+    }
+
+    fn sync_folder(&mut self) -> Result<(), FileError> {
+        file_result(sync_folder(self.runtime, self.path))
+    }
+}

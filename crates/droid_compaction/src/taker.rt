@@ -1,0 +1,26 @@
+//! The trait for reading the records of a file in order.
+
+ghost use Rattle.std.specs.Prelude.{◌≡◌, ◌+◌, ◌≤◌, ◌++◌, ◌∷◌, [], Bool, List, length, IfErr, OnOk};
+ghost use Rattle.droid_journal.specs.Records.{Record, checksum, made};
+
+use crate::rewrite_fault::RewriteFault;
+
+/// Takes the records of a file in order.
+pub(crate) trait Taker {
+    ghost use Rattle.droid_compaction.specs.Faults.{IsOfTaking};
+
+    /// What the result depends on beside the records.
+    ghost Setting: { Type 0 };
+
+    /// It took these records, in order.
+    ghost took: { Setting → Self → List Record → Type 0 };
+
+    /// Takes the next record, whose request has this checksum.
+    fn take(&mut self, request: &[u8], sum: [u8; 16], reply: &[u8]) -> Result<(), RewriteFault>
+        requires header { 18 ≤ length request.now }
+        requires size { length request.now + length reply.now + 41 ≤ 8388608 }
+        requires sum { sum ≡ checksum request.now }
+        ensures took { (setting : Setting) (before : List Record) (first : Bool) → took setting self.old before
+            → OnOk result (took setting self.new (before ++ made first request.now reply.now ∷ [])) }
+        ensures fault { IfErr result IsOfTaking };
+}

@@ -1,0 +1,7 @@
+//! The conditions under which requests are refused.
+
+pub mod names;
+pub mod options;
+pub mod paths;
+pub mod refusals;
+pub mod room;

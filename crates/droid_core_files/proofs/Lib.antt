@@ -1,4 +1,0 @@
-pub mod Keeping
-pub mod Lookups
-pub mod Places
-pub mod Windows

@@ -1,9 +1,0 @@
-use Rattle.droid_core_files.specs.Kept.{files_of}
-use Rattle.droid_core_files.proofs.Places.{of_read}
-use Rattle.droid_core_files.proofs.files.UnfinishedFiles.held.Goals as goal
-
-pub returns-clause-count : goal.returns-clause-count
-returns-clause-count c = rw (← c.self.view_is) (of_read (files_of c.self.inside) c.args.place c.index.result.now c.index.ensures _ c.held.ensures.count)
-
-pub returns-clause-stands : goal.returns-clause-stands
-returns-clause-stands c = rw (← c.self.view_is) (of_read (files_of c.self.inside) c.args.place c.index.result.now c.index.ensures _ c.held.ensures.stands)

@@ -1,4 +1,0 @@
-pub mod Faults
-pub mod Files
-pub mod Identifying
-pub mod Kept

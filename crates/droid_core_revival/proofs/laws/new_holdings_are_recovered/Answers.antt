@@ -1,5 +1,0 @@
-use Rattle.droid_core_revival.proofs.Starting.{starts}
-use Rattle.droid_core_revival.proofs.laws.new_holdings_are_recovered.Goals as goal
-
-pub returns : goal.returns
-returns c setting bare holdings is rows files room = starts setting bare holdings is rows files room

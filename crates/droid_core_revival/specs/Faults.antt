@@ -1,9 +1,0 @@
--- Which fault a fault of the store is (this project's own).
-use Rattle.droid_core.specs.store.declared.fault.StoreFault.{StoreFault}
-use Rattle.droid_core.specs.store.declared.fault.StoreFault.TheVariants as stores
-use Rattle.droid_core_revival.specs.declared.revival_fault.RecoveryFault.{RecoveryFault}
-use Rattle.droid_core_revival.specs.declared.revival_fault.RecoveryFault.TheVariants.{Memory, Unfit}
-
-abbrev pub of_store : StoreFault → RecoveryFault
-of_store stores.Memory = Memory
-of_store stores.Refused = Unfit

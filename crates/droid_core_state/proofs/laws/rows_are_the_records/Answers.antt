@@ -1,5 +1,0 @@
-use Rattle.droid_core_state.proofs.LookUps.{records_found}
-use Rattle.droid_core_state.proofs.laws.rows_are_the_records.Goals as goal
-
-pub returns : goal.returns
-returns c setting world rows number profile keeps there = records_found setting world rows number profile keeps there

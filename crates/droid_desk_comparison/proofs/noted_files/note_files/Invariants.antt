@@ -1,6 +1,0 @@
-use Rattle.std.proofs.Common.{◌≡◌, ◌++◌, take}
-use Rattle.droid_desk_comparison.specs.NotedFiles.{items_listed}
-use Rattle.droid_desk_comparison.proofs.noted_files.note_files.Given as goal
-
-abbrev pub invariant-loop-entry : goal.invariant-loop-entry
-invariant-loop-entry l = l.files.items ≡ l.fn.files.items ++ items_listed l.path (take l.entry-index l.entries)

@@ -1,5 +1,0 @@
-use Rattle.droid_desk_comparison.proofs.ReadableItems.{never_twice}
-use Rattle.droid_desk_comparison.proofs.readable_items.inventory_of.Goals as goal
-
-pub unreachable-requires : goal.unreachable-requires
-unreachable-requires c = never_twice c.args.items.items c.in-Err.field-0.path c.requires c.in-Err.ensures.twice

@@ -1,9 +1,0 @@
-use Rattle.std.proofs.Common.{◌≡◌, ◌≤◌, take}
-use Rattle.droid_desk_folders.specs.KnownNodes.{unread_in}
-use Rattle.droid_desk_folders.proofs.known_nodes.unread_in.Given as goal
-
-abbrev pub invariant-loop-node : goal.invariant-loop-node
-invariant-loop-node l = record {
-  counted : l.count ≡ unread_in (take l.node-index l.nodes);
-  few : l.count ≤ l.node-index;
-}

@@ -1,6 +1,0 @@
-use Rattle.std.proofs.Common.{◌≡◌, map, take}
-use Rattle.droid_desk_folders.specs.DifferenceLines.{is_reported}
-use Rattle.droid_desk_folders.proofs.reported_differences.reported_in.Given as goal
-
-abbrev pub invariant-loop-difference : goal.invariant-loop-difference
-invariant-loop-difference l = l.reported.items ≡ map (is_reported l.skipped l.known) (take l.difference-index l.differences)

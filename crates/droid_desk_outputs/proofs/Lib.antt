@@ -1,4 +1,0 @@
-pub mod LastSlashes
-pub mod Prefixes
-pub mod SkippedPaths
-pub mod SkippedTexts

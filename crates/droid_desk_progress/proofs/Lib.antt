@@ -1,6 +1,0 @@
-pub mod Counting
-pub mod Cutting
-pub mod Joining
-pub mod Plain
-pub mod Quotients
-pub mod Seconds

@@ -1,9 +1,0 @@
-use Rattle.std.proofs.Common.{take}
-use Rattle.droid_desk_progress.specs.WalkCounts.{CountsFormats, HasFew}
-use Rattle.droid_desk_progress.proofs.totals.count_formats.Given as goal
-
-abbrev pub invariant-loop-puid : goal.invariant-loop-puid
-invariant-loop-puid l = record {
-  counts : CountsFormats (take l.puid-index l.puid-items) l.initial.formats l.formats;
-  few : HasFew l.initial.formats l.formats;
-}

@@ -1,5 +1,0 @@
-use Rattle.droid_desk_report.proofs.page_writer.write_page.Goals as goal
-
-pub returns-clause-stopped : goal.returns-clause-stopped
-returns-clause-stopped g c = λ start counts.
-    (c.write_all.new.progress.retries, c.write_all.ensures.counts start (rw c.new-progress.ensures.retries counts))

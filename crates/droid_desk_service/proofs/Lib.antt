@@ -1,7 +1,0 @@
-pub mod FreshServices
-pub mod Headers
-pub mod JournalCommands
-pub mod ManyEndings
-pub mod ScriptEndings
-pub mod SendEndings
-pub mod StreamEndings

@@ -1,3 +1,0 @@
-mod Agreeing
-mod ListReading
-mod Writing

@@ -1,0 +1,92 @@
+//! Reads bytes of an open file into a buffer.
+
+ghost use Rattle.std.specs.Prelude.{◌≡◌, ◌≢◌, ◌≤◌, ◌+◌, IfErr, IfOk, OnOk, length, take};
+ghost use Rattle.droid_tree.specs.declared.fault.TreeFault.TheVariants.{Changed};
+ghost use Rattle.droid_disk.specs.Machine.{AddsBytes};
+
+use droid_tree::TreeFault;
+use std::fs::File;
+use std::io::{Error, ErrorKind};
+use std::os::unix::fs::FileExt;
+
+/// How often a read is tried: once, and again after each of up to 64 interruptions.
+const TURNS: u32 = 65;
+
+/// Appends up to `wanted` bytes of a file, starting at offset `from`. Appends fewer only if the file ends before. `len`
+/// is the length that the file had when it was opened: a read that comes short there is not tried again.
+pub(crate) fn add_bytes(
+    file: &File,
+    len: u64,
+    from: u64,
+    wanted: u32,
+    bytes: &mut Vec<u8>,
+) -> Result<(), TreeFault>
+    ensures added { OnOk result (AddsBytes wanted bytes.old.items bytes.new.items) }
+    ensures known { IfErr result (λ fault. fault ≢ Changed) }
+{
+    let before = bytes.len();
+    let Some(after) = before.checked_add(wanted as usize) else {
+        return Err(TreeFault::Memory);
+    };
+    if bytes.resize(after, 0).is_err() {
+        return Err(TreeFault::Memory);
+    }
+    let filled = fill(file, len, from, &mut bytes[before..])?;
+    bytes.truncate(before + filled);
+    Ok(())
+}
+
+/// Fills a buffer with bytes of a file, starting at offset `from`. Returns how many bytes came: fewer if the file ends
+/// before.
+fn fill(file: &File, len: u64, from: u64, buffer: &mut [u8]) -> Result<usize, TreeFault>
+    ensures within { IfOk result (λ count. count ≤ length buffer.new) }
+    ensures known { IfErr result (λ fault. fault ≢ Changed) }
+{
+    let mut filled = 0;
+    while filled < buffer.len() {
+        let place = place_after(from, filled)?;
+        let count = read_some(file, place, &mut buffer[filled..])?;
+        if count == 0 {
+            return Ok(filled);
+        }
+        filled += count;
+        if is_end(len, place, count) {
+            return Ok(filled);
+        }
+    }
+    Ok(filled)
+}
+
+/// Returns whether `count` bytes from this offset on reach the end of a file of this length.
+fn is_end(len: u64, place: u64, count: usize) -> bool {
+    len.saturating_sub(place) <= count as u64
+}
+
+/// Returns the offset after `count` more bytes.
+fn place_after(from: u64, count: usize) -> Result<u64, TreeFault>
+    ensures { IfErr result (λ fault. fault ≢ Changed) }
+{
+    match from.checked_add(count as u64) {
+        Some(place) => Ok(place),
+        None => Err(TreeFault::Unreadable),
+    }
+}
+
+/// Reads once. Tries again if the read was interrupted.
+fn read_some(file: &File, from: u64, buffer: &mut [u8]) -> Result<usize, TreeFault>
+    ensures within { IfOk result (λ count. count ≤ length buffer.new) }
+    ensures known { IfErr result (λ fault. fault ≢ Changed) }
+{
+    for _ in 0..TURNS {
+        match file.read_at(buffer, from) {
+            Ok(count) => return Ok(count),
+            Err(error) if was_interrupted(&error) => {}
+            Err(_) => return Err(TreeFault::Unreadable),
+        }
+    }
+    Err(TreeFault::Unreadable)
+}
+
+fn was_interrupted(error: &Error) -> bool {
+    error.kind() == ErrorKind::Interrupted
+}

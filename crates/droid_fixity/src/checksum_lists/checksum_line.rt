@@ -1,0 +1,165 @@
+//! The line of a file in a list of checksums.
+
+ghost use Rattle.std.specs.Prelude.{◌≡◌, ◌++◌, ◌∷◌, [], OnErr, OnOk};
+ghost use Rattle.std.specs.List.{list_any};
+ghost use Rattle.hex.specs.Hex.{encode_lower};
+ghost use Rattle.droid_fixity.specs.Spellings as spellings;
+ghost use Rattle.droid_fixity.specs.Writing.{KeepsFront};
+ghost use Rattle.droid_fixity.specs.Writing as writing;
+
+use droid_frame::HashValue;
+use std::alloc::AllocError;
+
+/// Appends the line of a file, as `md5sum` and `sha256sum` write it and `md5sum -c` and `sha256sum -c` check it in the
+/// folder.
+///
+/// `path` is the path of the file below the folder, with or without a `/` in front. A file without a hash has no line.
+/// If memory runs out, `text` is unchanged.
+pub fn add_line(text: &mut Vec<u8>, hash: HashValue, path: &str) -> Result<(), AllocError>
+    ensures added { OnOk result (text.new.items ≡ text.old.items ++ writing.line hash path.now) }
+    ensures unchanged { OnErr result (text.new.items ≡ text.old.items) }
+{
+    let before = text.len();
+    match add_line_below(text, hash, shown(without_slash(path.as_bytes()))) {
+        Ok(()) => Ok(()),
+        Err(error) => {
+            text.truncate(before);
+            Err(error)
+        }
+    }
+}
+
+fn without_slash(path: &[u8]) -> &[u8]
+    ensures { result.now ≡ writing.without_slash path.now }
+{
+    match path.split_first() {
+        Some((first, rest)) => { if *first == b'/' { rest } else { path } }
+        None => path,
+    }
+}
+
+/// Returns the path as it is written: `md5sum -c` would read standard input for `-` alone.
+fn shown(path: &[u8]) -> &[u8]
+    ensures { result.now ≡ writing.shown path.now }
+{
+    if path == b"-".as_slice() {
+        return b"./-".as_slice();
+    }
+    path
+}
+
+/// Appends the line of a file below the folder.
+fn add_line_below(text: &mut Vec<u8>, hash: HashValue, path: &[u8]) -> Result<(), AllocError>
+    ensures added { OnOk result (text.new.items ≡ text.old.items ++ writing.line_below hash path.now) }
+    ensures front { KeepsFront text.old.items text.new.items }
+{
+    match hash {
+        HashValue::Nothing => Ok(()),
+        HashValue::Md5(digest) => add_line_by(text, md5_digits(digest).as_slice(), path),
+        HashValue::Sha256(digest) => add_line_by(text, sha256_digits(digest).as_slice(), path),
+    }
+}
+
+fn md5_digits(digest: [u8; 16]) -> [u8; 32]
+    ensures { result ≡ encode_lower digest }
+{
+    let mut digits = [0; 32];
+    match hex::encode_to_slice(digest.as_slice(), &mut digits) {
+        Ok(()) => digits,
+        Err(_) => unreachable!(),
+    }
+}
+
+fn sha256_digits(digest: [u8; 32]) -> [u8; 64]
+    ensures { result ≡ encode_lower digest }
+{
+    let mut digits = [0; 64];
+    match hex::encode_to_slice(digest.as_slice(), &mut digits) {
+        Ok(()) => digits,
+        Err(_) => unreachable!(),
+    }
+}
+
+/// Appends the line with these digits.
+fn add_line_by(text: &mut Vec<u8>, digits: &[u8], path: &[u8]) -> Result<(), AllocError>
+    ensures added { OnOk result (text.new.items ≡ text.old.items ++ writing.line_by digits.now path.now) }
+    ensures front { KeepsFront text.old.items text.new.items }
+{
+    if has_escaped(path) {
+        add_escaped_line(text, digits, path)
+    } else {
+        add_plain_line(text, digits, path)
+    }
+}
+
+/// Returns whether a path has a byte that is escaped.
+fn has_escaped(path: &[u8]) -> bool
+    ensures { result ≡ list_any spellings.is_escaped path.now }
+{
+    path.iter().any(|byte| is_escaped(*byte))
+}
+
+fn is_escaped(byte: u8) -> bool
+    ensures { result ≡ spellings.is_escaped byte }
+{
+    byte == b'\\' || byte == b'\n' || byte == b'\r'
+}
+
+fn add_plain_line(text: &mut Vec<u8>, digits: &[u8], path: &[u8]) -> Result<(), AllocError>
+    ensures added { OnOk result (text.new.items ≡ text.old.items ++ writing.plain_line digits.now path.now) }
+    ensures front { KeepsFront text.old.items text.new.items }
+{
+    add_digits(text, digits)?;
+    text.extend_from_slice(path)?;
+    text.push(b'\n')?;
+    Ok(())
+}
+
+fn add_escaped_line(text: &mut Vec<u8>, digits: &[u8], path: &[u8]) -> Result<(), AllocError>
+    ensures added { OnOk result
+        (text.new.items ≡ text.old.items ++ 92 ∷ writing.plain_line digits.now (spellings.escaped path.now)) }
+    ensures front { KeepsFront text.old.items text.new.items }
+{
+    text.push(b'\\')?;
+    add_digits(text, digits)?;
+    add_escaped(text, path)?;
+    text.push(b'\n')?;
+    Ok(())
+}
+
+/// Appends the digits and two spaces.
+fn add_digits(text: &mut Vec<u8>, digits: &[u8]) -> Result<(), AllocError>
+    ensures added { OnOk result (text.new.items ≡ text.old.items ++ (digits.now ++ 32 ∷ 32 ∷ [])) }
+    ensures front { KeepsFront text.old.items text.new.items }
+{
+    text.extend_from_slice(digits)?;
+    text.extend_from_slice(b"  ")?;
+    Ok(())
+}
+
+/// Appends a path with its bytes escaped.
+fn add_escaped(text: &mut Vec<u8>, path: &[u8]) -> Result<(), AllocError>
+    ensures added { OnOk result (text.new.items ≡ text.old.items ++ spellings.escaped path.now) }
+    ensures front { KeepsFront text.old.items text.new.items }
+{
+    for byte in path {
+        add_escaped_byte(text, *byte)?;
+    }
+    Ok(())
+}
+
+fn add_escaped_byte(text: &mut Vec<u8>, byte: u8) -> Result<(), AllocError>
+    ensures added { OnOk result (text.new.items ≡ text.old.items ++ spellings.escaped_byte byte) }
+    ensures front { KeepsFront text.old.items text.new.items }
+{
+    if byte == b'\\' {
+        text.extend_from_slice(b"\\\\")?;
+    } else if byte == b'\n' {
+        text.extend_from_slice(b"\\n")?;
+    } else if byte == b'\r' {
+        text.extend_from_slice(b"\\r")?;
+    } else {
+        text.push(byte)?;
+    }
+    Ok(())
+}

@@ -1,0 +1,38 @@
+//! The digests of a list.
+
+ghost use Rattle.std.specs.Prelude.{◌≡◌};
+ghost use Rattle.droid_fixity.specs.Digests as digests;
+
+use droid_frame::HashValue;
+use hex::FromHex;
+
+/// Returns the hash that hexadecimal digits of either case stand for: 32 digits are an MD5, 64 a SHA-256.
+pub(crate) fn hash_of(digits: &[u8]) -> Option<HashValue>
+    ensures { result ≡ digests.hash_of digits.now }
+{
+    if digits.len() == 32 {
+        return md5_of(digits);
+    }
+    if digits.len() == 64 {
+        return sha256_of(digits);
+    }
+    None
+}
+
+pub(crate) fn md5_of(digits: &[u8]) -> Option<HashValue>
+    ensures { result ≡ digests.md5_of digits.now }
+{
+    match <[u8; 16] as FromHex>::from_hex(digits) {
+        Ok(bytes) => Some(HashValue::Md5(bytes)),
+        Err(_) => None,
+    }
+}
+
+pub(crate) fn sha256_of(digits: &[u8]) -> Option<HashValue>
+    ensures { result ≡ digests.sha256_of digits.now }
+{
+    match <[u8; 32] as FromHex>::from_hex(digits) {
+        Ok(bytes) => Some(HashValue::Sha256(bytes)),
+        Err(_) => None,
+    }
+}

@@ -1,0 +1,100 @@
+//! What a line says.
+
+ghost use Rattle.std.specs.Prelude.{◌≡◌, ◌∷◌, IfOk};
+ghost use Rattle.droid_fixity.specs.Lines as lines;
+ghost use Rattle.droid_fixity.specs.Spellings.{spelled};
+
+use crate::checksum_lists::entry::entry_of;
+use crate::checksum_lists::form::{Escapes, ManifestForm};
+use crate::checksum_lists::path::below;
+use crate::checksum_lists::path_text::add_spelled;
+use crate::item::Item;
+use crate::path::is_file_path;
+use droid_frame::{Blob, HashValue, NodeKind};
+use std::alloc::{AllocError, Global};
+
+/// What a line says.
+#[derive(Drop)]
+pub(crate) enum Meaning {
+    /// Nothing.
+    Blank,
+    /// A file has this hash.
+    File(Item),
+    /// It says nothing that could be read.
+    Malformed,
+    /// Its path is not that of a file below the folder.
+    Misplaced,
+}
+
+/// Reads a line.
+pub(crate) fn meaning_of(
+    alloc: Global,
+    form: ManifestForm,
+    line: &[u8],
+) -> Result<Meaning, AllocError>
+    ensures { IfOk result (λ meaning. meaning ≡ lines.meaning form line.now) }
+{
+    if is_blank(line) {
+        return Ok(Meaning::Blank);
+    }
+    match entry_of(form, line) {
+        None => Ok(Meaning::Malformed),
+        Some((hash, escapes, text)) => match below(form, text) {
+            None => Ok(Meaning::Misplaced),
+            Some(text) => {
+                let meaning = file_at(alloc, hash, escapes, text)?;
+                Ok(meaning)
+            }
+        },
+    }
+}
+
+/// Returns what a line says that gives this hash to the file whose path is spelled so.
+fn file_at(
+    alloc: Global,
+    hash: HashValue,
+    escapes: Escapes,
+    text: &[u8],
+) -> Result<Meaning, AllocError>
+    ensures { IfOk result (λ meaning. meaning ≡ lines.meaning_by_bytes hash (spelled escapes text.now)) }
+{
+    let mut path = Vec::with_capacity(alloc, text.len() + 1)?;
+    path.push(b'/')?;
+    if !add_spelled(&mut path, escapes, text)? {
+        return Ok(Meaning::Malformed);
+    }
+    Ok(meaning_of_path(hash, path))
+}
+
+/// Returns what a line says that gives this hash to the file with this path.
+fn meaning_of_path(hash: HashValue, path: Vec<u8>) -> Meaning
+    ensures { result ≡ lines.meaning_by_path hash path.items }
+{
+    if !is_file_path(path.as_slice()) {
+        return Meaning::Misplaced;
+    }
+    Meaning::File(file_item(hash, Blob::from(path)))
+}
+
+/// Returns the item of a file of which nothing is known but its hash.
+fn file_item(hash: HashValue, path: Blob) -> Item
+    ensures { result ≡ lines.file_item hash path }
+{
+    Item {
+        path,
+        kind: NodeKind::File,
+        length: None,
+        modified: None,
+        hash,
+    }
+}
+
+/// Returns whether a line says nothing: an empty one, or a comment.
+fn is_blank(line: &[u8]) -> bool
+    ensures { result ≡ lines.is_blank line.now }
+{
+    match line.first() {
+        Some(first) => *first == b'#',
+        None => true,
+    }
+}

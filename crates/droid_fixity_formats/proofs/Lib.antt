@@ -1,3 +1,0 @@
-mod Gathering
-mod Joining
-mod Reading

@@ -1,5 +1,0 @@
-use Rattle.std.proofs.Common.{◌≡◌, take}
-use Rattle.droid_fixity_formats.proofs.file_formats.copies_of.Given as goal
-
-abbrev pub invariant-loop-puid : goal.invariant-loop-puid
-invariant-loop-puid l = l.copies.items ≡ take l.puid-index l.puids

@@ -1,6 +1,0 @@
-use Rattle.std.proofs.Common.{◌≡◌, ◌++◌, ◌∷◌, take}
-use Rattle.std.specs.List.{flat_map}
-use Rattle.droid_fixity_formats.proofs.format_change.append_after_spaces.Given as goal
-
-abbrev pub invariant-loop-puid : goal.invariant-loop-puid
-invariant-loop-puid l = l.text.items ≡ l.fn.text.items ++ flat_map (λ puid. 32 ∷ puid) (take l.puid-index l.puids)

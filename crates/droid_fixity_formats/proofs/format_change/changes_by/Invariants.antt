@@ -1,6 +1,0 @@
-use Rattle.std.proofs.Common.{◌≡◌, take}
-use Rattle.droid_fixity_formats.specs.ListedFormats.{changes_by}
-use Rattle.droid_fixity_formats.proofs.format_change.changes_by.Given as goal
-
-abbrev pub invariant-loop-file : goal.invariant-loop-file
-invariant-loop-file l = l.changes.items ≡ changes_by l.listed (take l.file-index l.files)

@@ -1,5 +1,0 @@
-use Rattle.droid_fixity_manifest.proofs.ReadBack.{read_back}
-use Rattle.droid_fixity_manifest.proofs.manifest_law.lines_are_read_back.Goals as goal
-
-pub returns : goal.returns
-returns c = read_back

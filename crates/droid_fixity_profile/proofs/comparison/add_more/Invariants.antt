@@ -1,7 +1,0 @@
-use Rattle.std.proofs.Common.{◌≡◌, ◌++◌, map, take}
-use Rattle.droid_fixity_profile.specs.Comparing.{more_by, path_in}
-use Rattle.droid_fixity_profile.specs.EntryMaps.{kept_of}
-use Rattle.droid_fixity_profile.proofs.comparison.add_more.Given as goal
-
-abbrev pub invariant-loop-one : goal.invariant-loop-one
-invariant-loop-one l = l.found.items ≡ l.initial.found.items ++ more_by (path_in l.paths) (map kept_of (take l.one-index l.listed))

@@ -1,5 +1,0 @@
-use Rattle.droid_fixity_profile.proofs.TextSteps.{HasRead}
-use Rattle.droid_fixity_profile.proofs.profile_text.read_entries.Given as goal
-
-abbrev pub invariant-loop : goal.invariant-loop
-invariant-loop l = HasRead l.hash l.text l.reading l.rest l.counter

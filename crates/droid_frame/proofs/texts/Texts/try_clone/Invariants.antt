@@ -1,0 +1,6 @@
+-- The copies so far are the first texts.
+use Rattle.std.proofs.Common.{◌≡◌, take}
+use Rattle.droid_frame.proofs.texts.Texts.try_clone.Given as goal
+
+abbrev pub invariant-loop-text : goal.invariant-loop-text
+invariant-loop-text l = l.items.items ≡ take l.text-index l.text-items

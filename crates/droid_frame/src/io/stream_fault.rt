@@ -1,0 +1,53 @@
+//! The faults of reading and writing.
+
+ghost use Rattle.std.specs.Prelude.{◌≡◌};
+
+use std::alloc::AllocError;
+use thiserror::Error;
+
+/// The reader failed, or was interrupted more than 64 times.
+#[derive(Clone, Copy, Debug, PartialEq, Eq, Error)]
+#[error("the stream could not be read")]
+pub struct ReadFault;
+
+/// Why an input could not be read to its end.
+#[derive(Clone, Copy, Debug, PartialEq, Eq, Error)]
+pub enum InputFault {
+    /// It has more bytes than the limit.
+    #[error("the input is too long")]
+    TooLong,
+    /// Out of memory.
+    #[error("out of memory")]
+    Memory,
+    /// The reader failed, or was interrupted more than 64 times.
+    #[error("the input could not be read")]
+    Read,
+}
+
+impl From<ReadFault> for InputFault {
+    ghost use Rattle.droid_frame.specs.declared.io.stream_fault.InputFault.TheVariants.{Read};
+
+    ghost from_gives = { λ _ fault. fault ≡ Read };
+
+    fn from(_fault: ReadFault) -> InputFault {
+        InputFault::Read
+    }
+}
+
+impl From<AllocError> for InputFault {
+    ghost use Rattle.droid_frame.specs.declared.io.stream_fault.InputFault.TheVariants.{Memory};
+
+    ghost from_gives = { λ _ fault. fault ≡ Memory };
+
+    fn from(_error: AllocError) -> InputFault {
+        InputFault::Memory
+    }
+}
+
+/// The writer failed, was interrupted more than 64 times, or took no byte.
+#[derive(Clone, Copy, Debug, PartialEq, Eq, Error)]
+#[error("the output could not be written past its first {written} bytes")]
+pub struct WriteFault {
+    /// The number of bytes written: exactly the first ones.
+    pub written: usize,
+}

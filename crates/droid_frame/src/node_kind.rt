@@ -1,0 +1,35 @@
+//! Kinds of node.
+
+ghost use Rattle.std.specs.Prelude.{◌≡◌};
+ghost use Rattle.droid_frame.specs.Filters.{is_file, node_kind_number};
+
+/// The kind of a node in a profile.
+#[derive(Clone, Copy, Debug, PartialEq, Eq)]
+pub enum NodeKind {
+    /// A file, with bytes.
+    File,
+    /// A folder.
+    Folder,
+}
+
+impl NodeKind {
+    /// Returns the number of the kind in a body, 0 or 1.
+    pub fn number(self) -> u8
+        ensures { result ≡ node_kind_number self }
+    {
+        match self {
+            NodeKind::File => 0,
+            NodeKind::Folder => 1,
+        }
+    }
+
+    /// Returns whether the node is a file, and not a folder.
+    pub fn is_file(self) -> bool
+        ensures { result ≡ is_file self }
+    {
+        match self {
+            NodeKind::File => true,
+            NodeKind::Folder => false,
+        }
+    }
+}

@@ -1,9 +1,0 @@
--- What is left gives the bytes that all the criteria leave.
-use Rattle.std.proofs.Common.{◌≡◌, ◌-◌}
-use Rattle.droid_frame_bodies.specs.filters.Values.{criterion_at}
-use Rattle.droid_frame_bodies.specs.fields.Sequences.{sequence_at}
-use Rattle.droid_frame_bodies.proofs.SequenceLoops.{rest_of}
-use Rattle.droid_frame_bodies.proofs.filters.after_criteria.Given as goal
-
-abbrev pub invariant-loop : goal.invariant-loop
-invariant-loop l = rest_of (sequence_at criterion_at (l.count - l.counter) l.rest) ≡ rest_of (sequence_at criterion_at l.count l.bytes)

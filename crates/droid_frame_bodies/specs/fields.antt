@@ -1,4 +1,0 @@
-pub mod Hashes
-pub mod Reading
-pub mod Sequences
-pub mod TextLists

@@ -1,4 +1,0 @@
-pub mod Refusals
-pub mod Results
-pub mod Steps
-pub mod Values

@@ -1,2 +1,0 @@
-pub mod NodeHeads
-pub mod Values

@@ -1,4 +1,0 @@
-pub mod Feeding
-pub mod Headers
-pub mod Held
-pub mod Parts

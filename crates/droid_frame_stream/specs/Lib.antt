@@ -1,4 +1,0 @@
-pub mod InTurn
-pub mod Reads
-pub mod Seen
-pub mod Writes

@@ -1,0 +1,17 @@
+pub mod Alone
+pub mod Blocks
+pub mod Eight
+pub mod Ending
+pub mod Four
+pub mod Growing
+pub mod Halving
+pub mod Majority
+pub mod Parts
+pub mod Places
+pub mod Schedule
+pub mod Sha256Blocks
+pub mod Sha256Ending
+pub mod Sha256Parts
+pub mod Sha256Updating
+pub mod Steps
+pub mod Updating

@@ -1,0 +1,31 @@
+use Rattle.std.proofs.Common.{lit<, [], slice_index_or}
+use Rattle.droid_hash.proofs.Eight.{within_mapped, eight_results}
+use Rattle.droid_hash.proofs.md5_kernel.blocks_at.Goals as goal
+
+pub item-requires : goal.item-requires
+item-requires c = within_mapped (λ r. r.now) c.args.runs _ c.args.i 0 (c.requires 0 (lit< tt))
+
+pub item-requires-2 : goal.item-requires-2
+item-requires-2 c = within_mapped (λ r. r.now) c.args.runs _ c.args.i 1 (c.requires 1 (lit< tt))
+
+pub item-requires-3 : goal.item-requires-3
+item-requires-3 c = within_mapped (λ r. r.now) c.args.runs _ c.args.i 2 (c.requires 2 (lit< tt))
+
+pub item-requires-4 : goal.item-requires-4
+item-requires-4 c = within_mapped (λ r. r.now) c.args.runs _ c.args.i 3 (c.requires 3 (lit< tt))
+
+pub item-requires-5 : goal.item-requires-5
+item-requires-5 c = within_mapped (λ r. r.now) c.args.runs _ c.args.i 4 (c.requires 4 (lit< tt))
+
+pub item-requires-6 : goal.item-requires-6
+item-requires-6 c = within_mapped (λ r. r.now) c.args.runs _ c.args.i 5 (c.requires 5 (lit< tt))
+
+pub item-requires-7 : goal.item-requires-7
+item-requires-7 c = within_mapped (λ r. r.now) c.args.runs _ c.args.i 6 (c.requires 6 (lit< tt))
+
+pub item-requires-8 : goal.item-requires-8
+item-requires-8 c = within_mapped (λ r. r.now) c.args.runs _ c.args.i 7 (c.requires 7 (lit< tt))
+
+pub returns : goal.returns
+returns c = eight_results (λ r. r.now) (λ x. slice_index_or x c.args.i []) c.args.runs _ [] _ _ _ _ _ _ _ _ c.item.ensures c.item-2.ensures c.item-3.ensures c.item-4.ensures
+    c.item-5.ensures c.item-6.ensures c.item-7.ensures c.item-8.ensures

@@ -1,0 +1,15 @@
+use Rattle.std.proofs.Common.{length, sym, ap}
+use Rattle.std.proofs.Math.ListN.{get_or-map}
+use Rattle.droid_hash.proofs.Eight.{below_eight}
+use Rattle.droid_hash.proofs.pieces.lens.Goals as goal
+
+pub returns-clause-value : goal.returns-clause-value
+returns-clause-value c = below_eight _
+    (ap (λ x. length x) (sym (get_or-map (λ x. x.now) c.args.pieces 0 _)))
+    (ap (λ x. length x) (sym (get_or-map (λ x. x.now) c.args.pieces 1 _)))
+    (ap (λ x. length x) (sym (get_or-map (λ x. x.now) c.args.pieces 2 _)))
+    (ap (λ x. length x) (sym (get_or-map (λ x. x.now) c.args.pieces 3 _)))
+    (ap (λ x. length x) (sym (get_or-map (λ x. x.now) c.args.pieces 4 _)))
+    (ap (λ x. length x) (sym (get_or-map (λ x. x.now) c.args.pieces 5 _)))
+    (ap (λ x. length x) (sym (get_or-map (λ x. x.now) c.args.pieces 6 _)))
+    (ap (λ x. length x) (sym (get_or-map (λ x. x.now) c.args.pieces 7 _)))

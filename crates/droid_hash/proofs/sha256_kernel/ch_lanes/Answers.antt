@@ -1,0 +1,5 @@
+use Rattle.droid_hash.proofs.Four.{lanes_ch}
+use Rattle.droid_hash.proofs.sha256_kernel.ch_lanes.Goals as goal
+
+pub returns : goal.returns
+returns c = lanes_ch c.args.x c.fits-x.0 c.args.y c.fits-y.0 c.args.z c.fits-z.0

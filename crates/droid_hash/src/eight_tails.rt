@@ -1,0 +1,166 @@
+//! The tails of eight messages, and what a piece of each does to them.
+
+ghost use Rattle.std.specs.Prelude.{◌≡◌, ◌≢◌, ℕ, ◌+◌, ◌*◌, ◌/◌, ◌%◌, ◌^◌, ◌<◌, List, [], ◌∷◌, ◌++◌, length, drop};
+ghost use Rattle.std.specs.Prelude.{slice_index, slice_index_or};
+ghost use Rattle.std.specs.Simd.{first_chunks};
+ghost use Rattle.droid_hash.specs.Lanes.{piece};
+ghost use Rattle.droid_hash.specs.Tails.{joining, IsJoined};
+
+use crate::tails;
+
+// The lengths of the pieces.
+pub(crate) fn lens(pieces: [&[u8]; 8]) -> [usize; 8]
+    ensures value { (j : ℕ) → j < 8 → slice_index result j ≡ length (piece j pieces.entry) }
+    ensures count { length result ≡ 8 }
+{
+    let [a, b, c, d, e, f, g, h] = pieces;
+    [
+        a.len(),
+        b.len(),
+        c.len(),
+        d.len(),
+        e.len(),
+        f.len(),
+        g.len(),
+        h.len(),
+    ]
+}
+
+// How many bytes of a block each message has begun.
+pub(crate) fn used_of(totals: &[u64; 8]) -> [usize; 8]
+    ensures value { (j : ℕ) → j < 8 → slice_index result j ≡ slice_index totals.now j % 64 }
+    ensures short { (j : ℕ) → j < 8 → slice_index result j < 64 }
+{
+    let [a, b, c, d, e, f, g, h] = *totals;
+    [
+        tails::used_of(a),
+        tails::used_of(b),
+        tails::used_of(c),
+        tails::used_of(d),
+        tails::used_of(e),
+        tails::used_of(f),
+        tails::used_of(g),
+        tails::used_of(h),
+    ]
+}
+
+// The blocks that the tails begin, each with its piece's first bytes.
+pub(crate) fn joined(blocks: &[[u8; 64]; 8], used: [usize; 8], pieces: [&[u8]; 8]) -> [[u8; 64]; 8]
+    requires { (j : ℕ) → j < 8 → slice_index used j < 64 }
+    ensures { (j : ℕ) → j < 8
+        → IsJoined (slice_index_or blocks.now j []) (slice_index used j) (piece j pieces.entry)
+        (slice_index_or result j []) }
+{
+    let [a, b, c, d, e, f, g, h] = pieces;
+    [
+        tails::joined(&blocks[0], used[0], a),
+        tails::joined(&blocks[1], used[1], b),
+        tails::joined(&blocks[2], used[2], c),
+        tails::joined(&blocks[3], used[3], d),
+        tails::joined(&blocks[4], used[4], e),
+        tails::joined(&blocks[5], used[5], f),
+        tails::joined(&blocks[6], used[6], g),
+        tails::joined(&blocks[7], used[7], h),
+    ]
+}
+
+// Each block that its piece completes.
+pub(crate) fn completed<'a>(
+    blocks: &'a [[u8; 64]; 8],
+    used: [usize; 8],
+    pieces: [&[u8]; 8],
+) -> [&'a [[u8; 64]]; 8]
+    requires { (j : ℕ) → j < 8 → slice_index used j < 64 }
+    ensures full { (j : ℕ) → j < 8
+        → slice_index used j + joining (slice_index used j) (length (piece j pieces.entry)) ≡ 64
+        → piece j result ≡ slice_index_or blocks.now j [] ∷ [] }
+    ensures none { (j : ℕ) → j < 8
+        → slice_index used j + joining (slice_index used j) (length (piece j pieces.entry)) ≢ 64
+        → piece j result ≡ [] }
+{
+    let [a, b, c, d, e, f, g, h] = pieces;
+    [
+        tails::completed(&blocks[0], used[0], a.len()),
+        tails::completed(&blocks[1], used[1], b.len()),
+        tails::completed(&blocks[2], used[2], c.len()),
+        tails::completed(&blocks[3], used[3], d.len()),
+        tails::completed(&blocks[4], used[4], e.len()),
+        tails::completed(&blocks[5], used[5], f.len()),
+        tails::completed(&blocks[6], used[6], g.len()),
+        tails::completed(&blocks[7], used[7], h.len()),
+    ]
+}
+
+// What is left of each piece.
+pub(crate) fn rests<'a>(pieces: [&'a [u8]; 8], used: [usize; 8]) -> [&'a [u8]; 8]
+    requires { (j : ℕ) → j < 8 → slice_index used j < 64 }
+    ensures { (j : ℕ) → j < 8
+        → piece j result ≡ drop (joining (slice_index used j) (length (piece j pieces.entry))) (piece j pieces.entry) }
+{
+    let [a, b, c, d, e, f, g, h] = pieces;
+    [
+        tails::rest(a, used[0]),
+        tails::rest(b, used[1]),
+        tails::rest(c, used[2]),
+        tails::rest(d, used[3]),
+        tails::rest(e, used[4]),
+        tails::rest(f, used[5]),
+        tails::rest(g, used[6]),
+        tails::rest(h, used[7]),
+    ]
+}
+
+// The whole blocks of each.
+pub(crate) fn chunks<'a>(rests: [&'a [u8]; 8]) -> [&'a [[u8; 64]]; 8]
+    ensures { (j : ℕ) → j < 8
+        → piece j result ≡ first_chunks 64 (length (piece j rests.entry) / 64) (piece j rests.entry) }
+{
+    let [a, b, c, d, e, f, g, h] = rests;
+    [
+        tails::chunks(a),
+        tails::chunks(b),
+        tails::chunks(c),
+        tails::chunks(d),
+        tails::chunks(e),
+        tails::chunks(f),
+        tails::chunks(g),
+        tails::chunks(h),
+    ]
+}
+
+// The new tails.
+pub(crate) fn kept(blocks: &[[u8; 64]; 8], rests: [&[u8]; 8]) -> [[u8; 64]; 8]
+    ensures { (j : ℕ) → j < 8 → slice_index_or result j []
+        ≡ drop (length (piece j rests.entry) / 64 * 64) (piece j rests.entry)
+        ++ drop (length (piece j rests.entry) % 64) (slice_index_or blocks.now j []) }
+{
+    let [a, b, c, d, e, f, g, h] = rests;
+    [
+        tails::kept(&blocks[0], a),
+        tails::kept(&blocks[1], b),
+        tails::kept(&blocks[2], c),
+        tails::kept(&blocks[3], d),
+        tails::kept(&blocks[4], e),
+        tails::kept(&blocks[5], f),
+        tails::kept(&blocks[6], g),
+        tails::kept(&blocks[7], h),
+    ]
+}
+
+// The counts with the pieces' lengths added to them.
+pub(crate) fn longer(totals: &[u64; 8], pieces: [&[u8]; 8]) -> [u64; 8]
+    ensures { (j : ℕ) → j < 8
+        → slice_index result j ≡ (slice_index totals.now j + length (piece j pieces.entry)) % 2 ^ 64 }
+{
+    let [a, b, c, d, e, f, g, h] = pieces;
+    [
+        totals[0].wrapping_add(a.len() as u64),
+        totals[1].wrapping_add(b.len() as u64),
+        totals[2].wrapping_add(c.len() as u64),
+        totals[3].wrapping_add(d.len() as u64),
+        totals[4].wrapping_add(e.len() as u64),
+        totals[5].wrapping_add(f.len() as u64),
+        totals[6].wrapping_add(g.len() as u64),
+        totals[7].wrapping_add(h.len() as u64),
+    ]
+}

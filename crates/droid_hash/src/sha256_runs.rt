@@ -1,0 +1,124 @@
+//! Runs of blocks, one for each lane and of any lengths, taken side by side.
+
+ghost use Rattle.std.specs.Prelude.{◌≡◌, ℕ, ◌+◌, ◌-◌, ◌*◌, ◌<◌, ◌≤◌, List, [], Bool, false, nat_lt, fold, length, take};
+ghost use Rattle.std.specs.Prelude.{drop, slice_index, slice_index_or, if◌then◌else◌};
+ghost use Rattle.sha2.specs.Sha256.{compress};
+ghost use Rattle.droid_hash.specs.Lanes.{lane8, piece};
+
+use crate::runs::{longer, one_of, part, within};
+use crate::sha256_kernel::compress_run;
+use std::simd::u32x4;
+
+// The longest run.
+fn longest<'a>(runs: [&'a [[u8; 64]]; 4]) -> &'a [[u8; 64]]
+    ensures { (j : ℕ) → j < 4 → length (piece j runs.entry) ≤ length result.now }
+{
+    let [a, b, c, d] = runs;
+    longer(longer(a, b), longer(c, d))
+}
+
+// How many blocks from `at` on all runs have that have not ended there, at most `most`.
+fn common(runs: [&[[u8; 64]]; 4], at: usize, most: usize) -> usize
+    ensures most { result ≤ most }
+    ensures some { 0 < most → 0 < result }
+    ensures inside { (j : ℕ) → j < 4 → at < length (piece j runs.entry) → at + result ≤ length (piece j runs.entry) }
+{
+    let [a, b, c, d] = runs;
+    let low = within(most, a.len(), at);
+    let low = within(low, b.len(), at);
+    let low = within(low, c.len(), at);
+    let low = within(low, d.len(), at);
+    low
+}
+
+// Each run from `at` on, or the filler where it has ended.
+fn parts<'a>(runs: [&'a [[u8; 64]]; 4], filler: &'a [[u8; 64]], at: usize) -> [&'a [[u8; 64]]; 4]
+    requires { at ≤ length filler.now }
+    ensures { (j : ℕ) → j < 4 → piece j result
+        ≡ (if nat_lt at (length (piece j runs.entry)) then drop at (piece j runs.entry) else drop at filler.now) }
+{
+    let [a, b, c, d] = runs;
+    [
+        part(a, filler, at),
+        part(b, filler, at),
+        part(c, filler, at),
+        part(d, filler, at),
+    ]
+}
+
+// Which runs have not ended at `at`.
+fn going(runs: [&[[u8; 64]]; 4], at: usize) -> [bool; 4]
+    ensures { (j : ℕ) → j < 4 → slice_index_or result j false ≡ nat_lt at (length (piece j runs.entry)) }
+{
+    let [a, b, c, d] = runs;
+    [at < a.len(), at < b.len(), at < c.len(), at < d.len()]
+}
+
+// The new state in the lanes that are named, and the old one in the others.
+fn chosen(named: [bool; 4], new: [u32x4; 8], old: [u32x4; 8]) -> [u32x4; 8]
+    ensures { (j : ℕ) → j < 4 → lane8 j result ≡ (if slice_index_or named j false then lane8 j new else lane8 j old) }
+{
+    let [a, b, c, d] = named;
+    if a && b && c && d {
+        return new;
+    }
+    [
+        chosen_lanes(named, new[0], old[0]),
+        chosen_lanes(named, new[1], old[1]),
+        chosen_lanes(named, new[2], old[2]),
+        chosen_lanes(named, new[3], old[3]),
+        chosen_lanes(named, new[4], old[4]),
+        chosen_lanes(named, new[5], old[5]),
+        chosen_lanes(named, new[6], old[6]),
+        chosen_lanes(named, new[7], old[7]),
+    ]
+}
+
+// The same for one variable.
+fn chosen_lanes(named: [bool; 4], new: u32x4, old: u32x4) -> u32x4
+    ensures { (j : ℕ) → j < 4
+        → slice_index result j ≡ (if slice_index_or named j false then slice_index new j else slice_index old j) }
+{
+    let [n0, n1, n2, n3] = named;
+    let [a0, a1, a2, a3] = new.to_array();
+    let [b0, b1, b2, b3] = old.to_array();
+    u32x4::from_array([
+        one_of(n0, a0, b0),
+        one_of(n1, a1, b1),
+        one_of(n2, a2, b2),
+        one_of(n3, a3, b3),
+    ])
+}
+
+// Takes `count` blocks from `at` on of each run that has not ended there. An idle lane takes the filler's blocks, and
+// its old state is put back.
+fn take_part<'a>(
+    state: &mut [u32x4; 8],
+    runs: [&'a [[u8; 64]]; 4],
+    filler: &'a [[u8; 64]],
+    at: usize,
+    count: usize,
+)
+    requires filled { at + count ≤ length filler.now }
+    requires inside { (j : ℕ) → j < 4 → at < length (piece j runs) → at + count ≤ length (piece j runs) }
+    ensures { (j : ℕ) → j < 4
+        → lane8 j state.new ≡ fold compress (lane8 j state.old) (take count (drop at (piece j runs.entry))) }
+{
+    let old = *state;
+    let mut new = old;
+    compress_run(&mut new, parts(runs, filler, at), count);
+    *state = chosen(going(runs, at), new, old);
+}
+
+// Takes each run's blocks into its lane. A lane whose run has ended stays as it is while the others go on.
+pub(crate) fn take_runs(state: &mut [u32x4; 8], runs: [&[[u8; 64]]; 4])
+    ensures { (j : ℕ) → j < 4 → lane8 j state.new ≡ fold compress (lane8 j state.old) (piece j runs.entry) }
+{
+    let filler = longest(runs);
+    let mut at = 0;
+    'parts: while at < filler.len() {
+        let count = common(runs, at, filler.len() - at);
+        take_part(state, runs, filler, at, count);
+        at += count;
+    }
+}

@@ -1,5 +1,0 @@
-use Rattle.droid_journal_chain.proofs.Chains.{plain_tear}
-use Rattle.droid_journal_chain.proofs.laws.a_plain_tear.Goals as goal
-
-pub returns : goal.returns
-returns c = λ header written file fits torn. plain_tear header written file fits torn

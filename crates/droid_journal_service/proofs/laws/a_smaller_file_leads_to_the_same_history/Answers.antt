@@ -1,9 +1,0 @@
-use Rattle.droid_journal_smaller.proofs.SmallerFiles.{smaller_file}
-use Rattle.droid_journal_smaller.specs.BareFiles.{bare_after}
-use Rattle.droid_journal_service.proofs.SmallHistories.{each_leads}
-use Rattle.droid_journal_service.proofs.laws.a_smaller_file_leads_to_the_same_history.Goals as goal
-
-pub returns : goal.returns
-returns c = λ header new file bytes setting base its read history behind whole shorter found.
-    let lead = each_leads setting base its history behind in
-    (bare_after lead.0 its, smaller_file setting lead.0 its history header new file bytes read whole lead.1 shorter found)

@@ -1,5 +1,0 @@
-use Rattle.droid_lanes.proofs.Eight.{shifts_turn}
-use Rattle.droid_lanes.proofs.md5_kernel.turned.Goals as goal
-
-pub returns : goal.returns
-returns c = shifts_turn c.args.s c.requires.0 c.requires.1 c.args.x c.fits-x.0

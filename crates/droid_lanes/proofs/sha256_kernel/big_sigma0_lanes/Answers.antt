@@ -1,5 +1,0 @@
-use Rattle.std.proofs.Common.{refl}
-use Rattle.droid_lanes.proofs.sha256_kernel.big_sigma0_lanes.Goals as goal
-
-pub returns : goal.returns
-returns c = λ j low. rw (c.three.ensures j low, c.turned.ensures j low, c.turned-2.ensures j low, c.turned-3.ensures j low) refl

@@ -1,0 +1,34 @@
+mod Compared
+mod Consistency
+mod ConsistentRecords
+mod Digits
+mod EntrySteps
+mod EntryTaken
+mod ExportedItems
+mod FieldSpelling
+mod FormatReading
+mod FormatSteps
+mod FormatTaken
+mod Gathering
+mod Joining
+mod Listing
+mod MapSteps
+mod MomentTexts
+mod Names
+mod NamesRead
+pub mod Numbers
+mod PlainFields
+mod PlainLists
+mod PlainRows
+mod Reading
+mod RowReadings
+mod RowSpelling
+mod RowTypes
+mod RowUnique
+mod RowsRead
+mod RowsTaken
+mod SameInventories
+pub mod Sayings
+mod SharedColumns
+mod TextSteps
+mod TextUnique

@@ -1,0 +1,220 @@
+-- Which items the records of a profile's CSV are (docs/CSV.md).
+use Rattle.std.specs.Prelude.{ℕ, ◌+◌, ◌-◌, ◌==◌, Bool, true, false, List, [], ◌∷◌, ◌++◌, length, Option, Some, None}
+use Rattle.std.specs.Prelude.{Result, Ok, Err, codes, if◌then◌else◌}
+use Rattle.std.specs.List.{flat_map, list_all}
+use Rattle.std.specs.Option.{unwrap_or}
+use Rattle.std.specs.Str.{bytes_eq}
+use Rattle.csv.specs.Records.{field_at}
+use Rattle.droid_frame.specs.declared.hash_kind.HashKind.{HashKind}
+use Rattle.droid_frame.specs.declared.hash_kind.HashKind.TheVariants.{Nothing, Md5, Sha256}
+use Rattle.droid_fixity.specs.Items.{same_truth}
+use Rattle.droid_fixity.specs.declared.item.Item.{Item}
+use Rattle.droid_lists.specs.Fields.{above_of, hash_column, hash_of, id_of, kind_of, length_of, moment_of, parent_of}
+use Rattle.droid_lists.specs.Fields.{path_of, rows_of}
+use Rattle.droid_lists.specs.Numbers.{contradiction}
+use Rattle.droid_lists.specs.declared.csv_items.column.Column.{Column}
+use Rattle.droid_lists.specs.declared.csv_items.column.Column.TheVariants as columns
+use Rattle.droid_lists.specs.declared.csv_items.fault.ListFault.{ListFault}
+use Rattle.droid_lists.specs.declared.csv_items.fault.ListFault.TheVariants as faults
+use Rattle.droid_lists.specs.declared.csv_items.fault.RowFault.{RowFault}
+use Rattle.droid_lists.specs.declared.csv_items.fault.RowFault.TheVariants as row_faults
+use Rattle.droid_lists.specs.declared.csv_items.row.Entry.{Entry}
+use Rattle.droid_lists.specs.declared.csv_items.row.Parts.{Parts}
+use Rattle.droid_lists.specs.declared.csv_items.row.Spot.{Spot}
+use Rattle.droid_lists.specs.declared.csv_items.tag.Tag.{Tag}
+
+-- ---- the names of the columns
+
+-- fields, each with a comma after it
+abbrev pub joined : List (List ℕ) → List ℕ
+joined names = flat_map (λ name. name ++ 44 ∷ []) names
+
+-- the kind of hash that the names of the columns say
+abbrev pub digest_by_names : List ℕ → Option HashKind
+digest_by_names names =
+    if bytes_eq names
+    (codes "ID,PARENT_ID,URI,FILE_PATH,NAME,METHOD,STATUS,SIZE,TYPE,EXT,LAST_MODIFIED,EXTENSION_MISMATCH,HASH,FORMAT_COUNT,PUID,MIME_TYPE,FORMAT_NAME,FORMAT_VERSION,")
+    then Some Nothing
+    else if bytes_eq names
+    (codes "ID,PARENT_ID,URI,FILE_PATH,NAME,METHOD,STATUS,SIZE,TYPE,EXT,LAST_MODIFIED,EXTENSION_MISMATCH,MD5_HASH,FORMAT_COUNT,PUID,MIME_TYPE,FORMAT_NAME,FORMAT_VERSION,")
+    then Some Md5
+    else if bytes_eq names
+    (codes "ID,PARENT_ID,URI,FILE_PATH,NAME,METHOD,STATUS,SIZE,TYPE,EXT,LAST_MODIFIED,EXTENSION_MISMATCH,SHA256_HASH,FORMAT_COUNT,PUID,MIME_TYPE,FORMAT_NAME,FORMAT_VERSION,")
+    then Some Sha256
+    else None
+
+-- the kind of hash that a header says: it has 18 columns, with these names in this order
+abbrev pub digest_of_header : List (List ℕ) → Option HashKind
+digest_of_header names = if length names == 18 then digest_by_names (joined names) else None
+
+-- ---- rows
+
+-- a step that may find a wrong column, which is then the first
+infixl 10 ◌>>=◌
+abbrev pub ◌>>=◌ : {A B : Type 0} → Result A Column → (A → Result B Column) → Result B Column
+(Err column) >>= f = Err column
+(Ok x) >>= f = f x
+
+abbrev pub or_wrong : {A : Type 0} → Column → Option A → Result A Column
+or_wrong column None = Err column
+or_wrong column (Some x) = Ok x
+
+-- the field at a place, or nothing past the last
+abbrev pub field_or : List (List ℕ) → ℕ → List ℕ
+field_or row place = unwrap_or (field_at row place) []
+
+-- where an item is, by its ID, that of the folder above it, and the path above its own: an item at the top has no
+-- folder above it, and any other has one
+abbrev pub spot_by : ℕ → ℕ → List ℕ → Result Spot Column
+spot_by id parent above =
+    if same_truth (parent == 0) (length above == 0) then Ok (record { id = id; parent = parent; above = length above })
+    else Err columns.ParentId
+
+-- where a row says that its item is: ID, PARENT_ID, FILE_PATH and NAME
+unfoldable pub spot_of : List (List ℕ) → Result Spot Column
+spot_of row = do
+  id ← or_wrong columns.Id (id_of (field_or row 0))
+  parent ← or_wrong columns.ParentId (parent_of (field_or row 1))
+  path ← or_wrong columns.FilePath (path_of (field_or row 3))
+  above ← or_wrong columns.Name (above_of path (field_or row 4))
+  spot_by id parent above
+
+-- what a row says beside its path: its spot, TYPE, SIZE, LAST_MODIFIED, the hash and FORMAT_COUNT
+unfoldable pub parts_of : HashKind → List (List ℕ) → Result Parts Column
+parts_of digest row = do
+  spot ← spot_of row
+  kind ← or_wrong columns.Kind (kind_of (field_or row 8))
+  size ← or_wrong columns.Size (length_of kind (field_or row 7))
+  modified ← or_wrong columns.LastModified (moment_of (field_or row 10))
+  hash ← or_wrong (hash_column digest) (hash_of digest kind (field_or row 12))
+  rows ← or_wrong columns.FormatCount (rows_of kind (field_or row 13))
+  Ok (record { spot = spot; kind = kind; length = size; modified = modified; hash = hash; rows = rows })
+
+-- an item of this path and these parts, with what else its row says
+abbrev pub entry_by : List ℕ → Result Parts Column → Result Entry RowFault
+entry_by path (Err column) = Err (row_faults.Column column)
+entry_by path (Ok parts) = Ok (record {
+  item = record { path = path; kind = parts.kind; length = parts.length; modified = parts.modified; hash = parts.hash };
+  spot = parts.spot;
+  rows = parts.rows;
+})
+
+-- the item of a row with what else it says, or what is wrong with it; a row has 18 fields
+abbrev pub entry_of : HashKind → List (List ℕ) → Result Entry RowFault
+entry_of digest row =
+    if length row == 18 then entry_by (field_or row 3) (parts_of digest row) else Err row_faults.Fields
+
+-- ---- records
+
+-- the columns that all rows of a file share: all but PUID, MIME_TYPE, FORMAT_NAME and FORMAT_VERSION, which come last
+abbrev pub shared_columns : List ℕ
+shared_columns = 0 ∷ 1 ∷ 2 ∷ 3 ∷ 4 ∷ 5 ∷ 6 ∷ 7 ∷ 8 ∷ 9 ∷ 10 ∷ 11 ∷ 12 ∷ 13 ∷ []
+
+-- whether two rows have the same bytes in a column
+abbrev pub same_column : List (List ℕ) → List (List ℕ) → ℕ → Bool
+same_column last row column = bytes_eq (field_or last column) (field_or row column)
+
+-- whether two rows have the same bytes in each column that all rows of a file share
+abbrev pub are_same : List (List ℕ) → List (List ℕ) → Bool
+are_same last row = list_all (same_column last row) shared_columns
+
+-- Whether a row repeats the row before it, if there was one. A file with several formats has a row for each.
+abbrev pub repeats : Option (List (List ℕ)) → List (List ℕ) → Bool
+repeats None row = false
+repeats (Some last) row = are_same last row
+
+-- The rows so far.
+pub record Rows : Type 0 where
+  pub items : List Item
+  -- what the first row of each item says beside it
+  pub tags : List Tag
+  -- how many rows of the last item are still to come
+  pub left : ℕ
+
+abbrev pub no_rows : Rows
+no_rows = record { items = []; tags = []; left = 0 }
+
+abbrev pub tag_of : ℕ → Entry → Tag
+tag_of number entry =
+    record { number = number; id = entry.spot.id; parent = entry.spot.parent; above = entry.spot.above }
+
+-- the rows with one more, of this number: of the last item, or of a new one
+abbrev pub with_entry : ℕ → Rows → Entry → Bool → Result Rows ListFault
+with_entry number rows entry true =
+    if rows.left == 0 then Err (faults.Contradiction number columns.FormatCount)
+    else Ok (record { items = rows.items; tags = rows.tags; left = rows.left - 1 })
+with_entry number rows entry false =
+    if rows.left == 0
+    then Ok (record {
+      items = rows.items ++ entry.item ∷ [];
+      tags = rows.tags ++ tag_of number entry ∷ [];
+      left = entry.rows - 1;
+    })
+    else Err (faults.Contradiction (number - 1) columns.FormatCount)
+
+-- these items, unless rows contradict each other
+abbrev pub unless_found : List Item → Option ListFault → Result (List Item) ListFault
+unless_found items None = Ok items
+unless_found items (Some fault) = Err fault
+
+-- the items, unless rows are missing at the end, or rows contradict each other
+abbrev pub judged : ℕ → Rows → Result (List Item) ListFault
+judged records rows =
+    if rows.left == 0 then unless_found rows.items (contradiction rows.items rows.tags)
+    else Err (faults.Contradiction records columns.FormatCount)
+
+-- What was read so far: the kind of hash that the header says, if there was one, the number of records, the rows, and
+-- the last row, if there was one.
+pub record Draft : Type 0 where
+  pub digest : Option HashKind
+  pub records : ℕ
+  pub rows : Rows
+  pub last : Option (List (List ℕ))
+
+-- the draft after the header, and after a row
+abbrev pub with_header : Option HashKind → Result Draft ListFault
+with_header None = Err faults.Header
+with_header (Some digest) = Ok (record { digest = Some digest; records = 1; rows = no_rows; last = None })
+
+abbrev pub fault_at : ℕ → RowFault → ListFault
+fault_at number row_faults.Fields = faults.Fields number
+fault_at number (row_faults.Column column) = faults.Column number column
+
+abbrev pub after_rows : Draft → List (List ℕ) → Result Rows ListFault → Result Draft ListFault
+after_rows draft row (Err fault) = Err fault
+after_rows draft row (Ok rows) =
+    Ok (record { digest = draft.digest; records = draft.records + 1; rows = rows; last = Some row })
+
+abbrev pub with_row : Draft → List (List ℕ) → Result Entry RowFault → Result Draft ListFault
+with_row draft row (Err fault) = Err (fault_at (draft.records + 1) fault)
+with_row draft row (Ok entry) =
+    after_rows draft row (with_entry (draft.records + 1) draft.rows entry (repeats draft.last row))
+
+abbrev pub taken_by : Draft → Option HashKind → List (List ℕ) → Result Draft ListFault
+taken_by draft None fields = with_header (digest_of_header fields)
+taken_by draft (Some digest) fields = with_row draft fields (entry_of digest fields)
+
+-- the draft after one more record
+abbrev pub taken : Draft → List (List ℕ) → Result Draft ListFault
+taken draft fields = taken_by draft draft.digest fields
+
+-- the items of a list, which has a header and rows that agree with each other
+abbrev pub finished : Option HashKind → ℕ → Rows → Result (List Item) ListFault
+finished None records rows = Err faults.Header
+finished (Some digest) records rows = judged records rows
+
+abbrev pub after : Result Draft ListFault → (Draft → Result (List Item) ListFault) → Result (List Item) ListFault
+after (Ok draft) more = more draft
+after (Err fault) more = Err fault
+
+-- what comes of the records after those that are in the draft: the items, or the first fault
+abbrev pub items_from : Draft → List (List (List ℕ)) → Result (List Item) ListFault
+items_from draft [] = finished draft.digest draft.records draft.rows
+items_from draft (fields ∷ records) = after (taken draft fields) (λ next. items_from next records)
+
+abbrev pub nothing_read : Draft
+nothing_read = record { digest = None; records = 0; rows = no_rows; last = None }
+
+-- the items of a profile's records, or the first fault
+abbrev pub profile_of : List (List (List ℕ)) → Result (List Item) ListFault
+profile_of records = items_from nothing_read records

@@ -1,0 +1,26 @@
+//! The errors of the CSV reader.
+
+ghost use Rattle.std.specs.Prelude.{◌≡◌};
+ghost use Rattle.csv.specs.Reading.{error_kind};
+ghost use Rattle.droid_lists.specs.Calls.{EndsReading};
+
+use crate::csv_items::fault::ListFault;
+use csv::{Error, ErrorKind};
+
+/// Converts an error of `csv`, which can only be that memory ran out.
+///
+/// Records are read as bytes, with any number of fields, so there are no errors of UTF-8 or of lengths. Reading from a
+/// slice never fails.
+pub(crate) fn csv_fault(error: Error) -> ListFault
+    requires { EndsReading (error_kind error) }
+    ensures { result ≡ ListFault.Memory }
+{
+    match error.into_kind() {
+        ErrorKind::OutOfMemory => ListFault::Memory,
+        ErrorKind::Io(_) => ListFault::Memory,
+        ErrorKind::Utf8 { .. } => unreachable!(),
+        ErrorKind::UnequalLengths { .. } => unreachable!(),
+        ErrorKind::Serialize(_) => unreachable!(),
+        ErrorKind::Deserialize { .. } => unreachable!(),
+    }
+}

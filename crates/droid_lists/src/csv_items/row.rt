@@ -1,0 +1,162 @@
+//! What a row of a profile says.
+
+ghost use Rattle.std.specs.Prelude.{◌≡◌, IfOk};
+ghost use Rattle.droid_lists.specs.Profiles as profiles;
+
+use crate::csv_items::column::Column;
+use crate::csv_items::fault::RowFault;
+use crate::csv_items::fields::{
+    above_of, hash_column, hash_of, id_of, kind_of, length_of, moment_of, parent_of, path_of,
+    rows_of,
+};
+use csv::ByteRecord;
+use droid_fixity::Item;
+use droid_frame::{Blob, HashKind, HashValue, NodeKind};
+use std::alloc::{AllocError, Global};
+
+/// A row of a list.
+pub(crate) trait Row {
+    ghost use Rattle.std.specs.Prelude.{◌≡◌, ℕ, List, length};
+    ghost use Rattle.droid_lists.specs.Profiles.{field_or};
+
+    /// The bytes of its fields.
+    ghost fields: { Self → List (List ℕ) };
+
+    /// Returns the number of fields.
+    fn count(&self) -> usize
+        ensures { result ≡ length (fields self.now) };
+
+    /// Returns the field at a place, or no bytes past the last.
+    fn field(&self, place: usize) -> &[u8]
+        ensures { result.now ≡ field_or (fields self.now) place };
+}
+
+impl Row for ByteRecord {
+    ghost use Rattle.csv.specs.Records.{fields_of};
+
+    ghost fields = { fields_of };
+
+    fn count(&self) -> usize {
+        self.len()
+    }
+
+    fn field(&self, place: usize) -> &[u8] {
+        match self.get(place) {
+            Some(field) => field,
+            None => &[],
+        }
+    }
+}
+
+/// Where a row says that its item is.
+#[derive(Clone, Copy)]
+pub(crate) struct Spot {
+    /// The ID.
+    pub(crate) id: u32,
+    /// The ID of the folder above, or 0 at the top.
+    pub(crate) parent: u32,
+    /// How many bytes of the path are that of the folder above.
+    pub(crate) above: usize,
+}
+
+/// What a row says beside its path.
+#[derive(Clone, Copy)]
+pub(crate) struct Parts {
+    spot: Spot,
+    kind: NodeKind,
+    length: Option<u64>,
+    modified: Option<[u8; 19]>,
+    hash: HashValue,
+    rows: u64,
+}
+
+/// What a row says.
+#[derive(Drop)]
+pub(crate) struct Entry {
+    /// The item.
+    pub(crate) item: Item,
+    /// Where it is.
+    pub(crate) spot: Spot,
+    /// How many rows the item has.
+    pub(crate) rows: u64,
+}
+
+/// Reads a row.
+pub(crate) fn entry_of<R: Row>(
+    alloc: Global,
+    digest: HashKind,
+    row: &R,
+) -> Result<Result<Entry, RowFault>, AllocError>
+    ensures { IfOk result (λ entry. entry ≡ profiles.entry_of digest (R.fields row.now)) }
+{
+    if row.count() != 18 {
+        return Ok(Err(RowFault::Fields));
+    }
+    match parts_of(digest, row) {
+        Ok(parts) => {
+            let path = Blob::copy_of(alloc, row.field(3))?;
+            let item = Item {
+                path,
+                kind: parts.kind,
+                length: parts.length,
+                modified: parts.modified,
+                hash: parts.hash,
+            };
+            Ok(Ok(Entry {
+                item,
+                spot: parts.spot,
+                rows: parts.rows,
+            }))
+        }
+        Err(column) => Ok(Err(RowFault::Column(column))),
+    }
+}
+
+/// Reads what a row says beside its path. Returns the first wrong column.
+#[tactic(auto, unfolding(crate::specs::Profiles::parts_of))]
+fn parts_of<R: Row>(digest: HashKind, row: &R) -> Result<Parts, Column>
+    ensures { result ≡ profiles.parts_of digest (R.fields row.now) }
+{
+    let spot = spot_of(row)?;
+    let kind = kind_of(row.field(8)).ok_or(Column::Kind)?;
+    let length = length_of(kind, row.field(7)).ok_or(Column::Size)?;
+    let modified = moment_of(row.field(10)).ok_or(Column::LastModified)?;
+    let hash = hash_of(digest, kind, row.field(12)).ok_or(hash_column(digest))?;
+    let rows = rows_of(kind, row.field(13)).ok_or(Column::FormatCount)?;
+    Ok(Parts {
+        spot,
+        kind,
+        length,
+        modified,
+        hash,
+        rows,
+    })
+}
+
+/// Reads where a row says that its item is.
+#[tactic(auto, unfolding(crate::specs::Profiles::spot_of))]
+fn spot_of<R: Row>(row: &R) -> Result<Spot, Column>
+    ensures { result ≡ profiles.spot_of (R.fields row.now) }
+{
+    let id = id_of(row.field(0)).ok_or(Column::Id)?;
+    let parent = parent_of(row.field(1)).ok_or(Column::ParentId)?;
+    let path = path_of(row.field(3)).ok_or(Column::FilePath)?;
+    let above = above_of(path, row.field(4)).ok_or(Column::Name)?;
+    spot_by(id, parent, above)
+}
+
+/// Returns the spot of an item. At the top it has no folder above it, and elsewhere it has one.
+fn spot_by(id: u32, parent: u32, above: &[u8]) -> Result<Spot, Column>
+    ensures { result ≡ profiles.spot_by id parent above.now }
+{
+    let fits = (parent == 0) == above.is_empty();
+    if fits {
+        Ok(Spot {
+            id,
+            parent,
+            above: above.len(),
+        })
+    } else {
+        Err(Column::ParentId)
+    }
+}

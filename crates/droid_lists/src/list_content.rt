@@ -1,0 +1,159 @@
+//! What a list says.
+
+ghost use Rattle.std.specs.Prelude.{◌≡◌, Ok};
+ghost use Rattle.droid_lists.specs.Listings.{Comes, ListSays, ListSaysBy, Says, hash_in, manifest_fault, profile_fault};
+ghost use Rattle.droid_lists.specs.declared.list_form.ListForm.TheVariants as forms;
+
+use crate::csv_items::fault::ListFault;
+use crate::csv_items::profile::read_profile;
+use crate::list_form::ListForm;
+use droid_fixity::{Inventory, Item, ManifestFault, ManifestForm, SamePath, read_manifest};
+use droid_frame::HashKind;
+use std::alloc::{AllocError, Global};
+
+/// Why a list cannot be read.
+#[derive(Drop)]
+pub enum UnreadList {
+    /// Out of memory.
+    Memory,
+    /// The CSV is malformed or contradicts itself. The reason is never [`ListFault::Memory`].
+    Profile(ListFault),
+    /// The list of checksums is malformed or names no file. The reason is never [`ManifestFault::Memory`].
+    Manifest(ManifestFault),
+    /// Two items have this path.
+    Twice(SamePath),
+}
+
+impl From<AllocError> for UnreadList {
+    ghost use Rattle.droid_lists.specs.declared.list_content.UnreadList.TheVariants.{Memory};
+
+    ghost from_gives = { λ _ fault. fault ≡ Memory };
+
+    fn from(_error: AllocError) -> UnreadList {
+        UnreadList::Memory
+    }
+}
+
+/// What a list says.
+#[derive(Drop)]
+pub struct Listed {
+    /// Its form.
+    pub form: ListForm,
+    /// Its folders and files, in order of path.
+    pub items: Inventory,
+    /// The kind of their hashes: that of the first hash.
+    pub hash: HashKind,
+}
+
+/// Reads a list: the CSV of a profile or of an export, or a list of checksums. `in_bag` says whether the folder that it
+/// describes is a bag. If several faults apply, the first of [`UnreadList`] is returned.
+pub fn read_list(alloc: Global, in_bag: bool, text: &[u8]) -> Result<Listed, UnreadList>
+    ensures { ListSays in_bag text.now result }
+{
+    match ListForm::of(alloc, in_bag, text) {
+        Ok(form) => list_by(alloc, form, text),
+        Err(_) => Err(UnreadList::Memory),
+    }
+}
+
+/// Reads a list of this form.
+fn list_by(alloc: Global, form: ListForm, text: &[u8]) -> Result<Listed, UnreadList>
+    ensures { ListSaysBy form text.now result }
+{
+    match items_in(alloc, form, text) {
+        Ok(items) => {
+            let hash = hash_in(items.as_slice());
+            Ok(Listed { form, items, hash })
+        }
+        Err(fault) => Err(fault),
+    }
+}
+
+/// Reads the items of a list of this form.
+fn items_in(alloc: Global, form: ListForm, text: &[u8]) -> Result<Inventory, UnreadList>
+    ensures { Says form text.now result }
+{
+    match form {
+        ListForm::Profile => items_of_profile(alloc, text),
+        ListForm::Checksum(form) => items_of_manifest(alloc, form, text),
+    }
+}
+
+/// Reads the items of a profile's CSV.
+fn items_of_profile(alloc: Global, text: &[u8]) -> Result<Inventory, UnreadList>
+    ensures { Says forms.Profile text.now result }
+{
+    match read_profile(alloc, text) {
+        Ok(items) => in_order(items),
+        Err(fault) => Err(profile_fault(fault)),
+    }
+}
+
+/// Converts a fault of a profile's CSV.
+fn profile_fault(fault: ListFault) -> UnreadList
+    ensures { result ≡ profile_fault fault }
+{
+    match fault {
+        ListFault::Memory => UnreadList::Memory,
+        ListFault::Header => UnreadList::Profile(fault),
+        ListFault::Fields { .. } => UnreadList::Profile(fault),
+        ListFault::Column { .. } => UnreadList::Profile(fault),
+        ListFault::Contradiction { .. } => UnreadList::Profile(fault),
+    }
+}
+
+/// Reads the items of a list of checksums.
+fn items_of_manifest(
+    alloc: Global,
+    form: ManifestForm,
+    text: &[u8],
+) -> Result<Inventory, UnreadList>
+    ensures { Says (forms.Checksum form) text.now result }
+{
+    match read_manifest(alloc, form, text) {
+        Ok(items) => in_order(items),
+        Err(fault) => Err(manifest_fault(fault)),
+    }
+}
+
+/// Converts a fault of a list of checksums.
+fn manifest_fault(fault: ManifestFault) -> UnreadList
+    ensures { result ≡ manifest_fault fault }
+{
+    match fault {
+        ManifestFault::Memory => UnreadList::Memory,
+        ManifestFault::Empty => UnreadList::Manifest(fault),
+        ManifestFault::Line { .. } => UnreadList::Manifest(fault),
+        ManifestFault::Path { .. } => UnreadList::Manifest(fault),
+        ManifestFault::Digest { .. } => UnreadList::Manifest(fault),
+    }
+}
+
+/// Sorts items by path.
+fn in_order(items: Vec<Item>) -> Result<Inventory, UnreadList>
+    ensures { Comes (Ok items.items) result }
+{
+    match Inventory::of(items) {
+        Ok(inventory) => {
+            // The prover learns from this call that the paths are in order.
+            let _items = inventory.as_slice();
+            Ok(inventory)
+        }
+        Err(same) => Err(UnreadList::Twice(same)),
+    }
+}
+
+/// Returns the kind of the first hash that items have.
+#[tactic(auto, using(crate::proofs::Listing::no_hash, crate::proofs::Listing::this_hash, crate::proofs::Listing::none_left))]
+fn hash_in(items: &[Item]) -> HashKind
+    ensures { result ≡ hash_in items.now }
+{
+    for item in items {
+        match item.hash.kind() {
+            HashKind::Nothing => {}
+            HashKind::Md5 => return HashKind::Md5,
+            HashKind::Sha256 => return HashKind::Sha256,
+        }
+    }
+    HashKind::Nothing
+}

@@ -1,0 +1,225 @@
+//! What the columns of a row may say.
+
+ghost use Rattle.std.specs.Prelude.{◌≡◌, codes, if◌then◌else◌};
+ghost use Rattle.std.specs.List.{list_all};
+ghost use Rattle.csv.specs.Records.{fields_of};
+ghost use Rattle.droid_lists.specs.RowTests as tests;
+
+use crate::csv_items::moment::is_moment;
+use crate::spelling::text_number::{is_count, is_size, plain_number};
+use crate::spelling::text_path::text_of;
+use crate::spelling::text_row::field;
+use csv::ByteRecord;
+use droid_frame::{HashKind, NodeKind};
+
+/// Returns whether a row is that of a file.
+pub(crate) fn is_file(row: &ByteRecord) -> bool
+    ensures { result ≡ tests.is_file (fields_of row.now) }
+{
+    let file: &[u8] = b"File";
+    field(row, 8) == file
+}
+
+/// Returns whether a row is that of a file or a folder.
+pub(crate) fn is_kind(row: &ByteRecord) -> bool
+    ensures { result ≡ tests.is_kind (fields_of row.now) }
+{
+    let folder: &[u8] = b"Folder";
+    is_file(row) || field(row, 8) == folder
+}
+
+/// Returns the kind of a row that is that of a file or a folder.
+pub(crate) fn kind_in(row: &ByteRecord) -> NodeKind
+    ensures { result ≡ tests.kind_in (fields_of row.now) }
+{
+    if is_file(row) {
+        NodeKind::File
+    } else {
+        NodeKind::Folder
+    }
+}
+
+/// Returns how many formats a row's record has.
+pub(crate) fn formats_in(row: &ByteRecord) -> u64
+    ensures { result ≡ tests.formats_in (fields_of row.now) }
+{
+    match plain_number(field(row, 13)) {
+        Some(count) => count,
+        None => 0,
+    }
+}
+
+/// Returns how many rows a row's record has.
+pub(crate) fn rows_in(row: &ByteRecord) -> u64
+    ensures { result ≡ tests.rows_in (fields_of row.now) }
+{
+    formats_in(row).max(1)
+}
+
+/// Returns the ID of a row, or 0.
+pub(crate) fn id_in(row: &ByteRecord) -> u64
+    ensures { result ≡ tests.number_at (fields_of row.now) 0 }
+{
+    match plain_number(field(row, 0)) {
+        Some(id) => id,
+        None => 0,
+    }
+}
+
+/// Returns the first wrong column among those that say what an entry is.
+pub(crate) fn wrong_content(hash: HashKind, row: &ByteRecord) -> Option<u8>
+    ensures { result ≡ tests.first_wrong (tests.content_tests hash (fields_of row.now)) }
+{
+    if !is_done(row) {
+        return Some(6);
+    }
+    if !has_size(row) {
+        return Some(7);
+    }
+    if !is_extension(row) {
+        return Some(9);
+    }
+    if !is_moment_text(field(row, 10)) {
+        return Some(10);
+    }
+    if !has_digest(hash, row) {
+        return Some(12);
+    }
+    if !has_count(row) {
+        return Some(13);
+    }
+    if !is_method(row) {
+        return Some(5);
+    }
+    if !is_mismatch(row) {
+        return Some(11);
+    }
+    None
+}
+
+fn is_done(row: &ByteRecord) -> bool
+    ensures { result ≡ tests.is_done (fields_of row.now) }
+{
+    let done: &[u8] = b"Done";
+    field(row, 6) == done
+}
+
+fn has_size(row: &ByteRecord) -> bool
+    ensures { result ≡ tests.has_size (fields_of row.now) }
+{
+    if is_file(row) {
+        is_size(field(row, 7))
+    } else {
+        field(row, 7).is_empty()
+    }
+}
+
+fn has_digest(hash: HashKind, row: &ByteRecord) -> bool
+    ensures { result ≡ tests.has_digest hash (fields_of row.now) }
+{
+    if is_file(row) {
+        is_digest(hash, field(row, 12))
+    } else {
+        field(row, 12).is_empty()
+    }
+}
+
+fn has_count(row: &ByteRecord) -> bool
+    ensures { result ≡ tests.has_count (fields_of row.now) }
+{
+    if is_file(row) {
+        is_count(field(row, 13))
+    } else {
+        field(row, 13).is_empty()
+    }
+}
+
+fn is_extension(row: &ByteRecord) -> bool
+    ensures { result ≡ tests.is_extension (fields_of row.now) }
+{
+    if is_file(row) {
+        is_extension_of(field(row, 4), field(row, 9))
+    } else {
+        field(row, 9).is_empty()
+    }
+}
+
+fn is_extension_of(name: &[u8], text: &[u8]) -> bool
+    ensures { result ≡ tests.is_extension_of name.now text.now }
+{
+    match text_of(name) {
+        Some(name) => text == droid_pronom::extension(name).as_bytes(),
+        None => false,
+    }
+}
+
+fn is_moment_text(text: &[u8]) -> bool
+    ensures { result ≡ tests.is_moment_text text.now }
+{
+    match <[u8; 19]>::try_from(text) {
+        Ok(moment) => is_moment(&moment),
+        Err(_) => false,
+    }
+}
+
+fn is_digest(hash: HashKind, text: &[u8]) -> bool
+    ensures { result ≡ tests.is_digest hash text.now }
+{
+    text.len() == digest_length(hash) && are_digest_bytes(text)
+}
+
+fn digest_length(hash: HashKind) -> usize
+    ensures { result ≡ tests.digest_length hash }
+{
+    match hash {
+        HashKind::Nothing => 0,
+        HashKind::Md5 => 32,
+        HashKind::Sha256 => 64,
+    }
+}
+
+fn are_digest_bytes(text: &[u8]) -> bool
+    ensures { result ≡ list_all tests.is_digest_byte text.now }
+{
+    text.iter()
+        .all(|c| c.is_ascii_digit() || b'a' <= *c && *c <= b'f')
+}
+
+fn is_method(row: &ByteRecord) -> bool
+    ensures { result ≡ tests.is_method (fields_of row.now) }
+{
+    let extension: &[u8] = b"Extension";
+    if formats_in(row) == 0 {
+        field(row, 5).is_empty()
+    } else {
+        is_by_signature(row) || field(row, 5) == extension
+    }
+}
+
+fn is_by_signature(row: &ByteRecord) -> bool
+    ensures { result ≡ tests.is_by_signature (fields_of row.now) }
+{
+    let signature: &[u8] = b"Signature";
+    field(row, 5) == signature
+}
+
+fn is_mismatch(row: &ByteRecord) -> bool
+    ensures { result ≡ tests.is_mismatch (fields_of row.now) }
+{
+    let right: &[u8] = b"false";
+    let wrong: &[u8] = b"true";
+    field(row, 11) == right
+        || field(row, 11) == wrong && is_by_signature(row) && !field(row, 9).is_empty()
+}
+
+/// Returns the first of the columns before the format's in which a row differs from the first of its record.
+pub(crate) fn wrong_shared(first: &ByteRecord, row: &ByteRecord) -> Option<u8>
+    ensures { result ≡ tests.first_wrong (tests.shared_tests (fields_of first.now) (fields_of row.now)) }
+{
+    for column in 0..14u8 {
+        if field(row, column as usize) != field(first, column as usize) {
+            return Some(column);
+        }
+    }
+    None
+}

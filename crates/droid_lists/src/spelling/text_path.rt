@@ -1,0 +1,86 @@
+//! Paths in a profile's text.
+
+ghost use Rattle.std.specs.Prelude.{◌≡◌, ◌∷◌};
+ghost use Rattle.std.specs.Option.{option_map};
+ghost use Rattle.std.specs.Str.{bytes_eq};
+ghost use Rattle.csv.specs.Records.{fields_of};
+ghost use Rattle.droid_lists.specs.Fields as fields;
+ghost use Rattle.droid_lists.specs.RowTests as tests;
+
+use crate::spelling::text_row::field;
+use csv::ByteRecord;
+use droid_fixity::is_file_path;
+use std::str;
+
+/// Returns the bytes as text, if they are UTF-8.
+pub(crate) fn text_of(bytes: &[u8]) -> Option<&str>
+    ensures { option_map (λ text. text.now) result ≡ tests.utf8_of bytes.now }
+{
+    match str::from_utf8(bytes) {
+        Ok(text) => Some(text),
+        Err(_) => None,
+    }
+}
+
+/// Returns the path, if a profile may have it: `/` and names of at most 255 bytes, in all at most 4,096 bytes of UTF-8.
+pub(crate) fn path_of(path: &[u8]) -> Option<&str>
+    ensures { option_map (λ text. text.now) result ≡ tests.path_of path.now }
+{
+    if !is_path(path) {
+        return None;
+    }
+    text_of(path)
+}
+
+fn is_path(path: &[u8]) -> bool
+    ensures { result ≡ tests.is_path path.now }
+{
+    is_file_path(path) && path.len() <= 4096 && are_short(path)
+}
+
+/// Returns whether each name has at most 255 bytes.
+fn are_short(path: &[u8]) -> bool
+    ensures { result ≡ tests.are_short path.now }
+{
+    path.split(|byte| *byte == b'/')
+        .all(|name| name.len() <= 255)
+}
+
+/// Returns how many bytes of the path stand before the slash and the name.
+fn above_length(row: &ByteRecord) -> usize
+    ensures { result ≡ tests.above_length (fields_of row.now) }
+{
+    field(row, 3).len().saturating_sub(field(row, 4).len() + 1)
+}
+
+/// Returns the path of the folder above.
+pub(crate) fn above(row: &ByteRecord) -> &[u8]
+    ensures { result.now ≡ tests.above (fields_of row.now) }
+{
+    let (above, _) = field(row, 3).split_at(above_length(row));
+    above
+}
+
+/// Returns whether the name is what stands behind the last slash of the path.
+pub(crate) fn is_named(row: &ByteRecord) -> bool
+    ensures { result ≡ tests.is_named (fields_of row.now) }
+{
+    let (_, last) = field(row, 3).split_at(above_length(row));
+    has_no_slash(field(row, 4)) && is_last(last, field(row, 4))
+}
+
+/// Returns whether a text is `/` and this name.
+fn is_last(text: &[u8], name: &[u8]) -> bool
+    ensures { result ≡ bytes_eq text.now (47 ∷ name.now) }
+{
+    match text.split_first() {
+        Some((first, rest)) => *first == b'/' && rest == name,
+        None => false,
+    }
+}
+
+fn has_no_slash(name: &[u8]) -> bool
+    ensures { result ≡ fields.has_no_slash name.now }
+{
+    name.iter().all(|byte| *byte != b'/')
+}

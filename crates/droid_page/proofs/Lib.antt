@@ -1,5 +1,0 @@
-mod Escaping
-mod Letters
-pub mod Pages
-mod Reading
-mod TableTexts

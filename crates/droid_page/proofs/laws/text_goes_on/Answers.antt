@@ -1,6 +1,0 @@
-use Rattle.std.proofs.Common.{[]}
-use Rattle.droid_page.proofs.Pages.{tree_more}
-use Rattle.droid_page.proofs.laws.text_goes_on.Goals as goal
-
-pub returns : goal.returns
-returns c = λ tree rest. tree_more tree [] rest

@@ -1,0 +1,14 @@
+-- The places that are also in the set of the class, each moved by one.
+use Rattle.std.proofs.Common.{◌∙◌, arith}
+use Rattle.std.proofs.lemmas.List.{get_or-set_same}
+use Rattle.std.proofs.lemmas.Result.{on_ok_weaker}
+use Rattle.droid_pattern.proofs.BitLemmas.{place_below}
+use Rattle.droid_pattern.proofs.ClassLemmas.{one_by}
+use Rattle.droid_pattern.proofs.class_set.step_class.Goals as goal
+
+pub returns-clause-moved : goal.returns-clause-moved
+returns-clause-moved c =
+    let same = c.index.ensures ∙ get_or-set_same c.fill_slots.new.sets.items c.slot-slot.result c.prepare.new.self _ (omega (arith, c.in_ok-fill_slots.ensures.count)) in
+    on_ok_weaker c.keep_step.result (one_by c.args.direction c.args.bytes.now c.prepare.new.self.class c.args.class c.args.bits.now c.prepare.new.self.bits _
+    c.in_ok-prepare.ensures.class (omega (arith, c.in_ok-prepare.ensures.count, c.len.ensures)) c.prepare.ensures.bits
+    (place_below c.args.bits.now)) (rw same at c.keep_step.ensures)

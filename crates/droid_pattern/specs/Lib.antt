@@ -1,0 +1,10 @@
+pub mod Cells
+pub mod ClassCaches
+pub mod FirstBytes
+pub mod Fronts
+pub mod LangTest
+pub mod PatternText
+pub mod Patterns
+pub mod Places
+pub mod Positions
+pub mod Tokens

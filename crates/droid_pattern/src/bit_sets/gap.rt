@@ -1,0 +1,49 @@
+//! Moves the places of a bit set over one byte or over a gap.
+
+ghost use Rattle.std.specs.Prelude.{◌≡◌, ◌↔◌, ◌<◌, ◌≤◌, ◌+◌, ◌^◌, ℕ, OnOk, length};
+ghost use Rattle.droid_pattern.specs.Places.{IsPlace};
+
+use crate::bit_sets::ends::first_place;
+use crate::bit_sets::run::push_runs;
+use crate::bit_sets::shift::{advance, widen};
+use crate::bit_sets::word_count::{bound, grow, trim};
+use std::alloc::AllocError;
+
+/// Moves each place up by one.
+pub(crate) fn step(words: &mut Vec<u64>) -> Result<(), AllocError>
+    ensures { OnOk result ((q : ℕ) → IsPlace words.new.items q ↔ ((p : ℕ) × IsPlace words.old.items p × (q ≡ p + 1))) }
+{
+    if words.is_empty() {
+        return Ok(());
+    }
+    words.push(0)?;
+    advance(words, 1);
+    trim(words);
+    Ok(())
+}
+
+/// Replaces the places by all those that lie from `least` to `least + more` above one of them and are at most `len`.
+pub(crate) fn cross(
+    words: &mut Vec<u64>,
+    least: usize,
+    more: usize,
+    len: usize,
+) -> Result<(), AllocError>
+    requires small { (least < 2 ^ 62) × (more < 2 ^ 63) × (len < 2 ^ 63) }
+    ensures { OnOk result ((q : ℕ) → IsPlace words.new.items q
+        ↔ ((q ≤ len) × ((p : ℕ) × IsPlace words.old.items p × (p + least ≤ q) × (q ≤ p + (least + more))))) }
+{
+    bound(words, len);
+    let Some(first) = first_place(words) else {
+        return Ok(());
+    };
+    if len <= first.saturating_add(least + more) {
+        return push_runs(words, first + least, len);
+    }
+    let wanted = words.len() + (least + more) / 64 + 1;
+    grow(words, wanted.min(len / 64 + 1))?;
+    advance(words, least);
+    widen(words, more);
+    bound(words, len);
+    Ok(())
+}

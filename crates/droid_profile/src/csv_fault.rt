@@ -1,0 +1,35 @@
+//! Why the profile of a tree was not written, or only in part.
+
+ghost use Rattle.std.specs.Prelude.{◌≡◌};
+
+use std::alloc::AllocError;
+use thiserror::Error;
+
+/// Why the profile of a tree was not written, or only in part.
+///
+/// After a fault of the first two kinds, all rows and lines of the records that were taken are written.
+#[derive(Clone, Copy, Debug, PartialEq, Eq, Error)]
+pub enum CsvFault {
+    /// Out of memory.
+    #[error("out of memory")]
+    Memory,
+    /// There are more than 4,294,967,295 folders and files.
+    #[error("there are too many folders and files")]
+    Numbers,
+    /// The CSV could not be written: its writer stopped.
+    #[error("the CSV could not be written")]
+    Csv,
+    /// The list of checksums could not be written: its writer stopped.
+    #[error("the list of checksums could not be written")]
+    Manifest,
+}
+
+impl From<AllocError> for CsvFault {
+    ghost use Rattle.droid_profile.specs.declared.csv_fault.CsvFault.TheVariants.{Memory};
+
+    ghost from_gives = { λ _ fault. fault ≡ Memory };
+
+    fn from(_error: AllocError) -> CsvFault {
+        CsvFault::Memory
+    }
+}

@@ -1,9 +1,0 @@
-pub mod FewPending
-pub mod Moments
-pub mod Stopping
-pub mod Takings
-pub mod Endings
-pub mod Written
-pub mod TreeWritten
-pub mod EarlyWritten
-pub mod Exits

@@ -1,5 +1,0 @@
-use Rattle.droid_profile_csv.proofs.Moments.{moment_written}
-use Rattle.droid_profile_csv.proofs.csv_recipient.CsvRecipient.add.Goals as goal
-
-pub add-requires : goal.add-requires
-add-requires g c = moment_written c.args.next.now.modified c.requires

@@ -1,7 +1,0 @@
--- the entries so far were taken
-use Rattle.std.proofs.Common.{◌≡◌, ◌++◌, map, take}
-use Rattle.droid_profile_rows.specs.RowsPushed.{repeated_row}
-use Rattle.droid_profile_rows.proofs.folders.push_repeated.Given as goal
-
-abbrev pub invariant-loop-entry : goal.invariant-loop-entry
-invariant-loop-entry l = l.rows.items ≡ l.fn.rows.items ++ map (repeated_row l.folder.path) (take l.entry-index l.repeated)

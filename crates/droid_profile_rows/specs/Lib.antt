@@ -1,4 +1,0 @@
-pub mod RowsPushed
-pub mod RowsTaken
-pub mod ScanFits
-pub mod StepsTaken

@@ -1,5 +1,0 @@
-use Rattle.droid_profile_spec.proofs.SomeNodes.{tree_nodes}
-use Rattle.droid_profile_spec.proofs.laws.each_tree_has_a_profile.Goals as goal
-
-pub returns : goal.returns
-returns c = λ visits are. let some = tree_nodes visits are in (some.nodes, some.are)

@@ -1,0 +1,35 @@
+//! Collects the PUIDs of the formats that were found.
+
+ghost use Rattle.std.specs.Prelude.{◌≡◌, IfOk, length};
+ghost use Rattle.std.specs.List.{list_any};
+ghost use Rattle.droid_pronom.specs.Found.{Chosen};
+ghost use Rattle.droid_pronom.specs.FoundWindows.{Stands};
+
+use crate::format::Format;
+use droid_frame::Texts;
+use std::alloc::{AllocError, Global};
+
+/// Returns the PUIDs of the formats whose flags are set, in order.
+pub fn puids_of(alloc: Global, formats: &[Format], flags: &[bool]) -> Result<Texts, AllocError>
+    requires { length flags.now ≡ length formats.now }
+    ensures { IfOk result (λ puids. Chosen (Stands flags.now) 0 formats.now puids) }
+{
+    let mut puids = Texts::new(alloc);
+    let none = !is_any_set(flags);
+    if none {
+        return Ok(puids);
+    }
+    for (place, format) in formats.iter().enumerate() {
+        if flags[place] {
+            puids.push(format.puid.try_clone(alloc)?)?;
+        }
+    }
+    Ok(puids)
+}
+
+/// Returns whether a flag is set.
+pub fn is_any_set(flags: &[bool]) -> bool
+    ensures { result ≡ list_any (λ flag. flag) flags.now }
+{
+    flags.iter().any(|flag| *flag)
+}

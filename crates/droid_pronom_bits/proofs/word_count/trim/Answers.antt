@@ -1,6 +1,0 @@
--- What is cut off has no place.
-use Rattle.droid_pronom_bits.proofs.SetLemmas.{trimmed}
-use Rattle.droid_pronom_bits.proofs.word_count.trim.Goals as goal
-
-pub returns-clause-places : goal.returns-clause-places
-returns-clause-places c = rw c.truncate.ensures.items (trimmed c.args.words.now.items c.used.result (rw c.deref.ensures.value at c.used.ensures.rest))

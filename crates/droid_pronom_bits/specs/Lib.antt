@@ -1,2 +1,0 @@
--- What the calls on bit sets promise.
-pub mod Places

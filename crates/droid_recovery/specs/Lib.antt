@@ -1,0 +1,12 @@
+pub mod BareFiles
+pub mod BareRecords
+pub mod BareWorlds
+pub mod Ending
+pub mod Faults
+pub mod FoundWords
+pub mod RecordTaking
+pub mod Recovering
+pub mod SmallerFiles
+pub mod Standing
+pub mod Taking
+pub mod WordTests

@@ -1,0 +1,15 @@
+//! The identifiers of a registry.
+
+ghost use Rattle.droid_core.specs.Identified.{IsOf};
+ghost use Rattle.droid_core_spec.specs.Setting.{Setting};
+ghost use Rattle.droid_recovery.specs.FoundWords.{FindsWords};
+
+use droid_pronom::Registry;
+
+/// Sees that no identifier of the registry has a space, as none of any registry has. The prover needs this; it does
+/// nothing.
+pub fn see_words(registry: &Registry)
+    ensures { (setting : Setting) → IsOf registry.now setting → FindsWords setting }
+{
+    let _count = registry.len();
+}

@@ -1,0 +1,17 @@
+pub mod Bodies
+pub mod Chaining
+pub mod Conversing
+pub mod Counting
+pub mod Fronts
+pub mod Going
+pub mod Handing
+pub mod Packing
+pub mod Parts
+pub mod Pausing
+pub mod Probing
+pub mod Ranges
+pub mod Reading
+pub mod Repeating
+pub mod Sharing
+pub mod Texts
+pub mod Waiting

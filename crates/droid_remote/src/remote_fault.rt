@@ -1,0 +1,64 @@
+//! Errors of a submission over a connection, and of reading an export.
+
+ghost use Rattle.std.specs.Prelude.{◌≡◌};
+ghost use Rattle.droid_remote.specs.RemoteSubmissions.{remote_fault_of};
+
+use crate::transfer::transfer_fault::TransferFault;
+use droid_upload::SubmissionFault;
+use std::alloc::AllocError;
+use thiserror::Error;
+
+/// Why a tree was not submitted, or only in part.
+#[derive(Clone, Copy, Debug, PartialEq, Eq, Error)]
+pub enum RemoteFault {
+    /// The walk ended early. It is never `SubmissionFault::Ended`: then this is `Sending`.
+    #[error("the tree could not be walked")]
+    Walking(SubmissionFault),
+    /// A request got no reply that the client accepts.
+    #[error("the tree could not be sent")]
+    Sending(TransferFault),
+}
+
+/// Returns the fault of a walk that ended early. If no reply came, the sender says why.
+pub(crate) fn remote_fault_of(stopped: Option<TransferFault>, fault: SubmissionFault) -> RemoteFault
+    ensures { result ≡ remote_fault_of stopped fault }
+{
+    match (stopped, fault) {
+        (Some(stop), SubmissionFault::Ended) => RemoteFault::Sending(stop),
+        _ => RemoteFault::Walking(fault),
+    }
+}
+
+/// Why an export was not read.
+#[derive(Clone, Copy, Debug, PartialEq, Eq, Error)]
+pub enum DownloadFault {
+    /// A part was not received.
+    #[error("the export could not be read")]
+    Sending(TransferFault),
+    /// The export has this many bytes, more than `EXPORT_LIMIT`.
+    #[error("the export is too long")]
+    Long(u64),
+    /// Out of memory for the export's text.
+    #[error("out of memory for the export")]
+    NoRoom,
+}
+
+impl From<TransferFault> for DownloadFault {
+    ghost use Rattle.droid_remote.specs.declared.remote_fault.DownloadFault.TheVariants.{Sending};
+
+    ghost from_gives = { λ from fault. fault ≡ Sending from };
+
+    fn from(fault: TransferFault) -> DownloadFault {
+        DownloadFault::Sending(fault)
+    }
+}
+
+impl From<AllocError> for DownloadFault {
+    ghost use Rattle.droid_remote.specs.declared.remote_fault.DownloadFault.TheVariants.{NoRoom};
+
+    ghost from_gives = { λ _ fault. fault ≡ NoRoom };
+
+    fn from(_error: AllocError) -> DownloadFault {
+        DownloadFault::NoRoom
+    }
+}

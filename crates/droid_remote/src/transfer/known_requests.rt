@@ -1,0 +1,103 @@
+//! The requests by which a service is vouched for.
+
+ghost use Rattle.std.specs.Prelude.{◌≡◌, None, IfErr, IfOk, OnErr};
+ghost use Rattle.droid_frame.specs.Replies.{SpellsReply};
+ghost use Rattle.droid_remote.specs.Vouching.{adds_node, remember_as};
+ghost use Rattle.droid_remote.specs.TransferFaults.{ExplainsBody};
+
+use crate::transfer::reply_checks::{copy_of, read_reply};
+use crate::transfer::transfer_fault::TransferFault;
+use droid_frame::kinds::{ABANDON, ADD_FILE, ADD_FOLDER, CREATE_PROFILE, FINISH};
+use droid_frame::{Frame, Reply};
+use std::alloc::Global;
+
+/// A request that the service accepted, and its reply. The service keeps the reply, and repeats it when the request
+/// comes again. One that replies otherwise lost what it kept, or is another service.
+#[derive(Drop)]
+pub struct Known {
+    /// The request.
+    pub request: Frame,
+    /// The frame of its reply.
+    pub reply: Frame,
+}
+
+/// The requests that a new connection begins with.
+#[derive(Drop)]
+pub struct KnownRequests {
+    /// The last CreateProfile that was answered by Made.
+    pub profile: Option<Known>,
+    /// The last change of the profile's nodes: an AddFolder or AddFile that was answered by Node, a Finish by Finished,
+    /// or an Abandon by Abandoned.
+    pub change: Option<Known>,
+}
+
+impl KnownRequests {
+    /// Knows no request.
+    pub(crate) fn new() -> KnownRequests
+        ensures profile { result.profile ≡ None }
+        ensures change { result.change ≡ None }
+    {
+        KnownRequests {
+            profile: None,
+            change: None,
+        }
+    }
+
+    /// Reads the reply in an answer, and remembers the answer if a profile was made or a node was made, finished or
+    /// abandoned.
+    pub(crate) fn read_answer(
+        &mut self,
+        alloc: Global,
+        answer: Known,
+    ) -> Result<Reply, TransferFault>
+        ensures spelled { IfOk result (SpellsReply answer.reply.version answer.reply.kind answer.reply.body) }
+        ensures known { IfOk result (λ reply. self.new ≡ remember_as self.old answer reply) }
+        ensures fault { IfErr result (λ fault. ExplainsBody fault answer.reply) }
+        ensures same { OnErr result (self.new ≡ self.old) }
+    {
+        if answer.request.kind > ABANDON {
+            let reply = read_reply(alloc, answer.reply)?;
+            return Ok(reply);
+        }
+        let copy = copy_of(alloc, &answer.reply)?;
+        let reply = read_reply(alloc, copy)?;
+        self.remember(answer, &reply);
+        Ok(reply)
+    }
+
+    /// Remembers an answer if a profile was made or a node was made, finished or abandoned.
+    fn remember(&mut self, answer: Known, reply: &Reply)
+        ensures { self.new ≡ remember_as self.old answer reply.now }
+    {
+        match reply {
+            Reply::Made { .. } => {
+                if answer.request.kind == CREATE_PROFILE {
+                    self.profile = Some(answer);
+                }
+            }
+            Reply::Node { .. } => {
+                if adds_node(answer.request.kind) {
+                    self.change = Some(answer);
+                }
+            }
+            Reply::Finished { .. } => {
+                if answer.request.kind == FINISH {
+                    self.change = Some(answer);
+                }
+            }
+            Reply::Abandoned => {
+                if answer.request.kind == ABANDON {
+                    self.change = Some(answer);
+                }
+            }
+            _ => {}
+        }
+    }
+}
+
+/// Returns whether this is the kind of AddFolder or AddFile.
+fn adds_node(kind: u8) -> bool
+    ensures { result ≡ adds_node kind }
+{
+    kind == ADD_FOLDER || kind == ADD_FILE
+}

@@ -1,0 +1,64 @@
+//! Texts in a page.
+
+ghost use Rattle.std.specs.Prelude.{◌≡◌, Some};
+ghost use Rattle.std.specs.Fmt.{WritesOnOk};
+ghost use Rattle.droid_report.specs.Escapes.{escape};
+ghost use Rattle.droid_report.specs.Letters.{escaped_letter, picture_of};
+
+use std::fmt::{self, Display, Formatter, Write};
+
+/// A text. It prints so that nothing of it is markup, between elements and in an attribute's value between double
+/// quotes.
+///
+/// A control character prints as its picture (U+2400 to U+241F, and U+2421).
+#[derive(Clone, Copy)]
+pub struct Escaped<'a>(pub &'a str);
+
+impl Display for Escaped<'_> {
+    ghost output = { λ it. Some (escape it.0.now) };
+
+    fn fmt<W: Write>(&self, f: &mut Formatter<W>) -> fmt::Result {
+        write_escaped(self.0, f)
+    }
+}
+
+/// Writes a text, character by character.
+fn write_escaped<W: Write>(text: &str, f: &mut Formatter<W>) -> fmt::Result
+    ensures { WritesOnOk W.write_str_gives f.old result (escape text.now) f.new }
+{
+    for letter in text.chars() {
+        write!(f, "{}", Letter(letter))?;
+    }
+    Ok(())
+}
+
+/// A character of a text.
+#[derive(Clone, Copy)]
+struct Letter(char);
+
+impl Display for Letter {
+    ghost output = { λ it. Some (escaped_letter it.0) };
+
+    #[tactic(auto, unfolding(crate::specs::Letters::escaped_letter))]
+    fn fmt<W: Write>(&self, f: &mut Formatter<W>) -> fmt::Result {
+        let letter = self.0;
+        match letter {
+            '&' => f.write_str("&amp;"),
+            '<' => f.write_str("&lt;"),
+            '>' => f.write_str("&gt;"),
+            '"' => f.write_str("&quot;"),
+            _ => write!(f, "{}", picture(letter)),
+        }
+    }
+}
+
+/// Returns the picture of a control character, or the character itself.
+fn picture(letter: char) -> char
+    ensures { result ≡ picture_of letter }
+{
+    match letter {
+        '\0'..='\u{1f}' => char::from_u32(0x2400 + letter as u32).unwrap(),
+        '\u{7f}' => '\u{2421}',
+        _ => letter,
+    }
+}

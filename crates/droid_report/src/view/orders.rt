@@ -1,0 +1,63 @@
+//! The groups of a report in the orders of its page.
+
+ghost use Rattle.std.specs.Prelude.{IfOk};
+ghost use Rattle.droid_report.specs.Ranks.{by_bytes, by_count, by_saved};
+ghost use Rattle.droid_report.specs.Orders.{IsOrder};
+
+use crate::counts::Counts;
+use crate::groups::Groups;
+use crate::ranks::{Group, list_groups, rank_by_bytes, rank_by_count, rank_by_saved};
+use std::alloc::{AllocError, Global};
+
+/// The groups of a report in the orders of its page.
+#[derive(Drop)]
+pub(crate) struct Orders<'a> {
+    /// The formats, those of the most files first.
+    pub by_count: Vec<Group<'a>>,
+    /// The formats, those of the most bytes first.
+    pub by_bytes: Vec<Group<'a>>,
+    /// Equal files, those whose copies have the most bytes first.
+    pub copies: Vec<Group<'a>>,
+}
+
+impl<'a> Orders<'a> {
+    ghost use Rattle.droid_report.specs.Orders.{AreOrders};
+
+    /// Puts the groups of a report in order.
+    pub(crate) fn of(alloc: Global, counts: &'a Counts) -> Result<Orders<'a>, AllocError>
+        ensures { IfOk result (AreOrders counts.now) }
+    {
+        let by_count = by_count(alloc, &counts.formats)?;
+        let by_bytes = by_bytes(alloc, &counts.formats)?;
+        let copies = copies(alloc, &counts.contents)?;
+        Ok(Orders {
+            by_count,
+            by_bytes,
+            copies,
+        })
+    }
+}
+
+fn by_count<'a>(alloc: Global, groups: &'a Groups) -> Result<Vec<Group<'a>>, AllocError>
+    ensures { IfOk result (λ ranked. IsOrder by_count 1 groups.now ranked.items) }
+{
+    let listed = list_groups(alloc, groups, 1)?;
+    let ranked = rank_by_count(listed)?;
+    Ok(ranked)
+}
+
+fn by_bytes<'a>(alloc: Global, groups: &'a Groups) -> Result<Vec<Group<'a>>, AllocError>
+    ensures { IfOk result (λ ranked. IsOrder by_bytes 1 groups.now ranked.items) }
+{
+    let listed = list_groups(alloc, groups, 1)?;
+    let ranked = rank_by_bytes(listed)?;
+    Ok(ranked)
+}
+
+fn copies<'a>(alloc: Global, groups: &'a Groups) -> Result<Vec<Group<'a>>, AllocError>
+    ensures { IfOk result (λ ranked. IsOrder by_saved 2 groups.now ranked.items) }
+{
+    let listed = list_groups(alloc, groups, 2)?;
+    let ranked = rank_by_saved(listed)?;
+    Ok(ranked)
+}

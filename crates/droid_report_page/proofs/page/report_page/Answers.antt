@@ -1,4 +1,0 @@
-use Rattle.droid_report_page.proofs.page.report_page.Goals as goal
-
-pub returns : goal.returns
-returns c = record { orders = c.in_ok-orders.orders; in_order = c.in_ok-orders.ensures; fits = c.in_ok-page.ensures }

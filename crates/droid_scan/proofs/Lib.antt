@@ -1,3 +1,0 @@
-pub mod Halving
-pub mod Places
-pub mod Growing

@@ -1,0 +1,11 @@
+pub mod Choices
+pub mod Ends
+pub mod Items
+pub mod Outcomes
+pub mod Parts
+pub mod Positions
+pub mod Reasons
+pub mod TermValues
+pub mod TextFronts
+pub mod Texts
+pub mod Written

@@ -1,0 +1,110 @@
+//! Texts that grow by one list of texts after another.
+
+ghost use Rattle.std.specs.Prelude.{◌≡◌, ◌⊎◌, ◌<◌, ◌∷◌, [], IsTrue, IfOk, OnOk, length};
+ghost use Rattle.std.specs.List.{Any};
+ghost use Rattle.droid_signature_pattern.specs.Outcomes.{AreTooMuch, HasLong, IfLeftOut, IsTooMuch};
+ghost use Rattle.droid_signature_pattern.specs.Texts.{AreSmall};
+ghost use Rattle.droid_signature_pattern.specs.Texts as spec;
+
+use crate::pattern_texts::{MOST_BYTES, PatternTexts};
+use crate::reason::{Reason, Stop};
+use std::alloc::{AllocError, Global};
+use std::marker::Model;
+
+/// Returns the texts of several lists, one behind the other, each with each: at most 64 texts of at most 4,096 bytes,
+/// with at most 16,384 bytes in all.
+pub fn expanded(alloc: Global, levels: &[PatternTexts]) -> Result<PatternTexts, Stop>
+    ensures ok { IfOk result (λ texts. texts ≡ spec.joined_all levels.now) }
+    ensures small { IfOk result AreSmall }
+    ensures err { IfLeftOut result (AreTooMuch levels.now) }
+{
+    let mut growing = Growing::new(alloc)?;
+    for level in levels {
+        growing.push(alloc, level)?;
+    }
+    let texts = growing.texts(alloc)?;
+    Ok(texts)
+}
+
+/// Texts, and a text that stands behind each of them. It grows in place where one text follows.
+#[derive(Drop)]
+pub struct Growing {
+    texts: PatternTexts,
+    last: Vec<u8>,
+}
+
+impl Model for Growing {
+    ghost use Rattle.std.specs.Prelude.{List, ℕ, ◌∷◌, []};
+    ghost use Rattle.droid_signature_pattern.specs.Texts.{joined};
+
+    ghost Value = { List (List ℕ) };
+
+    ghost view = { λ it. joined it.texts (it.last.items ∷ []) };
+}
+
+impl Growing {
+    /// One empty text.
+    pub(crate) fn new(alloc: Global) -> Result<Growing, AllocError>
+        ensures { IfOk result (λ growing. growing ≡ [] ∷ []) }
+    {
+        let texts = PatternTexts::one(alloc, Vec::new(alloc))?;
+        Ok(Growing::of(alloc, texts))
+    }
+
+    /// These texts. Allocates nothing.
+    pub fn of(alloc: Global, texts: PatternTexts) -> Growing
+        ensures { result ≡ texts }
+    {
+        Growing {
+            texts,
+            last: Vec::new(alloc),
+        }
+    }
+
+    /// Appends each of the texts to each text. Stops early if that is too much for a registry: the rest need not be
+    /// written.
+    pub fn push(&mut self, alloc: Global, level: &PatternTexts) -> Result<(), Stop>
+        ensures ok { OnOk result (self.new ≡ spec.joined self.old level.now) }
+        ensures err { IfLeftOut result (λ reason.
+            IsTooMuch self.old reason ⊎ IsTooMuch (spec.joined self.old level.now) reason) }
+    {
+        if level.len() == 1 {
+            return self.push_one(level.get(0));
+        }
+        let texts = self.texts(alloc)?;
+        self.texts = texts.joined(alloc, level)?;
+        self.last.clear();
+        Ok(())
+    }
+
+    /// Appends a text to each text.
+    fn push_one(&mut self, text: &[u8]) -> Result<(), Stop>
+        ensures ok { OnOk result (self.new ≡ spec.joined self.old (text.now ∷ [])) }
+        ensures err { IfLeftOut result (HasLong (spec.joined self.old (text.now ∷ []))) }
+    {
+        self.last.extend_from_slice(text)?;
+        if self.is_long() {
+            return Err(Stop::LeftOut(Reason::LongPattern));
+        }
+        Ok(())
+    }
+
+    /// Returns whether there are texts, and what stands behind each is too long alone.
+    fn is_long(&self) -> bool
+        ensures { IsTrue result → Any (λ text. 4096 < length text) self.now }
+    {
+        !self.texts.is_empty() && self.last.len() > MOST_BYTES
+    }
+
+    /// Returns the texts.
+    pub fn texts(&self, alloc: Global) -> Result<PatternTexts, Stop>
+        ensures ok { IfOk result (λ texts. texts ≡ self.now) }
+        ensures small { IfOk result AreSmall }
+        ensures err { IfLeftOut result (IsTooMuch self.now) }
+    {
+        let last = Vec::from_slice(alloc, self.last.as_slice())?;
+        let last = PatternTexts::one(alloc, last)?;
+        let texts = self.texts.joined(alloc, &last)?;
+        Ok(texts)
+    }
+}

@@ -1,6 +1,0 @@
--- One row after the other.
-use Rattle.droid_signature_rows.proofs.RowSteps.{read_back}
-use Rattle.droid_signature_rows.proofs.laws.rows_are_read_back.Goals as goal
-
-pub returns : goal.returns
-returns c = read_back

@@ -1,6 +1,0 @@
--- By the law of all subsequences.
-use Rattle.droid_signature_spec.proofs.PieceSets.{row_match}
-use Rattle.droid_signature_spec.proofs.laws.subsequences_have_patterns.Goals as goal
-
-pub returns : goal.returns
-returns c = λ part parts piece pieces is are. row_match part parts piece pieces is are

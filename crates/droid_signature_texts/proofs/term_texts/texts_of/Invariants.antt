@@ -1,9 +1,0 @@
--- What the lists of the first terms give, one behind the other.
-use Rattle.std.proofs.Common.{◌≡◌, map, take}
-use Rattle.droid_signature_parser.specs.TermValues.{term_of}
-use Rattle.droid_signature_texts.specs.Texts.{joined_all}
-use Rattle.droid_signature_texts.proofs.TermLevels.{term_level}
-use Rattle.droid_signature_texts.proofs.term_texts.texts_of.Given as goal
-
-abbrev pub invariant-loop-term : goal.invariant-loop-term
-invariant-loop-term l = l.growing ≡ joined_all (take l.term-index (map term_level (map term_of l.terms)))

@@ -1,0 +1,422 @@
+//! The sockets of many connections.
+
+ghost use Rattle.std.specs.Prelude.{◌≡◌, ◌<◌, IfOk, IfSome, length};
+ghost use Rattle.droid_turns.specs.Events.{CameWithin, TookWithin};
+
+use crate::grace::Grace;
+use crate::guest::Guest;
+use crate::report::{MINUTE, Verbosity, print_ended, print_minute};
+use crate::tally::{Tally, count};
+use droid_turns::{Came, Connections, Departure, Took, WaitFault};
+use mio::net::{TcpListener, TcpStream};
+use mio::{Events, Interest, Poll, Token};
+use std::alloc::Global;
+use std::io;
+use std::io::ErrorKind;
+use std::net::{Ipv4Addr, Net, SocketAddr};
+use std::time::{Clock, Duration, Instant};
+
+/// The token of the listener. No connection has this number.
+const DOOR: usize = usize::MAX;
+
+/// How often accepting is tried again after a failure.
+const TRIES: u32 = 16;
+
+/// How often a turn waits for more requests, at most.
+const MOST_WAITS: u32 = 1_000;
+
+/// If turns share syncs, a wait after a turn with requests ends after this many milliseconds. Then an idle turn
+/// follows, in which a journal marks its end.
+const SETTLED: u64 = 10;
+
+/// The connections to a port of this machine.
+#[derive(Drop)]
+pub struct Sockets<'a, R> {
+    runtime: &'a R,
+    poll: Poll,
+    events: Events,
+    listener: TcpListener,
+    guests: Vec<Guest>,
+    /// Whether a connection may be waiting to be accepted.
+    is_knocking: bool,
+    /// Whether a connection was closed since the last wait.
+    has_left: bool,
+    /// The first reading of the clock. `None` if it could not be read.
+    begun: Option<Instant>,
+    /// The last reading of the clock, in milliseconds since then.
+    time: u64,
+    grace: Grace,
+    tally: Tally,
+    verbosity: Verbosity,
+    /// The counts at the last summary line, and when it was printed.
+    printed: Tally,
+    printed_at: u64,
+    /// How many frames were handled since that line.
+    frames: u64,
+}
+
+impl<'a, R: Clock + Eprint + Net> Sockets<'a, R> {
+    /// Listens on a port of this machine, with room for the system's reports on this many connections.
+    pub fn bind(
+        runtime: &'a R,
+        alloc: Global,
+        port: u16,
+        seats: usize,
+        verbosity: Verbosity,
+    ) -> io::Result<Sockets<'a, R>>
+        ensures { IfOk result (λ sockets. sockets.tally ≡ record { opened = 0; closed = 0; came = 0; went = 0 }) }
+    {
+        let poll = Poll::new(runtime)?;
+        let address = SocketAddr::from((Ipv4Addr::LOCALHOST, port));
+        let mut listener = TcpListener::bind(runtime, address)?;
+        let registry = poll.registry();
+        registry.register(&mut listener, Token(DOOR), Interest::READABLE)?;
+        let events = Events::with_capacity(alloc, seats.saturating_add(1))?;
+        Ok(Sockets {
+            runtime,
+            poll,
+            events,
+            listener,
+            guests: Vec::with_capacity(alloc, seats)?,
+            is_knocking: true,
+            has_left: false,
+            begun: Instant::now(runtime).ok(),
+            time: 0,
+            grace: Grace::none(),
+            tally: Tally::new(),
+            verbosity,
+            printed: Tally::new(),
+            printed_at: 0,
+            frames: 0,
+        })
+    }
+
+    /// Lets requests that come soon after each other share a sync. If the last turn took a millisecond or more, `wait`
+    /// also waits for the next requests of the other connections that this turn answered: at most half as long as the
+    /// turn took, and never for a single connection. After a turn with requests the next one begins within 10
+    /// milliseconds, also if nothing comes.
+    pub fn share_syncs(&mut self)
+        ensures { self.new.tally ≡ self.old.tally }
+    {
+        self.grace.is_given = true;
+    }
+
+    /// Prints a summary line, if a minute has passed since the last one.
+    fn print_minutely(&mut self, frames: u64)
+        ensures { self.new.tally ≡ self.old.tally }
+    {
+        self.frames = self.frames.saturating_add(frames);
+        if self.verbosity == Verbosity::Quiet {
+            return;
+        }
+        if self.time.saturating_sub(self.printed_at) < MINUTE {
+            return;
+        }
+        print_minute(
+            self.runtime,
+            self.guests.len(),
+            self.frames,
+            self.printed,
+            self.tally,
+        );
+        self.printed = self.tally;
+        self.printed_at = self.time;
+        self.frames = 0;
+    }
+
+    /// Returns the time since the clock was first read, in microseconds.
+    fn microseconds(&self) -> Option<u64> {
+        let begun = self.begun?;
+        let now = Instant::now(self.runtime).ok()?;
+        u64::try_from(now.saturating_duration_since(begun).as_micros()).ok()
+    }
+
+    /// Waits until the system reports something, but at most `limit` milliseconds. Returns whether it did.
+    fn poll_for(&mut self, limit: u64) -> Result<bool, WaitFault>
+        ensures { self.new.tally ≡ self.old.tally }
+    {
+        let timeout = Duration::from_millis(limit);
+        match self.poll.poll(&mut self.events, Some(timeout)) {
+            Ok(()) => {
+                let knocks = note_ready(&self.events, &mut self.guests);
+                self.is_knocking = self.is_knocking || knocks;
+                Ok(!self.events.is_empty())
+            }
+            Err(_) => Err(WaitFault),
+        }
+    }
+
+    /// Waits for the next requests of the connections that were answered in the last turn: until each of them sent
+    /// something, nothing was reported for a millisecond, or the time is up.
+    fn wait_for_answered(&mut self, until: u64)
+        ensures { self.new.tally ≡ self.old.tally }
+    {
+        for _ in 0..MOST_WAITS {
+            if awaited(&self.guests) == 0 {
+                return;
+            }
+            match self.microseconds() {
+                Some(now) if now < until => {}
+                _ => return,
+            }
+            match self.poll_for(1) {
+                Ok(true) => {}
+                _ => return,
+            }
+        }
+    }
+
+    /// Waits a little for more requests if one has come, so that they share a sync. The last turn's replies were
+    /// written at `now`.
+    fn gather(&mut self, now: u64, limit: u64)
+        ensures { self.new.tally ≡ self.old.tally }
+    {
+        let time = self.grace.microseconds(now, limit);
+        if time == 0 {
+            return;
+        }
+        let before = awaited(&self.guests);
+        if before == 0 || !has_come(&self.guests) || !self.grace.is_due() {
+            return;
+        }
+        self.wait_for_answered(now.saturating_add(time));
+        self.grace.note(awaited(&self.guests) < before);
+    }
+
+    /// Notes that a turn begins.
+    fn begin_turn(&mut self)
+        ensures { self.new.tally ≡ self.old.tally }
+    {
+        forget_answers(&mut self.guests);
+        if let Some(now) = self.microseconds() {
+            self.grace.begin(now);
+        }
+    }
+}
+
+impl<R: Clock + Eprint + Net> Connections for Sockets<'_, R> {
+    ghost use Rattle.std.specs.Prelude.{◌≡◌};
+    ghost use Rattle.droid_sockets.specs.Tallies.{after};
+
+    ghost does = { λ old event new. new.tally ≡ after old.tally event };
+
+    fn wait(&mut self, limit: u64, frames: u64) -> Result<(), WaitFault> {
+        self.print_minutely(frames);
+        // The system reports only once that a connection waits to be accepted.
+        let limit = if self.is_knocking && self.has_left {
+            0
+        } else {
+            limit
+        };
+        let limit = if self.grace.is_given && frames > 0 {
+            limit.min(SETTLED)
+        } else {
+            limit
+        };
+        self.has_left = false;
+        let answered = self.microseconds();
+        match self.poll_for(limit) {
+            Ok(_) => {}
+            Err(fault) => return Err(fault),
+        }
+        if let Some(answered) = answered {
+            self.gather(answered, limit);
+        }
+        self.begin_turn();
+        Ok(())
+    }
+
+    fn now(&mut self) -> u64 {
+        if let Some(time) = self.microseconds() {
+            self.time = time / 1_000;
+        }
+        self.time
+    }
+
+    fn accept(&mut self, id: u64) -> bool {
+        if !self.is_knocking {
+            return false;
+        }
+        match accept_one(&self.listener) {
+            Accepted::One(stream, address) => {
+                if !take_in(&self.poll, &mut self.guests, id, stream, address) {
+                    return false;
+                }
+                self.tally.opened = count(self.tally.opened, 1);
+                true
+            }
+            Accepted::Nobody => {
+                self.is_knocking = false;
+                false
+            }
+            Accepted::Failed => false,
+        }
+    }
+
+    fn read(&mut self, id: u64, buffer: &mut [u8]) -> Came {
+        let came = read_from(&mut self.guests, id, buffer);
+        match came {
+            Came::Bytes(size) => self.tally.came = count(self.tally.came, size),
+            Came::Nothing => self.tally.came = count(self.tally.came, 0),
+            Came::End => {}
+            Came::Broken => {}
+        }
+        came
+    }
+
+    fn write(&mut self, id: u64, bytes: &[u8]) -> Took {
+        let took = write_to(&mut self.guests, id, bytes);
+        match took {
+            Took::Bytes(size) => self.tally.went = count(self.tally.went, size),
+            Took::Nothing => self.tally.went = count(self.tally.went, 0),
+            Took::Broken => {}
+        }
+        took
+    }
+
+    fn close(&mut self, id: u64, why: Departure, frames: u64) {
+        self.has_left = true;
+        self.tally.closed = count(self.tally.closed, 1);
+        let Some(place) = place_of(&self.guests, id) else {
+            return;
+        };
+        let guest = self.guests.swap_remove(place);
+        if self.verbosity == Verbosity::Verbose {
+            print_ended(self.runtime, &guest, why, frames);
+        }
+    }
+}
+
+/// The result of accepting a connection.
+enum Accepted {
+    /// A connection, and its address.
+    One(TcpStream, SocketAddr),
+    /// No connection waits.
+    Nobody,
+    /// It failed: for example, too many files are open.
+    Failed,
+}
+
+/// Accepts the next connection. A failure may concern one connection alone: then the next one is tried.
+fn accept_one(listener: &TcpListener) -> Accepted {
+    for _ in 0..TRIES {
+        match listener.accept() {
+            Ok((stream, address)) => return Accepted::One(stream, address),
+            Err(error) => {
+                if error.kind() == ErrorKind::WouldBlock {
+                    return Accepted::Nobody;
+                }
+            }
+        }
+    }
+    Accepted::Failed
+}
+
+/// Registers a connection with the system, and keeps it. Returns false if that fails; then it is closed.
+fn take_in(
+    poll: &Poll,
+    guests: &mut Vec<Guest>,
+    id: u64,
+    mut stream: TcpStream,
+    address: SocketAddr,
+) -> bool {
+    // A reply is one write, so the system should not delay it.
+    let _ = stream.set_nodelay(true);
+    let both = Interest::READABLE | Interest::WRITABLE;
+    let registry = poll.registry();
+    if registry
+        .register(&mut stream, Token(id as usize), both)
+        .is_err()
+    {
+        return false;
+    }
+    guests
+        .push(Guest {
+            id,
+            stream,
+            address,
+            readable: true,
+            writable: true,
+            ending: false,
+            answered: false,
+            came: 0,
+            went: 0,
+        })
+        .is_ok()
+}
+
+/// Notes what the system reported, and returns whether a connection is waiting to be accepted.
+fn note_ready(events: &Events, guests: &mut Vec<Guest>) -> bool {
+    let mut knocks = false;
+    for event in events.iter() {
+        let Token(token) = event.token();
+        if token == DOOR {
+            knocks = true;
+        } else {
+            let ending = event.is_read_closed() || event.is_error();
+            let readable = event.is_readable() || ending;
+            let writable = event.is_writable() || event.is_write_closed() || event.is_error();
+            note_one(guests, token as u64, readable, writable, ending);
+        }
+    }
+    knocks
+}
+
+/// Notes that a connection can be read or written, or that its input has ended or failed.
+fn note_one(guests: &mut Vec<Guest>, id: u64, readable: bool, writable: bool, ending: bool) {
+    if let Some(place) = place_of(guests, id) {
+        let guest = &mut guests[place];
+        guest.readable = guest.readable || readable;
+        guest.writable = guest.writable || writable;
+        guest.ending = guest.ending || ending;
+    }
+}
+
+/// Returns how many connections were answered and have not sent their next request.
+fn awaited(guests: &[Guest]) -> usize {
+    guests.iter().filter(|guest| guest.is_awaited()).count()
+}
+
+/// Whether something has come of a connection.
+fn has_come(guests: &[Guest]) -> bool {
+    guests.iter().any(|guest| guest.readable)
+}
+
+/// Notes that no connection took bytes in this turn.
+fn forget_answers(guests: &mut Vec<Guest>) {
+    for guest in guests.iter_mut() {
+        guest.answered = false;
+    }
+}
+
+/// Returns the place of the connection with this number.
+fn place_of(guests: &[Guest], id: u64) -> Option<usize>
+    ensures { IfSome result (λ place. place < length guests.now) }
+{
+    for (place, guest) in guests.iter().enumerate() {
+        if guest.id == id {
+            return Some(place);
+        }
+    }
+    None
+}
+
+/// Reads the bytes that have come on a connection. An unknown connection is broken.
+fn read_from(guests: &mut Vec<Guest>, id: u64, buffer: &mut [u8]) -> Came
+    ensures { CameWithin result (length buffer.new) }
+{
+    match place_of(guests, id) {
+        Some(place) => guests[place].read(buffer),
+        None => Came::Broken,
+    }
+}
+
+/// Writes some of these bytes to a connection. An unknown connection is broken.
+fn write_to(guests: &mut Vec<Guest>, id: u64, bytes: &[u8]) -> Took
+    ensures { TookWithin result (length bytes.now) }
+{
+    match place_of(guests, id) {
+        Some(place) => guests[place].write(bytes),
+        None => Took::Broken,
+    }
+}

@@ -1,5 +1,0 @@
-pub mod KeyedRows
-pub mod NewTables
-pub mod Queries
-pub mod Transactions
-pub mod MemoryFaults

@@ -1,0 +1,308 @@
+//! A balanced tree of rows. An edit makes new nodes on the way from the root to its position and shares all others, so
+//! the old tree stays as it was.
+
+ghost use Rattle.std.specs.Prelude.{◌≡◌, ◌≤◌, ◌<◌, ◌∷◌, ◌++◌, length, slice_index_or, slice_set, [], IfOk, IfSome};
+ghost use Rattle.std.specs.Prelude.{IfNone};
+ghost use Rattle.std.specs.List.{insert, remove};
+ghost use Rattle.sqlite_trees.specs.Probe.{IsCutBy, IsPlaceOf};
+ghost use Rattle.droid_store_trees.specs.Probe.{passes};
+ghost use Rattle.droid_store_trees.specs.Entries.{rows, IsCounted};
+
+use crate::packed_row::PackedRow;
+use crate::probe::Probe;
+use std::alloc::{AllocError, Global};
+use std::rc::Rc;
+
+#[cycle(tree)]
+#[derive(Drop)]
+pub(crate) enum Node {
+    Empty,
+    Fork(Rc<Fork>),
+}
+
+#[cycle(tree)]
+#[derive(Drop)]
+pub(crate) struct Fork {
+    left: Node,
+    row: Rc<PackedRow>,
+    right: Node,
+    len: usize,
+}
+
+impl Node {
+    pub(crate) fn len(&self) -> usize
+        requires { IsCounted self.now }
+        ensures { result ≡ length (rows self.now) }
+    {
+        match self {
+            Node::Empty => 0,
+            Node::Fork(fork) => fork.len,
+        }
+    }
+
+    /// Copies the tree. The copy shares all its nodes.
+    pub(crate) fn copy(&self) -> Result<Node, AllocError>
+        requires { IsCounted self.now }
+        ensures counted { IfOk result IsCounted }
+        ensures same { IfOk result (λ node. rows node ≡ rows self.now) }
+    {
+        match self {
+            Node::Empty => Ok(Node::Empty),
+            Node::Fork(fork) => Ok(Node::Fork(fork.clone()?)),
+        }
+    }
+
+    fn joined(
+        alloc: Global,
+        left: Node,
+        row: Rc<PackedRow>,
+        right: Node,
+    ) -> Result<Node, AllocError>
+        requires left { IsCounted left }
+        requires right { IsCounted right }
+        ensures counted { IfOk result IsCounted }
+        ensures rows { IfOk result (λ node. rows node ≡ rows left ++ row.value ∷ rows right) }
+    {
+        let before = left.len().checked_add(1).ok_or(AllocError)?;
+        let len = before.checked_add(right.len()).ok_or(AllocError)?;
+        let fork = Fork {
+            left,
+            row,
+            right,
+            len,
+        };
+        Ok(Node::Fork(Rc::new(alloc, fork)?))
+    }
+
+    // Joins both sides, and rotates if one of them has more than three times the weight of the other. A weight is the
+    // number of rows and 1.
+    fn balanced(
+        alloc: Global,
+        left: Node,
+        row: Rc<PackedRow>,
+        right: Node,
+    ) -> Result<Node, AllocError>
+        requires left { IsCounted left }
+        requires right { IsCounted right }
+        ensures counted { IfOk result IsCounted }
+        ensures rows { IfOk result (λ node. rows node ≡ rows left ++ row.value ∷ rows right) }
+    {
+        if right.len() / 3 > left.len() {
+            return Node::turned_left(alloc, left, row, &right);
+        }
+        if left.len() / 3 > right.len() {
+            return Node::turned_right(alloc, &left, row, right);
+        }
+        Node::joined(alloc, left, row, right)
+    }
+
+    fn turned_left(
+        alloc: Global,
+        left: Node,
+        row: Rc<PackedRow>,
+        right: &Node,
+    ) -> Result<Node, AllocError>
+        requires left { IsCounted left }
+        requires right { IsCounted right.now }
+        ensures counted { IfOk result IsCounted }
+        ensures rows { IfOk result (λ node. rows node ≡ rows left ++ row.value ∷ rows right.now) }
+    {
+        match right {
+            Node::Empty => Node::joined(alloc, left, row, Node::Empty),
+            Node::Fork(fork) => fork.after(alloc, left, row),
+        }
+    }
+
+    fn turned_right(
+        alloc: Global,
+        left: &Node,
+        row: Rc<PackedRow>,
+        right: Node,
+    ) -> Result<Node, AllocError>
+        requires left { IsCounted left.now }
+        requires right { IsCounted right }
+        ensures counted { IfOk result IsCounted }
+        ensures rows { IfOk result (λ node. rows node ≡ rows left.now ++ row.value ∷ rows right) }
+    {
+        match left {
+            Node::Empty => Node::joined(alloc, Node::Empty, row, right),
+            Node::Fork(fork) => fork.before(alloc, row, right),
+        }
+    }
+
+    pub(crate) fn get(&self, at: usize) -> Option<&Rc<PackedRow>>
+        requires { IsCounted self.now }
+        ensures found { IfSome result (λ row.
+            (at < length (rows self.now)) × (row.now.value ≡ slice_index_or (rows self.now) at [])) }
+        ensures none { IfNone result (length (rows self.now) ≤ at) }
+    {
+        match self {
+            Node::Empty => None,
+            Node::Fork(fork) => {
+                let before = fork.left.len();
+                if at < before {
+                    return fork.left.get(at);
+                }
+                if before < at {
+                    return fork.right.get(at - before - 1);
+                }
+                Some(&fork.row)
+            }
+        }
+    }
+
+    /// Returns the number of rows that pass the test.
+    pub(crate) fn place(&self, probe: Probe<'_>) -> usize
+        requires { IsCounted self.now }
+        ensures within { result ≤ length (rows self.now) }
+        ensures place { IsCutBy (passes probe.entry) (rows self.now)
+            → IsPlaceOf (passes probe.entry) (rows self.now) result }
+    {
+        match self {
+            Node::Empty => 0,
+            Node::Fork(fork) => {
+                if probe.passes(&fork.row) {
+                    fork.len - fork.right.len() + fork.right.place(probe)
+                } else {
+                    fork.left.place(probe)
+                }
+            }
+        }
+    }
+
+    #[tactic(auto, using(crate::proofs::Edits::set_left, crate::proofs::Edits::set_here, crate::proofs::Edits::set_right))]
+    pub(crate) fn set(
+        &self,
+        alloc: Global,
+        at: usize,
+        row: Rc<PackedRow>,
+    ) -> Result<Node, AllocError>
+        requires { IsCounted self.now }
+        ensures counted { IfOk result IsCounted }
+        ensures rows { IfOk result (λ node. rows node ≡ slice_set (rows self.now) at row.value) }
+    {
+        match self {
+            Node::Empty => Ok(Node::Empty),
+            Node::Fork(fork) => {
+                let before = fork.left.len();
+                if at < before {
+                    let left = fork.left.set(alloc, at, row)?;
+                    return Node::joined(alloc, left, fork.row.clone()?, fork.right.copy()?);
+                }
+                if before < at {
+                    let right = fork.right.set(alloc, at - before - 1, row)?;
+                    return Node::joined(alloc, fork.left.copy()?, fork.row.clone()?, right);
+                }
+                Node::joined(alloc, fork.left.copy()?, row, fork.right.copy()?)
+            }
+        }
+    }
+
+    #[tactic(auto, using(crate::proofs::Edits::insert_left, crate::proofs::Edits::insert_right))]
+    pub(crate) fn insert(
+        &self,
+        alloc: Global,
+        at: usize,
+        row: Rc<PackedRow>,
+    ) -> Result<Node, AllocError>
+        requires counted { IsCounted self.now }
+        requires within { at ≤ length (rows self.now) }
+        ensures counted { IfOk result IsCounted }
+        ensures rows { IfOk result (λ node. rows node ≡ insert (rows self.now) at row.value) }
+    {
+        match self {
+            Node::Empty => Node::joined(alloc, Node::Empty, row, Node::Empty),
+            Node::Fork(fork) => {
+                let before = fork.left.len();
+                if at <= before {
+                    let left = fork.left.insert(alloc, at, row)?;
+                    return Node::balanced(alloc, left, fork.row.clone()?, fork.right.copy()?);
+                }
+                let right = fork.right.insert(alloc, at - before - 1, row)?;
+                Node::balanced(alloc, fork.left.copy()?, fork.row.clone()?, right)
+            }
+        }
+    }
+
+    #[tactic(auto, using(crate::proofs::Edits::remove_left, crate::proofs::Edits::remove_here, crate::proofs::Edits::remove_right))]
+    pub(crate) fn remove(&self, alloc: Global, at: usize) -> Result<Node, AllocError>
+        requires counted { IsCounted self.now }
+        requires within { at < length (rows self.now) }
+        ensures counted { IfOk result IsCounted }
+        ensures rows { IfOk result (λ node. rows node ≡ remove (rows self.now) at) }
+    {
+        match self {
+            Node::Empty => Ok(Node::Empty),
+            Node::Fork(fork) => {
+                let before = fork.left.len();
+                if at < before {
+                    let left = fork.left.remove(alloc, at)?;
+                    return Node::balanced(alloc, left, fork.row.clone()?, fork.right.copy()?);
+                }
+                if before < at {
+                    let right = fork.right.remove(alloc, at - before - 1)?;
+                    return Node::balanced(alloc, fork.left.copy()?, fork.row.clone()?, right);
+                }
+                match fork.right.get(0) {
+                    None => fork.left.copy(),
+                    Some(next) => {
+                        let right = fork.right.remove(alloc, 0)?;
+                        Node::balanced(alloc, fork.left.copy()?, next.clone()?, right)
+                    }
+                }
+            }
+        }
+    }
+}
+
+impl Fork {
+    // Joins a smaller tree and a row in front of this tree: a rotation to the left, a double one if the left side is
+    // large.
+    fn after(&self, alloc: Global, left: Node, row: Rc<PackedRow>) -> Result<Node, AllocError>
+        requires left { IsCounted left }
+        requires parts { IsCounted self.now.left × IsCounted self.now.right }
+        ensures counted { IfOk result IsCounted }
+        ensures rows { IfOk result (λ node.
+            rows node ≡ rows left ++ row.value ∷ (rows self.now.left ++ self.now.row.value ∷ rows self.now.right)) }
+    {
+        if self.left.len() / 2 > self.right.len() {
+            if let Node::Fork(middle) = &self.left {
+                let first = Node::joined(alloc, left, row, middle.left.copy()?)?;
+                let last = Node::joined(
+                    alloc,
+                    middle.right.copy()?,
+                    self.row.clone()?,
+                    self.right.copy()?,
+                )?;
+                return Node::joined(alloc, first, middle.row.clone()?, last);
+            }
+        }
+        let first = Node::joined(alloc, left, row, self.left.copy()?)?;
+        Node::joined(alloc, first, self.row.clone()?, self.right.copy()?)
+    }
+
+    // Joins a row and a smaller tree behind this tree: a rotation to the right, a double one if the right side is
+    // large.
+    fn before(&self, alloc: Global, row: Rc<PackedRow>, right: Node) -> Result<Node, AllocError>
+        requires right { IsCounted right }
+        requires parts { IsCounted self.now.left × IsCounted self.now.right }
+        ensures counted { IfOk result IsCounted }
+        ensures rows { IfOk result (λ node.
+            rows node ≡ (rows self.now.left ++ self.now.row.value ∷ rows self.now.right) ++ row.value ∷ rows right) }
+    {
+        if self.right.len() / 2 > self.left.len() {
+            if let Node::Fork(middle) = &self.right {
+                let first = Node::joined(
+                    alloc,
+                    self.left.copy()?,
+                    self.row.clone()?,
+                    middle.left.copy()?,
+                )?;
+                let last = Node::joined(alloc, middle.right.copy()?, row, right)?;
+                return Node::joined(alloc, first, middle.row.clone()?, last);
+            }
+        }
+        let last = Node::joined(alloc, self.right.copy()?, row, right)?;
+        Node::joined(alloc, self.left.copy()?, self.row.clone()?, last)
+    }
+}

@@ -1,0 +1,10 @@
+pub mod Counting
+pub mod Cutting
+pub mod Joining
+pub mod LastSlashes
+pub mod Plain
+pub mod Prefixes
+pub mod Quotients
+pub mod Seconds
+pub mod SkippedPaths
+pub mod SkippedTexts

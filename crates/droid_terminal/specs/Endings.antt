@@ -1,0 +1,96 @@
+-- How a command ends, and what it prints then (this project's own).
+use Rattle.std.specs.Prelude.{◌≡◌, ℕ, List, [], ◌∷◌, ◌++◌, Option, Some, None, codes, decimal}
+use Rattle.droid_terminal.specs.Paths.{shown_text}
+use Rattle.droid_terminal.specs.declared.ending.about.About.{About}
+use Rattle.droid_terminal.specs.declared.ending.about.About.TheVariants as abouts
+use Rattle.droid_terminal.specs.declared.ending.command_ending.Ending.{Ending}
+use Rattle.droid_terminal.specs.declared.ending.command_ending.Ending.TheVariants as endings
+use Rattle.droid_terminal.specs.declared.ending.detail.Detail.{Detail}
+use Rattle.droid_terminal.specs.declared.ending.detail.Detail.TheVariants as details
+use Rattle.droid_terminal.specs.declared.ending.row.Row.{Row}
+
+-- a row as it is read: the status, the name, and what is said before and behind the detail
+pub record Said : Type 0 where
+  pub status : ℕ
+  pub name : List ℕ
+  pub text : List ℕ
+  pub rest : List ℕ
+
+abbrev pub said : Row → Said
+said row = record { status = row.status; name = row.name.now; text = row.text.now; rest = row.rest.now }
+
+-- what a sentence is about: a file or folder, a file with an ending behind its name, a port, and a port on which nobody
+-- listens
+abbrev pub of_path : List ℕ → List ℕ
+of_path path = shown_text path ++ codes ": "
+
+abbrev pub of_beside : List ℕ → List ℕ → List ℕ
+of_beside path ending = shown_text path ++ (ending ++ codes ": ")
+
+abbrev pub of_port : ℕ → List ℕ
+of_port port = codes "port " ++ (decimal port ++ codes ": ")
+
+abbrev pub of_unheard : ℕ → List ℕ
+of_unheard port =
+    codes "nobody listens on port "
+    ++ (decimal port ++ (codes ": start droid_desk serve --port " ++ (decimal port ++ codes " first")))
+
+abbrev pub about_text : About → List ℕ
+about_text abouts.Nothing = []
+about_text (abouts.Path path) = of_path path.now
+about_text (abouts.Beside path ending) = of_beside path.now ending.now
+about_text (abouts.Port port) = of_port port
+about_text (abouts.Unheard port) = of_unheard port
+
+-- what it names; how the system's reasons are printed is not known
+abbrev pub detail_text : Detail → Option (List ℕ)
+detail_text details.Nothing = Some []
+detail_text (details.Number number) = Some (decimal number)
+detail_text (details.Numbered number between words) = Some (decimal number ++ (between.now ++ words.now))
+detail_text (details.Words words) = Some words.now
+detail_text (details.Path path) = Some (shown_text path.now)
+detail_text (details.Cause kind) = None
+detail_text (details.CauseAt kind path) = None
+
+-- how a command ends, by all that is seen of it
+pub data Told : Type 0 where
+  Whole : Told
+  Partly : Told
+  -- a row of the table, the number behind its name, what the sentence is about, and what it names
+  Fault : (row : Said) (at : Option ℕ) (about : List ℕ) (detail : Option (List ℕ)) → Told
+
+abbrev pub told : Ending → Told
+told endings.Whole = Whole
+told endings.Partly = Partly
+told (endings.Fault fault) = Fault (said fault.row) fault.at (about_text fault.about) (detail_text fault.detail)
+
+-- by a row alone, by one whose sentence names something, and by one whose name and sentence have the same number
+abbrev pub by : Said → List ℕ → Told
+by row about = Fault row None about (Some [])
+
+abbrev pub detailed : Said → List ℕ → Option (List ℕ) → Told
+detailed row about detail = Fault row None about detail
+
+abbrev pub numbered : Said → List ℕ → ℕ → Told
+numbered row about number = Fault row (Some number) about (Some (decimal number))
+
+-- the exit status
+abbrev pub status_of : Told → ℕ
+status_of Whole = 0
+status_of Partly = 5
+status_of (Fault row at about detail) = row.status
+
+-- the line with the name of a fault, and the number of the line or record at fault
+abbrev pub fault_line : List ℕ → Option ℕ → List ℕ
+fault_line name (Some at) = codes "fault: " ++ (name ++ (codes " at " ++ (decimal at ++ 10 ∷ [])))
+fault_line name None = codes "fault: " ++ (name ++ 10 ∷ [])
+
+-- the sentence behind it
+abbrev pub sentence_text : Said → List ℕ → Option (List ℕ) → Option (List ℕ)
+sentence_text row about (Some detail) = Some (about ++ (row.text ++ (detail ++ (row.rest ++ 10 ∷ []))))
+sentence_text row about None = None
+
+-- a folder cannot be listed; what a file system says of it is not known
+abbrev pub IsNoFolder : List ℕ → Told → Type 0
+IsNoFolder path (Fault row at about detail) = (row.status ≡ 4) × (row.name ≡ codes "Folder") × (about ≡ of_path path)
+IsNoFolder path other = ⊥

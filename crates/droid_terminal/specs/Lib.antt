@@ -1,0 +1,16 @@
+pub mod Cuts
+pub mod Endings
+pub mod Estimates
+pub mod FaultTable
+pub mod Faults
+pub mod Frequencies
+pub mod Lines
+pub mod Paths
+pub mod Places
+pub mod Reporters
+pub mod Rhythms
+pub mod SkippedPaths
+pub mod SkippedTexts
+pub mod Tables
+pub mod Units
+pub mod WalkCounts

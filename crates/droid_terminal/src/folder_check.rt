@@ -1,0 +1,41 @@
+//! Checks whether a path is a folder that can be listed.
+
+use droid_frame::Text;
+use std::alloc::{AllocError, Global};
+use std::fs;
+use std::fs::Files;
+use std::io::{ErrorKind, Read};
+
+/// How many bytes the first names of a folder are read into. No name with its zero byte is longer than 256.
+const FIRST_NAMES: usize = 4_096;
+
+/// Returns whether there is a folder at this path that can be listed. Follows links.
+pub fn is_folder<R: Files + AllocGlobal>(rt: &R, path: &str) -> bool {
+    match fs::metadata(rt, path) {
+        Ok(metadata) => metadata.is_dir() && why_unlisted(rt, path).is_none(),
+        Err(_) => false,
+    }
+}
+
+/// Returns why a folder can't be listed: it does not open, or its first names can't be read. Follows links. Returns
+/// `None` also where memory runs out, since the walk says so then.
+pub(crate) fn why_unlisted<R: Files + AllocGlobal>(rt: &R, path: &str) -> Option<ErrorKind> {
+    let Ok(path) = with_slash(rt.alloc(), path) else {
+        return None;
+    };
+    let mut names = [0_u8; FIRST_NAMES];
+    match rt.open_dir(path.as_str()) {
+        Ok(mut folder) => match folder.read(&mut names) {
+            Ok(_) => None,
+            Err(error) => Some(error.kind()),
+        },
+        Err(error) => Some(error.kind()),
+    }
+}
+
+/// Adds a `/` to a path, which makes the system follow a link.
+fn with_slash(alloc: Global, path: &str) -> Result<Text, AllocError> {
+    let mut text = String::from_str(alloc, path)?;
+    text.push('/')?;
+    Ok(Text::from(text))
+}

@@ -1,0 +1,47 @@
+//! What the commands of a folder share: what they print on standard error (progress, skipped entries, a summary, the
+//! sentences behind a fault), where the files that they write lie, and the CSV of what was skipped.
+//!
+//! The texts are proved. That they are printed, and when the clock is read, is tested, since the kit promises nothing
+//! about printing and about the clock.
+#![tactic(auto)]
+
+mod columns;
+mod counts;
+mod csv_records;
+mod ending;
+mod escapes;
+mod estimate;
+mod fault_names;
+mod folder_advice;
+mod folder_check;
+mod format_counts;
+pub mod laws;
+mod line;
+mod measures;
+mod path_text;
+mod places;
+mod reporter;
+mod skipped;
+mod table;
+mod totals;
+mod verbosity;
+
+pub use csv_records::{finish_csv, new_csv, write_record};
+pub use ending::about::About;
+pub use ending::command_ending::Ending;
+pub use ending::detail::Detail;
+pub use ending::fault::Fault;
+pub use ending::faults;
+pub use ending::folder::told_no_folder;
+pub use ending::row::Row;
+pub use fault_names::walk_fault_name;
+pub use folder_advice::{NO_MEMORY, print_no_folder, print_no_output};
+pub use folder_check::is_folder;
+pub use path_text::{Shown, cause};
+pub use places::{absolute_path, folder_of, is_same_place, lies_in, name_of};
+pub use reporter::Reporter;
+pub use skipped::recorder::Recorder;
+pub use skipped::skipped_entry::SkippedEntry;
+pub use skipped::skipped_paths::{SkippedPaths, holds_above, paths_of};
+pub use skipped::skipped_text::{entry_line, header_line, skipped_csv};
+pub use verbosity::Verbosity;

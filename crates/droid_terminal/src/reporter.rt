@@ -1,0 +1,185 @@
+//! Prints on standard error what a walk does.
+
+ghost use Rattle.std.specs.Prelude.{◌≡◌, Some};
+ghost use Rattle.droid_terminal.specs.Estimates.{amount_of};
+ghost use Rattle.droid_terminal.specs.Rhythms.{IsReported, calls_after};
+ghost use Rattle.droid_terminal.specs.Reporters.{ReporterHears};
+
+use crate::estimate::{Amount, Progress};
+use crate::format_counts::most_frequent;
+use crate::line::{Framed, columns_for, line_of};
+use crate::path_text::SkippedLine;
+use crate::table::{CountLine, Links, Table, Took};
+use crate::totals::Totals;
+use crate::verbosity::{Verbosity, calls_after, is_due};
+use droid_frame::Reply;
+use droid_tree::{Counted, Skipped, Watcher};
+use std::alloc::Global;
+use std::time::{Clock, Instant};
+
+/// Prints skipped entries, progress, and a summary at the end.
+#[derive(Drop)]
+pub struct Reporter<'a, R> {
+    runtime: &'a R,
+    alloc: Global,
+    verbosity: Verbosity,
+    all: Option<Amount>,
+    totals: Totals,
+    begun: Option<Instant>,
+    reported: u64,
+    looked: u64,
+    calls: u32,
+    unseen: u32,
+}
+
+impl<'a, R: Eprint + Clock> Reporter<'a, R> {
+    /// Makes a reporter that has printed nothing and does not know how large the tree is.
+    pub fn new(runtime: &'a R, alloc: Global, verbosity: Verbosity) -> Reporter<'a, R> {
+        Reporter {
+            runtime,
+            alloc,
+            verbosity,
+            all: None,
+            totals: Totals::new(alloc),
+            begun: Instant::now(runtime).ok(),
+            reported: 0,
+            looked: 0,
+            calls: 0,
+            unseen: 0,
+        }
+    }
+
+    /// Sets the size of the tree.
+    pub fn expect(&mut self, counted: Counted)
+        ensures all { self.new.all ≡ Some (amount_of counted) }
+        ensures totals { self.new.totals ≡ self.old.totals }
+    {
+        self.all = Some(Amount::of(counted));
+    }
+
+    /// Prints a line of progress if one is due. While calls come fast, most of them don't read the clock.
+    fn print_progress(&mut self, path: &str)
+        ensures totals { self.new.totals ≡ self.old.totals }
+        ensures reported { IsReported self.old.verbosity self.old.reported self.new.verbosity self.new.reported }
+    {
+        if self.verbosity == Verbosity::Quiet {
+            return;
+        }
+        if self.unseen > 0 {
+            self.unseen -= 1;
+            return;
+        }
+        let Some(now) = self.milliseconds() else {
+            return;
+        };
+        self.see(now);
+        if is_due(self.verbosity, self.reported, now) {
+            self.reported = now;
+            self.print_line(path, now);
+        }
+    }
+
+    /// Notes that the clock was read at this millisecond, and how many calls may pass until it is read again.
+    fn see(&mut self, now: u64)
+        ensures totals { self.new.totals ≡ self.old.totals }
+        ensures reported { (self.new.verbosity ≡ self.old.verbosity) × (self.new.reported ≡ self.old.reported) }
+        ensures calls { self.new.unseen ≡ calls_after self.old.calls self.old.looked now }
+    {
+        self.calls = calls_after(self.calls, self.looked, now);
+        self.unseen = self.calls;
+        self.looked = now;
+    }
+
+    /// Returns the milliseconds since the walk began.
+    fn milliseconds(&self) -> Option<u64> {
+        let begun = self.begun?;
+        let now = Instant::now(self.runtime).ok()?;
+        u64::try_from(now.saturating_duration_since(begun).as_millis()).ok()
+    }
+
+    /// Prints a line of progress. If there is no memory for it, prints nothing.
+    fn print_line(&self, path: &str, milliseconds: u64) {
+        let progress = Progress {
+            all: self.all,
+            done: self.totals.counts.done(),
+            milliseconds,
+        };
+        let verbosity = self.verbosity;
+        let Ok(line) = line_of(self.alloc, progress, path, columns_for(verbosity)) else {
+            return;
+        };
+        let line = line.as_str();
+        let _ = eprint!(self.runtime; "{}", Framed { verbosity, line });
+    }
+
+    /// Removes the line of progress from a terminal.
+    pub fn clear(&self) {
+        if self.verbosity == Verbosity::Terminal {
+            let _ = eprint!(self.runtime; "\r\x1b[K");
+        }
+    }
+
+    /// Prints the summary.
+    pub fn end(self) {
+        self.clear();
+        let skipped = CountLine {
+            name: "skipped in all",
+            count: self.totals.counts.skipped,
+        };
+        if self.verbosity == Verbosity::Quiet && skipped.count == 0 {
+            return;
+        }
+        let links = Links(self.totals.counts.links);
+        let _ = eprint!(self.runtime; "{skipped}{links}");
+        if self.verbosity != Verbosity::Quiet {
+            self.print_table();
+        }
+    }
+
+    /// Prints the counts, and how long the walk took.
+    fn print_table(&self) {
+        let took = Took(self.milliseconds().map(|milliseconds| milliseconds / 1_000));
+        let counts = self.totals.counts;
+        match most_frequent(self.alloc, &self.totals.formats) {
+            Ok(frequent) if self.totals.has_all_formats => {
+                let formats = Some(frequent.as_slice());
+                let _ = eprint!(self.runtime; "{}{took}", Table { counts, formats });
+            }
+            _ => {
+                let formats = None;
+                let _ = eprint!(self.runtime; "{}{took}", Table { counts, formats });
+            }
+        }
+    }
+}
+
+impl<R: Eprint + Clock> Watcher for Reporter<'_, R> {
+    ghost hears = { λ old heard new. ReporterHears old heard new };
+
+    fn skipped(&mut self, path: &[u8], why: Skipped) {
+        self.totals.counts.count_skipped(why);
+        self.clear();
+        let _ = eprint!(self.runtime; "{}", SkippedLine { path, why });
+    }
+
+    fn held(&mut self, path: &str, count: u64) {
+        self.totals.counts.count_held(count);
+        self.print_progress(path);
+    }
+
+    fn took_bytes(&mut self, path: &str, count: u32) {
+        self.totals.counts.count_bytes(count);
+        self.print_progress(path);
+    }
+
+    fn took_folder(&mut self, path: &str) {
+        self.totals.counts.count_taken();
+        self.print_progress(path);
+    }
+
+    fn took_file(&mut self, path: &str, found: &Reply) {
+        self.totals.counts.count_taken();
+        self.totals.count_found(found);
+        self.print_progress(path);
+    }
+}

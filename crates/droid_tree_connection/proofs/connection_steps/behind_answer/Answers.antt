@@ -1,4 +1,0 @@
-use Rattle.droid_tree_connection.proofs.connection_steps.behind_answer.Goals as goal
-
-pub returns-in-All : goal.returns-in-All
-returns-in-All c = λ waiting rest are. rw c.in-All.is are

@@ -1,9 +1,0 @@
-pub mod Chains
-pub mod Events
-pub mod Vouching
-pub mod Answering
-pub mod Stages
-pub mod TransferFaults
-pub mod Moves
-pub mod Calls
-pub mod Streams

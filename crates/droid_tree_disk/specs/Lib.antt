@@ -1,8 +1,0 @@
-pub mod Given
-pub mod Machine
-pub mod Names
-pub mod OpenFiles
-pub mod Places
-pub mod Said
-pub mod FolderObservation
-pub mod Tops

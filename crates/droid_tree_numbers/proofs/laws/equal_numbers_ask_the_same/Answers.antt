@@ -1,5 +1,0 @@
-use Rattle.droid_tree_numbers.proofs.Sharing.{equal_numbers}
-use Rattle.droid_tree_numbers.proofs.laws.equal_numbers_ask_the_same.Goals as goal
-
-pub returns : goal.returns
-returns c = equal_numbers

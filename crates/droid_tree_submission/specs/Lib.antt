@@ -1,4 +1,0 @@
-pub mod Kids
-pub mod FolderVisits
-pub mod Submissions
-pub mod SubmissionSteps

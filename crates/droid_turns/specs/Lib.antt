@@ -1,0 +1,14 @@
+pub mod Chains
+pub mod Chunks
+pub mod Departures
+pub mod Events
+pub mod Feeding
+pub mod Halls
+pub mod Headers
+pub mod Held
+pub mod Parts
+pub mod Peers
+pub mod Pipes
+pub mod Queued
+pub mod Steps
+pub mod Turns

@@ -1,0 +1,395 @@
+//! One open connection: its bytes that aren't handled yet, and its replies that aren't written yet.
+
+ghost use Rattle.std.specs.Prelude.{◌≡◌, ◌+◌, ◌-◌, ◌<◌, ◌≤◌, ◌++◌, ◌∷◌, [], List, ℕ, None, Some, true, false, IfNone};
+ghost use Rattle.std.specs.Prelude.{IfOk, IfSome, IsSome, OnOk, length};
+ghost use Rattle.std.specs.List.{AllByRecursion};
+ghost use Rattle.droid_frame.specs.declared.reply.Reply.{Reply};
+ghost use Rattle.droid_frame.specs.declared.frame.Frame.{Frame};
+ghost use Rattle.droid_frame.specs.Versions.{IsVersion};
+ghost use Rattle.droid_turns.specs.Events.{CameWithin, read_event};
+ghost use Rattle.droid_turns.specs.Peers.{Advances, EndsAs, Hears, IsNew, IsQuiet, IsWhole, Kept, Lends, RanDry, Rests};
+ghost use Rattle.droid_turns.specs.Peers.{Sends, Stands, Taking, Turns, WritesOut, is_hungry, is_over, kept_of};
+ghost use Rattle.droid_turns.specs.Peers.{leaving_behind, unread};
+ghost use Rattle.droid_turns.specs.Steps.{Goes, Handles, IsTraffic, Moves, Step};
+
+use crate::connections::{Came, Connections, Took};
+use crate::departure::Departure;
+use crate::feeding::frame_feed::FrameFeed;
+use crate::handler::Handler;
+use crate::reply_queue::ReplyQueue;
+use droid_frame::{Frame, FrameFault};
+use std::alloc::{AllocError, Global};
+
+/// How many bytes are read at once.
+const BUFFER: usize = 65_536;
+
+/// The most frames of one connection that are handled in a turn.
+const FRAMES_IN_TURN: u32 = 16;
+
+/// The most frames of one connection that are handled.
+const FRAMES: u64 = 1_000_000;
+
+/// A connection is not read again in a turn after this many bytes of it.
+const BYTES_IN_TURN: usize = 4_194_304;
+
+/// A connection is not read while more bytes of replies than this are queued for it.
+const QUEUE_LIMIT: usize = 8_388_608;
+
+/// An open connection.
+#[derive(Drop)]
+pub(crate) struct Peer {
+    /// Its number.
+    pub(crate) id: u64,
+    /// The bytes of the next frame so far.
+    pub(crate) feed: FrameFeed,
+    /// The bytes of the last read. Those from `start` to `end` are not in `feed` yet.
+    pub(crate) buffer: Vec<u8>,
+    pub(crate) start: usize,
+    pub(crate) end: usize,
+    /// The replies that are not written yet.
+    pub(crate) queue: ReplyQueue,
+    /// Why it will be closed, once all replies are written. It is not read any more.
+    pub(crate) leaving: Option<Departure>,
+    /// When a byte of it last came or went.
+    pub(crate) active: u64,
+    /// Whether a read returned nothing in its last turn.
+    pub(crate) drained: bool,
+    /// How many bytes may still be read of it in this turn.
+    pub(crate) room: usize,
+    /// How many frames of it were handled.
+    pub(crate) frames: u64,
+}
+
+impl Peer {
+    /// Makes the state of a connection that was just accepted.
+    pub(crate) fn new(alloc: Global, id: u64, now: u64) -> Result<Peer, AllocError>
+        ensures { IfOk result (IsNew id now) }
+    {
+        Ok(Peer {
+            id,
+            feed: FrameFeed::new(alloc),
+            buffer: vec![in alloc; 0u8; BUFFER]?,
+            start: 0,
+            end: 0,
+            queue: ReplyQueue::new(alloc),
+            leaving: None,
+            active: now,
+            drained: false,
+            room: 0,
+            frames: 0,
+        })
+    }
+
+    /// Returns how many milliseconds the loop may wait before its next turn.
+    pub(crate) fn patience(&self, now: u64, idle: u64) -> u64
+        ensures hungry { is_hungry self.now ≡ true → result ≡ 0 }
+        ensures prompt { result ≤ idle - (now - self.now.active) }
+    {
+        if self.is_hungry() {
+            return 0;
+        }
+        idle.saturating_sub(now.saturating_sub(self.active))
+    }
+
+    /// Whether it may be read further, and was not read dry in its last turn.
+    fn is_hungry(&self) -> bool
+        ensures { result ≡ is_hungry self.now }
+    {
+        if self.leaving.is_some() {
+            return false;
+        }
+        if self.drained {
+            return false;
+        }
+        self.queue.len() <= QUEUE_LIMIT
+    }
+
+    /// Reads and handles up to 16 frames, or until 4 MiB were read or 8 MiB are queued. Queues the replies.
+    pub(crate) fn hear<C: Connections, H: Handler>(
+        &mut self,
+        connections: &mut C,
+        handler: &mut H,
+        now: u64,
+    )
+        requires whole { IsWhole self.old }
+        ensures whole { IsWhole self.new }
+        ensures id { self.new.id ≡ self.old.id }
+        ensures hears { Goes C.does H.handles H.settles connections.old handler.old connections.new handler.new
+            (Hears now self.old self.new) }
+    {
+        self.drained = false;
+        self.room = BYTES_IN_TURN;
+        self.answer_some(connections, handler, now);
+    }
+
+    /// Handles up to 16 frames.
+    fn answer_some<C: Connections, H: Handler>(
+        &mut self,
+        connections: &mut C,
+        handler: &mut H,
+        now: u64,
+    )
+        requires whole { IsWhole self.old }
+        requires awake { self.old.drained ≡ false }
+        requires room { self.old.room ≡ 4194304 }
+        ensures whole { IsWhole self.new }
+        ensures id { self.new.id ≡ self.old.id }
+        ensures hears { Goes C.does H.handles H.settles connections.old handler.old connections.new handler.new
+            (Hears now self.old self.new) }
+    {
+        for _ in 0..FRAMES_IN_TURN {
+            if !self.may_be_read() {
+                return;
+            }
+            let Some(frame) = self.next_frame(connections, now) else {
+                return;
+            };
+            self.answer(handler, frame);
+        }
+    }
+
+    /// Whether it isn't leaving, and no more than 8 MiB are queued.
+    fn may_be_read(&self) -> bool
+        ensures stays { result ≡ true → self.now.leaving ≡ None }
+        ensures few { result ≡ true → length self.now.queue.bytes ≤ 8388608 }
+        ensures rests { result ≡ false → (count : ℕ) → Rests self.now count }
+    {
+        if self.leaving.is_some() {
+            return false;
+        }
+        self.queue.len() <= QUEUE_LIMIT
+    }
+
+    /// Handles a frame, and queues its reply.
+    fn answer<H: Handler>(&mut self, handler: &mut H, frame: Frame)
+        requires whole { IsWhole self.old }
+        requires version { IsVersion frame.version }
+        requires few { length self.old.queue.bytes ≤ 8388608 }
+        requires stays { self.old.leaving ≡ None }
+        ensures whole { IsWhole self.new }
+        ensures id { self.new.id ≡ self.old.id }
+        ensures drained { self.new.drained ≡ self.old.drained }
+        ensures room { self.new.room ≡ self.old.room }
+        ensures counted { self.new.frames ≡ self.old.frames + 1 }
+        ensures answers { (reply : Reply) × H.handles handler.old frame reply handler.new
+            × ((now : ℕ) (steps : List Step) → Lends self.old.id (kept_of self.old) now steps frame
+            → Stands self.old.id (kept_of self.new) now (steps ++ Handles self.old.id frame reply ∷ [])) }
+    {
+        let (version, client, number) = (frame.version, frame.client, frame.number);
+        let reply = handler.handle(frame);
+        self.frames = self.frames.saturating_add(1);
+        match self.queue.push(version, client, number, &reply) {
+            Ok(()) => self.leaving = leaving_behind(self.frames),
+            Err(_) => self.leaving = Some(Departure::Memory),
+        }
+    }
+
+    /// Returns the next frame, if it is whole before this turn's limit of bytes is reached.
+    fn next_frame<C: Connections>(&mut self, connections: &mut C, now: u64) -> Option<Frame>
+        requires whole { IsWhole self.old }
+        requires stays { self.old.leaving ≡ None }
+        requires awake { self.old.drained ≡ false }
+        ensures whole { IsWhole self.new }
+        ensures id { self.new.id ≡ self.old.id }
+        ensures version { IfSome result (λ frame. IsVersion frame.version) }
+        ensures awake { IfSome result (λ frame. self.new.drained ≡ false) }
+        ensures stays { IfSome result (λ frame. self.new.leaving ≡ None) }
+        ensures frames { self.new.frames ≡ self.old.frames }
+        ensures queue { self.new.queue ≡ self.old.queue }
+        ensures rests { IfNone result ((count : ℕ) → Rests self.new count) }
+        ensures moves { Moves C.does connections.old connections.new (λ steps.
+            Taking self.old.id now (kept_of self.old) (kept_of self.new) result steps
+            × Turns self.old.id self.old.room self.new.room 0 steps
+            × (self.new.drained ≡ true → RanDry self.new steps)) }
+    {
+        loop {
+            match self.take() {
+                Some(frame) => return Some(frame),
+                None => {}
+            }
+            if self.leaving.is_some() {
+                return None;
+            }
+            if self.room == 0 {
+                return None;
+            }
+            if !self.receive(connections, now) {
+                return None;
+            }
+        }
+    }
+
+    /// Takes the next frame from the bytes that were read, if it is whole.
+    fn take(&mut self) -> Option<Frame>
+        requires whole { IsWhole self.old }
+        requires stays { self.old.leaving ≡ None }
+        ensures whole { IsWhole self.new }
+        ensures id { self.new.id ≡ self.old.id }
+        ensures drained { self.new.drained ≡ self.old.drained }
+        ensures room { self.new.room ≡ self.old.room }
+        ensures queue { self.new.queue ≡ self.old.queue }
+        ensures frames { self.new.frames ≡ self.old.frames }
+        ensures stays { IfSome result (λ frame. self.new.leaving ≡ None) }
+        ensures takes { (now : ℕ) → Taking self.old.id now (kept_of self.old) (kept_of self.new) result [] }
+        ensures version { IfSome result (λ frame. IsVersion frame.version) }
+        ensures all { IfNone result (self.new.leaving ≡ None → unread self.new ≡ []) }
+    {
+        match self.feed.take(&self.buffer[self.start..self.end]) {
+            Ok(fed) => {
+                self.start += fed.taken;
+                fed.frame
+            }
+            Err(fault) => {
+                self.leaving = Some(Departure::Frame(fault));
+                None
+            }
+        }
+    }
+
+    /// Reads once, and returns whether bytes came.
+    fn receive<C: Connections>(&mut self, connections: &mut C, now: u64) -> bool
+        requires whole { IsWhole self.old }
+        requires stays { self.old.leaving ≡ None }
+        requires none { unread self.old ≡ [] }
+        requires awake { self.old.drained ≡ false }
+        requires room { 0 < self.old.room }
+        ensures whole { IsWhole self.new }
+        ensures id { self.new.id ≡ self.old.id }
+        ensures queue { self.new.queue ≡ self.old.queue }
+        ensures frames { self.new.frames ≡ self.old.frames }
+        ensures moves { Moves C.does connections.old connections.new (λ steps.
+            Advances self.old.id now (kept_of self.old) (kept_of self.new) steps
+            × Turns self.old.id self.old.room self.new.room 0 steps
+            × (self.new.drained ≡ true → RanDry self.new steps)) }
+        ensures goes_on { result ≡ true
+            → (self.new.leaving ≡ None) × (self.new.drained ≡ false) × (self.new.room < self.old.room) }
+        ensures rests { result ≡ false → (count : ℕ) → Rests self.new count }
+    {
+        match read_into(connections, self.id, &mut self.buffer) {
+            Came::Bytes(count) => {
+                if count == 0 {
+                    self.drained = true;
+                    return false;
+                }
+                self.start = 0;
+                self.end = count;
+                self.active = now;
+                self.room = self.room.saturating_sub(count);
+                true
+            }
+            Came::Nothing => {
+                self.drained = true;
+                false
+            }
+            Came::End => {
+                self.leaving = Some(end_of(&self.feed));
+                false
+            }
+            Came::Broken => {
+                self.leaving = Some(Departure::Frame(FrameFault::Read));
+                false
+            }
+        }
+    }
+
+    /// Writes the queued replies, as far as the connection takes them. Returns why the connection is over, if it is.
+    pub(crate) fn write_out<C: Connections>(
+        &mut self,
+        connections: &mut C,
+        now: u64,
+        idle: u64,
+    ) -> Option<Departure>
+        requires whole { IsWhole self.old }
+        ensures whole { IsWhole self.new }
+        ensures id { self.new.id ≡ self.old.id }
+        ensures drained { self.new.drained ≡ self.old.drained }
+        ensures leaving { self.new.leaving ≡ self.old.leaving }
+        ensures room { self.new.room ≡ self.old.room }
+        ensures frames { self.new.frames ≡ self.old.frames }
+        ensures held { self.new.feed.bytes ++ unread self.new ≡ self.old.feed.bytes ++ unread self.old }
+        ensures writes { Moves C.does connections.old connections.new (λ steps.
+            WritesOut idle now self.old self.new result steps × IsQuiet self.old.id steps) }
+    {
+        if !self.send(connections, now) {
+            return Some(Departure::Write);
+        }
+        if self.is_over() {
+            return self.leaving;
+        }
+        if now.saturating_sub(self.active) >= idle {
+            return Some(Departure::Idle);
+        }
+        None
+    }
+
+    /// Whether it leaves now: its replies are written, or memory ran out for one.
+    fn is_over(&self) -> bool
+        ensures { result ≡ is_over self.now }
+    {
+        match self.leaving {
+            None => false,
+            Some(Departure::Memory) => true,
+            Some(_) => self.queue.len() == 0,
+        }
+    }
+
+    /// Writes the queued replies, as far as the connection takes them. Returns false if the connection is broken.
+    fn send<C: Connections>(&mut self, connections: &mut C, now: u64) -> bool
+        requires whole { IsWhole self.old }
+        ensures whole { IsWhole self.new }
+        ensures id { self.new.id ≡ self.old.id }
+        ensures drained { self.new.drained ≡ self.old.drained }
+        ensures leaving { self.new.leaving ≡ self.old.leaving }
+        ensures room { self.new.room ≡ self.old.room }
+        ensures frames { self.new.frames ≡ self.old.frames }
+        ensures held { self.new.feed.bytes ++ unread self.new ≡ self.old.feed.bytes ++ unread self.old }
+        ensures moves { Moves C.does connections.old connections.new (λ steps.
+            Advances self.old.id now (kept_of self.old) (kept_of self.new) steps
+            × IsQuiet self.old.id steps
+            × Sends self.new steps result) }
+    {
+        while self.queue.len() > 0 {
+            match connections.write(self.id, self.queue.front()) {
+                Took::Bytes(count) => {
+                    if count == 0 {
+                        return true;
+                    }
+                    self.queue.advance(count);
+                    self.active = now;
+                }
+                Took::Nothing => return true,
+                Took::Broken => return false,
+            }
+        }
+        true
+    }
+}
+
+/// Returns why a connection leaves behind this many frames, if it does.
+fn leaving_behind(frames: u64) -> Option<Departure>
+    ensures { result ≡ leaving_behind frames }
+{
+    if frames == FRAMES {
+        return Some(Departure::Enough);
+    }
+    None
+}
+
+/// Reads once, into the front of a buffer.
+fn read_into<C: Connections>(connections: &mut C, id: u64, buffer: &mut Vec<u8>) -> Came
+    ensures size { length buffer.new.items ≡ length buffer.old.items }
+    ensures bound { CameWithin result (length buffer.new.items) }
+    ensures came { C.does connections.old (read_event id buffer.new.items result) connections.new }
+{
+    connections.read(id, buffer.as_mut_slice())
+}
+
+/// Returns why a connection is over, whose input ended behind these bytes.
+fn end_of(feed: &FrameFeed) -> Departure
+    ensures { EndsAs feed.now.bytes result }
+{
+    match feed.end() {
+        Ok(()) => Departure::Closed,
+        Err(fault) => Departure::Frame(fault),
+    }
+}

@@ -1,0 +1,12 @@
+pub mod Calls
+pub mod Checks
+pub mod Deeds
+pub mod Faults
+pub mod FileOutcomes
+pub mod FolderVisits
+pub mod Fronts
+pub mod Kids
+pub mod Pieces
+pub mod Steps
+pub mod SubmissionSteps
+pub mod Submissions

@@ -1,0 +1,75 @@
+//! Errors that end a submission.
+
+ghost use Rattle.std.specs.Prelude.{◌≡◌};
+ghost use Rattle.droid_upload.specs.Faults.{fault_of_refusal, fault_of_reply};
+
+use crate::client_fault::ClientFault;
+use droid_frame::{Refusal, Reply};
+use std::alloc::AllocError;
+use thiserror::Error;
+
+/// Why a submission ended early.
+#[derive(Clone, Copy, Debug, PartialEq, Eq, Error)]
+pub enum SubmissionFault {
+    /// Out of memory, here or in the service.
+    #[error("out of memory")]
+    Memory,
+    /// No reply came. The client knows why.
+    #[error("no reply came")]
+    Ended,
+    /// The service sent a reply that does not fit the request.
+    #[error("a reply was not to the request")]
+    Reply,
+    /// The service refused a request, for a reason that is not the fault of a folder or file.
+    #[error("a request was refused")]
+    Refused(Refusal),
+    /// A request is too long for a frame.
+    #[error("a request is too long")]
+    TooLong,
+    /// There are more folders than a profile can have.
+    #[error("there are too many folders")]
+    Folders,
+}
+
+impl From<AllocError> for SubmissionFault {
+    ghost use Rattle.droid_upload.specs.declared.submission_fault.SubmissionFault.TheVariants.{Memory};
+
+    ghost from_gives = { λ _ fault. fault ≡ Memory };
+
+    fn from(_error: AllocError) -> SubmissionFault {
+        SubmissionFault::Memory
+    }
+}
+
+impl From<ClientFault> for SubmissionFault {
+    ghost use Rattle.droid_upload.specs.Faults.{fault_of_client};
+
+    ghost from_gives = { λ why fault. fault ≡ fault_of_client why };
+
+    fn from(why: ClientFault) -> SubmissionFault {
+        match why {
+            ClientFault::Piece(refusal) => fault_of_refusal(refusal),
+            ClientFault::Ended => SubmissionFault::Ended,
+        }
+    }
+}
+
+/// Returns the fault of a refusal that ends a submission.
+pub(crate) fn fault_of_refusal(refusal: Refusal) -> SubmissionFault
+    ensures { result ≡ fault_of_refusal refusal }
+{
+    match refusal {
+        Refusal::Memory => SubmissionFault::Memory,
+        other => SubmissionFault::Refused(other),
+    }
+}
+
+/// Returns the fault of a reply that ends a submission.
+pub(crate) fn fault_of_reply(reply: Reply) -> SubmissionFault
+    ensures { result ≡ fault_of_reply reply }
+{
+    match reply {
+        Reply::Refused(refusal) => fault_of_refusal(refusal),
+        _ => SubmissionFault::Reply,
+    }
+}

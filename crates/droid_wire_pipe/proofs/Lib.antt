@@ -1,3 +1,0 @@
-pub mod PipeEvents
-pub mod PipeSteps
-pub mod Tries
