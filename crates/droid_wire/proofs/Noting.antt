@@ -1,5 +1,5 @@
 -- The fault that is noted through the steps of a loop: one of writing, if any.
-use Rattle.std.proofs.Common.{◌≡◌, ℕ, Bool, true, false, Option, List, [], ◌∷◌, refl, sym, subst}
+use Rattle.std.proofs.Common.{ℕ, Bool, true, false, Option, List, [], ◌∷◌, refl, sym, subst}
 use Rattle.droid_journal.specs.Faults.{MayBeOfWriting}
 use Rattle.droid_journal.specs.declared.journal_fault.Fault.{Fault}
 use Rattle.droid_journal.specs.declared.journal.Journal.{Journal}
