@@ -105,9 +105,9 @@ module _ {C : Type 0} (does : C → Event → C → Type 0) where
     runs_done setting history [] [] goes.steps c later h after (Runs-none setting history h.service stands) goes.done,
   )
 
-  pub all_as : (P : List Step → Type 0) (rules : Rules) (c later : C) (h after : ServiceHandler) (result : Served) → ((steps : List Step) → P steps → ServesAll rules result steps) → Goes does Answers Keeps c h later after P
+  pub all_as : (P : List Step → Type 0) (rules : Rules) (c later : C) (h after : ServiceHandler) (result : Served) → Goes does Answers Keeps c h later after P → ((steps : List Step) → P steps → ServesAll rules result steps)
       → Goes does Answers Keeps c h later after (ServesAll rules result)
-  all_as P rules c later h after result f goes = record { steps = goes.steps; done = goes.done; holds = f goes.steps goes.holds }
+  all_as P rules c later h after result goes f = record { steps = goes.steps; done = goes.done; holds = f goes.steps goes.holds }
 
   pub same_limits : (rules : Rules) (c later : C) (h after : ServiceHandler) (result : Served) → Goes does Answers Keeps c h later after (ServesAll rules result) → limits_of after.service ≡ limits_of h.service
   same_limits rules c later h after result goes = limits_done goes.steps c later h after goes.done

@@ -16,16 +16,16 @@ pub returns-clause-settled : goal.returns-clause-settled
 returns-clause-settled g c =
     let does = PipeDoes g.R.Read.remaining g.W.Write.contents g.R.SteadyRead.seen g.W.SteadyWrite.seen g.W.SteadyWrite.room in
     always_settled does rules_of_one c.args.pipe.now c.answer_pipe.new.pipe c.args.handler.now c.answer_pipe.new.handler c.answer_pipe.result
-    (all_as does _ rules_of_one c.args.pipe.now c.answer_pipe.new.pipe c.args.handler.now c.answer_pipe.new.handler c.answer_pipe.result (λ steps one. one.serves) c.answer_pipe.ensures)
+    (all_as does _ rules_of_one c.args.pipe.now c.answer_pipe.new.pipe c.args.handler.now c.answer_pipe.new.handler c.answer_pipe.result c.answer_pipe.ensures (λ steps one. one.serves))
 
 pub returns-clause-limits : goal.returns-clause-limits
 returns-clause-limits g c =
     let does = PipeDoes g.R.Read.remaining g.W.Write.contents g.R.SteadyRead.seen g.W.SteadyWrite.seen g.W.SteadyWrite.room in
     same_limits does rules_of_one c.args.pipe.now c.answer_pipe.new.pipe c.args.handler.now c.answer_pipe.new.handler c.answer_pipe.result
-    (all_as does _ rules_of_one c.args.pipe.now c.answer_pipe.new.pipe c.args.handler.now c.answer_pipe.new.handler c.answer_pipe.result (λ steps one. one.serves) c.answer_pipe.ensures)
+    (all_as does _ rules_of_one c.args.pipe.now c.answer_pipe.new.pipe c.args.handler.now c.answer_pipe.new.handler c.answer_pipe.result c.answer_pipe.ensures (λ steps one. one.serves))
 
 pub returns-clause-registry : goal.returns-clause-registry
 returns-clause-registry g c =
     let does = PipeDoes g.R.Read.remaining g.W.Write.contents g.R.SteadyRead.seen g.W.SteadyWrite.seen g.W.SteadyWrite.room in
     same_registry does rules_of_one c.args.pipe.now c.answer_pipe.new.pipe c.args.handler.now c.answer_pipe.new.handler c.answer_pipe.result
-    (all_as does _ rules_of_one c.args.pipe.now c.answer_pipe.new.pipe c.args.handler.now c.answer_pipe.new.handler c.answer_pipe.result (λ steps one. one.serves) c.answer_pipe.ensures)
+    (all_as does _ rules_of_one c.args.pipe.now c.answer_pipe.new.pipe c.args.handler.now c.answer_pipe.new.handler c.answer_pipe.result c.answer_pipe.ensures (λ steps one. one.serves))
