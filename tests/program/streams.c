@@ -9,6 +9,8 @@
  *   READ_ENDS              after this many bytes a call takes none
  *   READ_WIDTH             a call takes at most this many bytes; a write of width 0 takes none
  *   READ_CHANCE            a call takes some of its bytes by chance, from this seed
+ * The system reports once that bytes came. After a receive that was cut short here, the next wait reports the rest, as if it had
+ * come since.
  * CLOCK_TIMES has its clock go so many times as fast, WAITS_TIMES its waits for many connections. Behind WAITS waits the next
  * one fails. */
 #define _GNU_SOURCE
@@ -43,6 +45,13 @@ static long number(const struct stream *stream, const char *what, long otherwise
     const char *found = text(stream, what);
     return found ? atol(found) : otherwise;
 }
+
+/* the sockets on which the program waits, by their file: what the system reports of it, and whether a receive was cut short */
+enum { SOCKETS = 1024 };
+static struct {
+    epoll_data_t data;
+    int cut;
+} sockets[SOCKETS];
 
 static ssize_t failed(int error) {
     errno = error;
@@ -124,10 +133,13 @@ ssize_t write(int file, const void *bytes, size_t size) {
 
 ssize_t recv(int file, void *bytes, size_t size, int flags) {
     static ssize_t (*next)(int, void *, size_t, int);
-    ssize_t most;
+    ssize_t most, count;
     if (!next) next = (ssize_t (*)(int, void *, size_t, int))dlsym(RTLD_NEXT, "recv");
     most = allowed(&received, size);
-    return most < 0 ? -1 : counted(&received, next(file, bytes, most, flags));
+    if (most < 0) return -1;
+    count = counted(&received, next(file, bytes, most, flags));
+    if ((unsigned)file < SOCKETS) sockets[file].cut = count == most && most < (ssize_t)size;
+    return count;
 }
 
 ssize_t send(int file, const void *bytes, size_t size, int flags) {
@@ -138,12 +150,41 @@ ssize_t send(int file, const void *bytes, size_t size, int flags) {
     return most <= 0 ? most : counted(&sent, next(file, bytes, most, flags));
 }
 
+int epoll_ctl(int set, int what, int file, struct epoll_event *event) {
+    static int (*next)(int, int, int, struct epoll_event *);
+    if (!next) next = (int (*)(int, int, int, struct epoll_event *))dlsym(RTLD_NEXT, "epoll_ctl");
+    if (what == EPOLL_CTL_ADD && (unsigned)file < SOCKETS) {
+        sockets[file].data = event->data;
+        sockets[file].cut = 0;
+    }
+    return next(set, what, file, event);
+}
+
+/* whether the rest of a receive has to be reported */
+static int is_cut(void) {
+    for (int file = 0; file < SOCKETS; file++)
+        if (sockets[file].cut) return 1;
+    return 0;
+}
+
+/* adds the rests of receives to these events, and returns their number */
+static int with_rests(struct epoll_event *events, int count, int most) {
+    for (int file = 0; count >= 0 && count < most && file < SOCKETS; file++)
+        if (sockets[file].cut) {
+            events[count].events = EPOLLIN;
+            events[count++].data = sockets[file].data;
+            sockets[file].cut = 0;
+        }
+    return count;
+}
+
 int epoll_wait(int set, struct epoll_event *events, int most, int limit) {
     static int (*next)(int, struct epoll_event *, int, int);
     static long waits;
     const char *before = getenv("WAITS"), *times = getenv("WAITS_TIMES");
     if (!next) next = (int (*)(int, struct epoll_event *, int, int))dlsym(RTLD_NEXT, "epoll_wait");
     if (before && waits++ >= atol(before)) return failed(EINVAL);
+    if (is_cut()) return with_rests(events, next(set, events, most, 0), most);
     return next(set, events, most, times ? limit / atoi(times) + 1 : limit);
 }
 
