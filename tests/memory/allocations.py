@@ -1,8 +1,10 @@
 """Runs `run` over frames, and counts or refuses its allocations. The variable REFUSING has the path of the built
-refuse.c."""
+refuse.c. The frames are in a file, so that each read but the last has as many bytes as are asked for, and the same stream
+always has the same allocations."""
 
 import os
 import subprocess
+import tempfile
 from typing import NamedTuple
 
 from lib.connections import SECONDS
@@ -39,13 +41,16 @@ def last_frame(written):
 
 def run_over(frames, options=(), **variables):
     """Runs `run` over these frames: its status, its standard output and its standard error."""
-    done = subprocess.run(
-        [PROGRAM, "run", *options],
-        input=frames,
-        capture_output=True,
-        timeout=4 * SECONDS,
-        env={"LD_PRELOAD": REFUSING, **{name: str(value) for name, value in variables.items()}},
-    )
+    with tempfile.TemporaryFile() as stream:
+        stream.write(frames)
+        stream.seek(0)
+        done = subprocess.run(
+            [PROGRAM, "run", *options],
+            stdin=stream,
+            capture_output=True,
+            timeout=4 * SECONDS,
+            env={"LD_PRELOAD": REFUSING, **{name: str(value) for name, value in variables.items()}},
+        )
     return done.returncode, done.stdout, faults(done.stderr).decode("ascii")
 
 

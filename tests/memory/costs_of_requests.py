@@ -1,5 +1,6 @@
 """The allocations of one request: the counts of a stream with it less those of the stream without it. They have to
-be the figures of the file `costs_of_requests` exactly, since the same stream always has the same counts."""
+be the figures of the file `costs_of_requests` exactly, since the same stream always has the same counts. The request begins with
+a read and a turn of its own, so that no other request changes how it is read or how its reply is gathered."""
 
 import os
 import struct
@@ -7,8 +8,8 @@ import tempfile
 import unittest
 
 from allocations import counted, last_frame
-from lib.frames import ABANDONED, FINISHED, LARGEST_FILE, LIMITS, MADE, NODE, PART, PROGRESS, REFUSED, TAKEN
-from lib.frames import abandon, create, export, file, finish, folder, in_version, piece, status
+from lib.frames import ABANDONED, FINISH, FINISHED, HEADER, LARGEST_FILE, LIMITS, MADE, NODE, PART, PROGRESS, REFUSED, TAKEN
+from lib.frames import abandon, create, export, file, finish, folder, frame, in_version, piece, status
 from lib.session import ALL, KEPT, NOT_KEPT, requests_of
 
 TABLE = os.path.join(os.path.dirname(os.path.abspath(__file__)), "costs_of_requests")
@@ -20,6 +21,8 @@ BEFORE = requests_of(ALL + KEPT + NOT_KEPT)
 # the first number, node and profile after that, and the number of the measured request
 NUMBER, NEXT_NODE, NEXT_PROFILE = 100, 8, 6
 LAST = 10_000
+# how many bytes `run` reads at once
+READ = 65_536
 
 LONG = b"n" * 255
 ESCAPED = b"%" * 255
@@ -130,6 +133,11 @@ CASES = {
 }
 
 
+def whole_reads(frames):
+    """Appends a malformed request, so that these are whole reads. Each read is followed by a turn of its own."""
+    return frames + frame(FINISH, 1, LAST, bytes(-(len(frames) + HEADER.size) % READ))
+
+
 def registry(place):
     """Writes a registry with the most formats, each with the longest identifier, all of one extension."""
     path = os.path.join(place, "registry.csv")
@@ -151,8 +159,9 @@ class CostsOfRequests(unittest.TestCase):
 
     def cost(self, name, options):
         before, request, kind = CASES[name]
-        without = counted(BEFORE + before, options)[1]
-        written, counts = counted(BEFORE + before + request, options)
+        front = whole_reads(BEFORE + before)
+        without = counted(front, options)[1]
+        written, counts = counted(front + request, options)
         self.assertEqual(last_frame(written)[0], kind, name)
         return tuple(counts.less(without))[:2]
 
