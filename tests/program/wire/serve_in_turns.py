@@ -12,7 +12,7 @@ from concurrent.futures import ThreadPoolExecutor
 
 from lib.connections import SECONDS, connect, read_exactly, read_until_reset, reset
 from lib.frames import ADD_FILE, NODE, REFUSED, create, cut, folder, frame, numbers
-from lib.program import Serve, preloaded
+from lib.program import preloaded
 from serve_at_once import is_closed, lasting
 
 # how many services are tried at once

@@ -18,6 +18,8 @@ from serve_at_once import NOTHING, NO_PROFILE, is_closed, lasting, slow_reader
 
 UNIT = os.path.join(TOP, "examples", "droid_desk.service")
 SIZE, REPLY_SIZE = len(NOTHING), len(NO_PROFILE)
+# how many bytes of replies are queued for a connection that is read
+QUEUE = 1 << 23
 # how many times as fast the clock goes where a minute is waited for
 TIMES = 100
 
@@ -131,7 +133,7 @@ class Verbose(unittest.TestCase):
             self.assertIsNotNone(found, line)
             count, came, went = map(int, found.groups())
             self.assertLessEqual(count * SIZE, came)
-            self.assertLess((1 << 23) + went, (count + 1) * REPLY_SIZE)
+            self.assertLess(QUEUE + went, (count + 1) * REPLY_SIZE)
 
     def test_each_minute(self):
         """A line for each minute of the clock, with what happened in it."""
@@ -181,14 +183,15 @@ class Verbose(unittest.TestCase):
 
 
 def fill(service, stream):
-    """Sends requests and reads no reply, until nothing more is taken although the service has nothing to do."""
+    """Sends requests and reads no reply, until nothing more is taken although the service has nothing to do. Before the queue
+    can be full, the system may take nothing for a while."""
     requests, sent, waited = NOTHING * 10_000, 0, 0
     stream.setblocking(False)
-    while waited < 5:
+    while waited < 10 or sent < QUEUE // REPLY_SIZE * SIZE:
         if select.select([], [stream], [], 0.2)[1]:
             waited = 0
             with contextlib.suppress(BlockingIOError):
-                sent = (sent + stream.send(requests[sent:])) % len(requests)
+                sent += stream.send(requests[sent % len(requests) :])
         elif is_asleep(service.process):
             waited += 1
 
