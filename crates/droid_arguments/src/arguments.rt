@@ -140,6 +140,7 @@ pub fn what_is_asked<'a>(alloc: Global, words: &'a [String]) -> Result<Asked<'a>
     }
 }
 
+/// Returns what the words behind the program's name ask for.
 fn asked_of_program<'a>(alloc: Global, words: &'a [String]) -> Result<Asked<'a>, Error>
     ensures asks { IfOk result (λ asked. WordsAsk (map string_bytes words.entry.now) asked) }
     ensures taken { IfOk result (λ _. fault_of program (map string_bytes words.entry.now) ≡ []) }
@@ -185,6 +186,7 @@ fn mistake_in(matches: &ArgMatches<'_>) -> &'static str {
     }
 }
 
+/// Says what is wrong with options of `serve` that ask for nothing.
 fn mistake_in_serve(serve: &ArgMatches<'_>) -> &'static str {
     if source_of(serve).is_none() {
         return TWO_REGISTRIES;
@@ -230,6 +232,7 @@ fn asked_by<'a>(matches: &ArgMatches<'a>) -> Option<Asked<'a>>
     compact_asked(matches.subcommand_matches(COMPACT)?)
 }
 
+/// Returns what the options of `script` ask for.
 fn script_asked<'a>(script: &ArgMatches<'a>) -> Option<Asked<'a>>
     ensures { Reads result (IsAskedBy (codes "script") (rows_of (found_of script.now))) }
 {
@@ -237,6 +240,7 @@ fn script_asked<'a>(script: &ArgMatches<'a>) -> Option<Asked<'a>>
     Some(Asked::Script { registry })
 }
 
+/// Returns what the options of `run` ask for.
 fn run_asked<'a>(run: &ArgMatches<'a>) -> Option<Asked<'a>>
     ensures { Reads result (IsAskedBy (codes "run") (rows_of (found_of run.now))) }
 {
@@ -245,6 +249,7 @@ fn run_asked<'a>(run: &ArgMatches<'a>) -> Option<Asked<'a>>
     Some(Asked::Run { registry, journal })
 }
 
+/// Returns what the options of `serve` ask for, for one connection at a time or many.
 fn serve_asked<'a>(serve: &ArgMatches<'a>) -> Option<Asked<'a>>
     ensures { Reads result (IsAskedBy (codes "serve") (rows_of (found_of serve.now))) }
 {
@@ -263,6 +268,7 @@ fn serve_asked<'a>(serve: &ArgMatches<'a>) -> Option<Asked<'a>>
     })
 }
 
+/// Returns what the options of `serve` with `--at-once` ask for.
 fn serve_many_asked<'a>(serve: &ArgMatches<'a>) -> Option<Asked<'a>>
     ensures { ReadsMany (rows_of (found_of serve.now)) result }
 {
@@ -278,6 +284,7 @@ fn serve_many_asked<'a>(serve: &ArgMatches<'a>) -> Option<Asked<'a>>
     })
 }
 
+/// Returns what the options of `send` ask for.
 fn send_asked<'a>(send: &ArgMatches<'a>) -> Option<Asked<'a>>
     ensures { Reads result (IsAskedBy (codes "send") (rows_of (found_of send.now))) }
 {
@@ -291,6 +298,7 @@ fn send_asked<'a>(send: &ArgMatches<'a>) -> Option<Asked<'a>>
     })
 }
 
+/// Declares the program and its commands to `clap`.
 fn command<'a>(alloc: Global) -> Result<Command<'a>, AllocError>
     ensures { Makes program result }
 {
@@ -320,6 +328,7 @@ fn top<'a>(alloc: Global) -> Builder<'a>
     Builder { made: Ok(command) }
 }
 
+/// Declares the command `script`.
 fn script<'a>(alloc: Global) -> Result<Command<'a>, AllocError>
     ensures { Makes script_command result }
 {
@@ -329,6 +338,7 @@ fn script<'a>(alloc: Global) -> Result<Command<'a>, AllocError>
         .made
 }
 
+/// Declares the command `run`.
 fn run<'a>(alloc: Global) -> Result<Command<'a>, AllocError>
     ensures { Makes run_command result }
 {
@@ -339,6 +349,7 @@ fn run<'a>(alloc: Global) -> Result<Command<'a>, AllocError>
         .made
 }
 
+/// Declares the command `serve`.
 fn serve<'a>(alloc: Global) -> Result<Command<'a>, AllocError>
     ensures { Makes serve_command result }
 {
@@ -355,6 +366,7 @@ fn serve<'a>(alloc: Global) -> Result<Command<'a>, AllocError>
         .made
 }
 
+/// Declares the command `send`.
 fn send<'a>(alloc: Global) -> Result<Command<'a>, AllocError>
     ensures { Makes send_command result }
 {

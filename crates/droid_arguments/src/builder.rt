@@ -43,6 +43,7 @@ impl<'a> Builder<'a> {
     }
 }
 
+/// Adds an option to a command, if there was memory for the command.
 fn add_option<'a>(
     command: Result<Command<'a>, AllocError>,
     option: Arg<'a>,
@@ -57,6 +58,7 @@ fn add_option<'a>(
     }
 }
 
+/// Adds a command to the program, if there was memory for both.
 fn add_command<'a>(
     command: Result<Command<'a>, AllocError>,
     below: Result<Command<'a>, AllocError>,

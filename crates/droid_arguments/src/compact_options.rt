@@ -25,6 +25,7 @@ pub(crate) const COMPACT: &str = "compact";
 
 const FILE: &str = "file";
 
+/// Returns what the options of `compact` ask for.
 pub(crate) fn compact_asked<'a>(compact: &ArgMatches<'a>) -> Option<Asked<'a>>
     ensures { Reads result (IsAskedBy (codes "compact") (rows_of (found_of compact.now))) }
 {

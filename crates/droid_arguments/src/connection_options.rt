@@ -45,6 +45,7 @@ pub(crate) fn is_one_by_one(serve: &ArgMatches<'_>) -> bool
     none_given(seats, forever, idle, verbose)
 }
 
+/// Returns whether none of the options for many connections is given.
 fn none_given(seats: Option<&str>, forever: bool, idle: Option<&str>, verbose: bool) -> bool
     ensures seats { result ≡ true → option_map (λ text. text.now) seats.entry ≡ None }
     ensures forever { result ≡ true → forever ≡ false }

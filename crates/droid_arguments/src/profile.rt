@@ -63,6 +63,7 @@ pub struct ProfileOptions<'a> {
     pub quiet: bool,
 }
 
+/// Returns what the options of `profile` ask for.
 pub(crate) fn profile_asked<'a>(profile: &ArgMatches<'a>) -> Option<Asked<'a>>
     ensures { Reads result (IsAskedBy (codes "profile") (rows_of (found_of profile.now))) }
 {
@@ -70,6 +71,7 @@ pub(crate) fn profile_asked<'a>(profile: &ArgMatches<'a>) -> Option<Asked<'a>>
     Some(Asked::Profile(options))
 }
 
+/// Reads the options of `profile`, or returns `None` if they ask for nothing that can be done.
 fn profile_options<'a>(profile: &ArgMatches<'a>) -> Option<ProfileOptions<'a>>
     ensures { Reads result (IsProfile (rows_of (found_of profile.now))) }
 {
@@ -113,6 +115,7 @@ pub(crate) fn has_no_checksums(hash: HashKind, manifest: Option<&str>) -> bool
     }
 }
 
+/// Declares the command `profile`.
 pub(crate) fn profile<'a>(alloc: Global) -> Result<Command<'a>, AllocError>
     ensures { Makes profile_command result }
 {

@@ -33,6 +33,7 @@ pub struct RegistryOptions<'a> {
     pub quiet: bool,
 }
 
+/// Returns what the options of `registry` ask for.
 pub(crate) fn registry_asked<'a>(registry: &ArgMatches<'a>) -> Option<Asked<'a>>
     ensures { Reads result (IsAskedBy (codes "registry") (rows_of (found_of registry.now))) }
 {
@@ -40,6 +41,7 @@ pub(crate) fn registry_asked<'a>(registry: &ArgMatches<'a>) -> Option<Asked<'a>>
     Some(Asked::Registry(options))
 }
 
+/// Reads the options of `registry`.
 fn registry_options<'a>(registry: &ArgMatches<'a>) -> Option<RegistryOptions<'a>>
     ensures { Reads result (IsConversion (rows_of (found_of registry.now))) }
 {

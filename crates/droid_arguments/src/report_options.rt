@@ -33,6 +33,7 @@ pub struct ReportOptions<'a> {
     pub output: Option<&'a str>,
 }
 
+/// Returns what the options of `report` ask for.
 pub(crate) fn report_asked<'a>(report: &ArgMatches<'a>) -> Option<Asked<'a>>
     ensures { Reads result (IsAskedBy (codes "report") (rows_of (found_of report.now))) }
 {
@@ -40,6 +41,7 @@ pub(crate) fn report_asked<'a>(report: &ArgMatches<'a>) -> Option<Asked<'a>>
     Some(Asked::Report(options))
 }
 
+/// Reads the options of `report`.
 fn report_options<'a>(report: &ArgMatches<'a>) -> Option<ReportOptions<'a>>
     ensures { Reads result (IsReport (rows_of (found_of report.now))) }
 {
@@ -53,6 +55,7 @@ fn report_options<'a>(report: &ArgMatches<'a>) -> Option<ReportOptions<'a>>
     })
 }
 
+/// Declares the command `report`.
 pub(crate) fn report<'a>(alloc: Global) -> Result<Command<'a>, AllocError>
     ensures { Makes report_command result }
 {

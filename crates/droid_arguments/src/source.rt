@@ -31,6 +31,7 @@ pub fn source_of<'a>(matches: &ArgMatches<'a>) -> Option<RegistrySource<'a>>
     chosen(everyday, path)
 }
 
+/// Returns the registry that the options name, or `None` if they name two.
 fn chosen<'a>(everyday: bool, path: Option<&'a str>) -> Option<RegistrySource<'a>>
     ensures { Reads result (IsChosen everyday (option_map (λ text. text.now) path.entry)) }
 {

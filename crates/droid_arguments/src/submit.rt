@@ -96,6 +96,7 @@ pub struct SubmitOptions<'a> {
     pub quiet: bool,
 }
 
+/// Returns what the options of `submit` ask for.
 pub(crate) fn submit_asked<'a>(submit: &ArgMatches<'a>) -> Option<Asked<'a>>
     ensures { Reads result (IsAskedBy (codes "submit") (rows_of (found_of submit.now))) }
 {
@@ -103,6 +104,7 @@ pub(crate) fn submit_asked<'a>(submit: &ArgMatches<'a>) -> Option<Asked<'a>>
     Some(Asked::Submit(options))
 }
 
+/// Reads the options of `submit`, or returns `None` if they ask for nothing that can be done.
 fn submit_options<'a>(submit: &ArgMatches<'a>) -> Option<SubmitOptions<'a>>
     ensures { Reads result (IsSubmit (rows_of (found_of submit.now))) }
 {
@@ -158,6 +160,7 @@ fn checks_nothing(check: bool, hash: HashKind) -> bool
     }
 }
 
+/// Reads port, client and times of a submission, or returns `None` without a port or a client.
 fn destination_of(submit: &ArgMatches<'_>) -> Option<Destination>
     ensures { Reads result (IsSentTo (rows_of (found_of submit.now))) }
 {
@@ -173,6 +176,7 @@ fn destination_of(submit: &ArgMatches<'_>) -> Option<Destination>
     })
 }
 
+/// Declares the command `submit`.
 pub(crate) fn submit<'a>(alloc: Global) -> Result<Command<'a>, AllocError>
     ensures { Makes submit_command result }
 {
@@ -195,6 +199,7 @@ pub(crate) fn submit<'a>(alloc: Global) -> Result<Command<'a>, AllocError>
         .made
 }
 
+/// Declares the option for the submission's name.
 fn name<'a>(alloc: Global) -> Arg<'a>
     ensures rule { rule_of result ≡ name_option }
     ensures local { result.global ≡ false }

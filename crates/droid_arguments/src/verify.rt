@@ -63,6 +63,7 @@ pub struct VerifyOptions<'a> {
     pub quiet: bool,
 }
 
+/// Returns what the options of `verify` ask for.
 pub(crate) fn verify_asked<'a>(verify: &ArgMatches<'a>) -> Option<Asked<'a>>
     ensures { Reads result (IsAskedBy (codes "verify") (rows_of (found_of verify.now))) }
 {
@@ -70,6 +71,7 @@ pub(crate) fn verify_asked<'a>(verify: &ArgMatches<'a>) -> Option<Asked<'a>>
     Some(Asked::Verify(options))
 }
 
+/// Reads the options of `verify`, or returns `None` if they ask for nothing that can be done.
 fn verify_options<'a>(verify: &ArgMatches<'a>) -> Option<VerifyOptions<'a>>
     ensures { Reads result (IsVerify (rows_of (found_of verify.now))) }
 {
@@ -142,6 +144,7 @@ fn names_two(everyday: bool, registry: Option<&str>) -> bool
     }
 }
 
+/// Declares the command `verify`.
 pub(crate) fn verify<'a>(alloc: Global) -> Result<Command<'a>, AllocError>
     ensures { Makes verify_command result }
 {
@@ -159,6 +162,7 @@ pub(crate) fn verify<'a>(alloc: Global) -> Result<Command<'a>, AllocError>
         .made
 }
 
+/// Declares the option for the list.
 fn against<'a>(alloc: Global) -> Arg<'a>
     ensures rule { rule_of result ≡ against_option }
     ensures local { result.global ≡ false }

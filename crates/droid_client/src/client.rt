@@ -144,6 +144,7 @@ impl Client {
         self.slot(number)?.refusal()
     }
 
+    /// Takes a reply that came under this version, client and number, and says what came of it.
     fn hear(&mut self, version: u8, client: u32, number: u64, reply: Reply) -> Heard
         ensures heard { result ≡ heard_of self.old version client number reply }
         ensures after { self.new ≡ core_hearing self.old version client number reply }
@@ -157,6 +158,7 @@ impl Client {
         hear_at(&mut self.slots, &mut self.pending, place, version, reply)
     }
 
+    /// Returns the request that was submitted under this number.
     fn slot(&self, number: u64) -> Option<&Slot>
         ensures { option_copied result ≡ slot_at self.now number }
     {

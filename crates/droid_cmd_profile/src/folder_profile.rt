@@ -166,6 +166,7 @@ type Parts<'a, R, O> = (
     Option<Output<'a, R>>,
 );
 
+/// Takes the outputs apart, for a walk that writes to each.
 fn parts_of<'a, R: Files, O: Drop>(writers: Writers<'a, R, O>) -> Parts<'a, R, O> {
     let Writers {
         csv,

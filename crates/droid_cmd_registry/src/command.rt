@@ -54,6 +54,7 @@ fn write_conversion<P: Places>(places: &mut P, conversion: &Conversion) -> Regis
     ending_of(conversion.is_partial)
 }
 
+/// Returns the ending where a registry was written.
 fn ending_of(is_partial: bool) -> RegistryEnding
     ensures { result ≡ ending_of is_partial }
 {

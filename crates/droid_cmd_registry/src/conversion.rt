@@ -83,6 +83,7 @@ fn digest_of(alloc: Global, csv: &[u8]) -> Result<String, AllocError>
     Ok(text)
 }
 
+/// Returns the line of the note beside the registry.
 fn note_of(alloc: Global, file: &SignatureFile, digest: &str) -> Result<String, AllocError>
     ensures { IfOk result (λ note. string_bytes note ≡ note_text file.now digest.now) }
 {
@@ -91,6 +92,7 @@ fn note_of(alloc: Global, file: &SignatureFile, digest: &str) -> Result<String, 
     Ok(note)
 }
 
+/// Returns the report for standard error.
 fn report_of(
     alloc: Global,
     quiet: bool,

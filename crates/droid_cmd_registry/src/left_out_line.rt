@@ -78,6 +78,7 @@ impl Display for SubjectText<'_> {
     }
 }
 
+/// Returns how a format is named in a line: by its PUID, or else by its ID.
 fn subject_of(format: &FileFormat) -> SubjectText<'_>
     ensures puid { option_map (λ puid. puid.now) result.puid ≡ format.now.puid }
     ensures id { result.id ≡ format.now.id }

@@ -128,6 +128,7 @@ fn put_file<R: Files<File = File> + AllocGlobal>(
     }
 }
 
+/// Returns why a file could not be written.
 fn unput(fault: OutputFault) -> Unput {
     match fault {
         OutputFault::Memory => Unput::Memory,

@@ -97,6 +97,7 @@ fn told_of_file<'a>(fault: FileFault, file: &'a str) -> Ending<'a>
     }
 }
 
+/// Returns the row of the table for a problem of the document.
 fn problem_row(problem: Problem) -> Row
     ensures { said result ≡ problem_row problem }
 {
@@ -109,6 +110,7 @@ fn problem_row(problem: Problem) -> Row
     }
 }
 
+/// Returns the row of the table for a document that is no signature file.
 fn wrong_row(wrong: Wrong) -> Row
     ensures { said result ≡ wrong_row wrong }
 {
@@ -119,6 +121,7 @@ fn wrong_row(wrong: Wrong) -> Row
     }
 }
 
+/// Returns the row of the table for a file that could not be written.
 fn unput_row(why: Unput) -> Row
     ensures { said result ≡ unput_row why }
 {

@@ -228,6 +228,7 @@ impl Display for UnknownLines<'_> {
     }
 }
 
+/// Writes a line for each name that is not known.
 fn write_unknown<W: Write>(f: &mut Formatter<W>, names: &[UnknownName]) -> fmt::Result
     ensures { WritesOnOk W.write_str_gives f.old result (flat_map unknown_line names.now) f.new }
 {
@@ -237,6 +238,7 @@ fn write_unknown<W: Write>(f: &mut Formatter<W>, names: &[UnknownName]) -> fmt::
     Ok(())
 }
 
+/// Writes the line of a name that is not known.
 #[tactic(auto, unfolding(crate::specs::Reports::unknown_line))]
 fn write_name<W: Write>(f: &mut Formatter<W>, it: &UnknownName) -> fmt::Result
     ensures { WritesOnOk W.write_str_gives f.old result (unknown_line it.now) f.new }
@@ -246,6 +248,7 @@ fn write_name<W: Write>(f: &mut Formatter<W>, it: &UnknownName) -> fmt::Result
     writeln!(f, "unknown {part}: {name}: {} times", it.count)
 }
 
+/// Returns the word for an element or an attribute.
 fn part_name(part: UnknownPart) -> &'static str
     ensures { result.now ≡ part_text part }
 {
@@ -286,6 +289,7 @@ impl Display for LeftOutLines<'_> {
     }
 }
 
+/// Writes a line for each thing left out.
 fn write_left_out<W: Write>(
     f: &mut Formatter<W>,
     formats: &[FileFormat],
@@ -299,6 +303,7 @@ fn write_left_out<W: Write>(
     Ok(())
 }
 
+/// Writes the line of a thing left out.
 fn write_one<W: Write>(f: &mut Formatter<W>, formats: &[FileFormat], it: LeftOut) -> fmt::Result
     ensures { WritesOnOk W.write_str_gives f.old result (left_line formats.now it) f.new }
 {

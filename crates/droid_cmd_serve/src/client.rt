@@ -50,6 +50,7 @@ pub fn send_lines<L: SteadyRead, R: SteadyRead, F: SteadyWrite, T: SteadyWrite>(
     end_of(outcome)
 }
 
+/// Returns how the command ends after the sending.
 fn end_of(outcome: Result<Tally, SendFault>) -> Ending
     ensures { result ≡ sending_end_of outcome }
 {

@@ -41,6 +41,7 @@ pub fn script_command<'a, R: Files + Input + Print + Eprint + AllocGlobal>(
     Ended::over(ending, source)
 }
 
+/// Runs the script of standard input over a registry from a file.
 fn script_by_file<'a, R: Files + Input + Print + Eprint + AllocGlobal>(
     rt: &R,
     path: &'a str,
@@ -74,6 +75,7 @@ pub fn run_command<'a, R: Files + Input + Print + Eprint + AllocGlobal>(
     }
 }
 
+/// Answers the frames of standard input on standard output.
 fn answer_input<R: Input + Print + AllocGlobal>(rt: &R, service: Service) -> Ending {
     let mut handler = ServiceHandler { service };
     let mut pipe = Pipe::new(Noted::new(rt.reader()), Noted::new(io::writer(rt)));
@@ -103,6 +105,7 @@ where
     }
 }
 
+/// Sends the lines of standard input over a connection, and prints the replies.
 fn send_over<R: Input + Print + AllocGlobal>(
     rt: &R,
     stream: &TcpStream,

@@ -51,6 +51,7 @@ fn registry_for<'a, R: Files + Eprint + AllocGlobal>(
     }
 }
 
+/// Reads the registry from a file, or says why the command ends without it.
 fn registry_by_file<'a, R: Files + Eprint + AllocGlobal>(
     rt: &R,
     path: &'a str,

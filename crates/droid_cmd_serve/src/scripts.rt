@@ -88,6 +88,7 @@ fn script_over<R: SteadyRead, W: SteadyWrite>(
     end_of(outcome)
 }
 
+/// Returns how the command ends after the script.
 fn end_of(outcome: Result<Tally, ScriptFault>) -> Ending
     ensures { result ≡ ending_of outcome }
 {

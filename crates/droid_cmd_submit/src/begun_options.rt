@@ -35,6 +35,8 @@ pub(crate) fn begun_of(given: Options, begun: Option<Options>) -> Option<BegunOp
     differing(hash, matching, begun)
 }
 
+/// Returns which of hash and matching differ from what the submission was begun with, if one does; each is `true` where
+/// it is the same.
 fn differing(hash: bool, matching: bool, begun: Options) -> Option<BegunOptions>
     ensures { result ≡ differing hash matching begun }
 {
@@ -46,6 +48,7 @@ fn differing(hash: bool, matching: bool, begun: Options) -> Option<BegunOptions>
     }
 }
 
+/// Returns whether two kinds of hash are the same.
 fn same_hash(given: HashKind, begun: HashKind) -> bool
     ensures { result ≡ same_hash given begun }
 {
@@ -57,6 +60,7 @@ fn same_hash(given: HashKind, begun: HashKind) -> bool
     }
 }
 
+/// Returns whether two truths are the same.
 fn same_truth(given: bool, begun: bool) -> bool
     ensures { result ≡ same_truth given begun }
 {
@@ -83,6 +87,7 @@ impl Display for BegunOptions {
     }
 }
 
+/// Returns the option that asks for this hash.
 fn hash_words(hash: HashKind) -> &'static str
     ensures { result.now ≡ hash_words hash }
 {
@@ -93,6 +98,7 @@ fn hash_words(hash: HashKind) -> &'static str
     }
 }
 
+/// Returns how the option `--match-all` was given.
 fn matching_words(match_all: bool) -> &'static str
     ensures { result.now ≡ matching_words match_all }
 {

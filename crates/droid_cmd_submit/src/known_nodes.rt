@@ -54,6 +54,7 @@ fn known_of_node(node: Node) -> Known
     }
 }
 
+/// Returns the kind of a node for an entry of a folder.
 fn node_kind(kind: EntryKind) -> NodeKind
     ensures { result ≡ node_kind kind }
 {

@@ -132,6 +132,7 @@ fn connect<R: Net<Listener = TcpListener, Stream = TcpStream>>(
     }
 }
 
+/// Connects to the port, with the time limits of reads and writes.
 fn connected<R: Net<Listener = TcpListener, Stream = TcpStream>>(
     rt: &R,
     settings: LoopbackSettings,

@@ -128,24 +128,28 @@ fn is_compared(how: Measure, listed: &[Item], found: &[Item], pair: FilePair) ->
     }
 }
 
+/// Returns whether both sides of a pair have a hash of one kind.
 fn is_hashed(listed: &[Item], found: &[Item], pair: FilePair) -> bool
     ensures { result ≡ compared.is_hashed listed.now found.now pair }
 {
     hashed_by(listed.get(pair.listed), found.get(pair.found))
 }
 
+/// Returns whether both sides of a pair have a size.
 fn is_sized(listed: &[Item], found: &[Item], pair: FilePair) -> bool
     ensures { result ≡ compared.is_sized listed.now found.now pair }
 {
     sized_by(listed.get(pair.listed), found.get(pair.found))
 }
 
+/// Returns whether the two sides of a pair differ in what both have.
 fn differs(listed: &[Item], found: &[Item], pair: FilePair) -> bool
     ensures { result ≡ compared.differs listed.now found.now pair }
 {
     differ_by(listed.get(pair.listed), found.get(pair.found))
 }
 
+/// Returns whether both items are there and have a hash of one kind.
 fn hashed_by(item: Option<&Item>, other: Option<&Item>) -> bool
     ensures { result ≡ compared.hashed_by (option_copied item.entry) (option_copied other.entry) }
 {
@@ -155,6 +159,7 @@ fn hashed_by(item: Option<&Item>, other: Option<&Item>) -> bool
     }
 }
 
+/// Returns whether both items are there and have a size.
 fn sized_by(item: Option<&Item>, other: Option<&Item>) -> bool
     ensures { result ≡ compared.sized_by (option_copied item.entry) (option_copied other.entry) }
 {
@@ -164,6 +169,7 @@ fn sized_by(item: Option<&Item>, other: Option<&Item>) -> bool
     }
 }
 
+/// Returns whether both items are there and differ in what both have.
 fn differ_by(item: Option<&Item>, other: Option<&Item>) -> bool
     ensures { result ≡ compared.differ_by (option_copied item.entry) (option_copied other.entry) }
 {

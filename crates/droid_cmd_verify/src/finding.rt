@@ -225,6 +225,7 @@ fn add_unreadable(
     Ok(())
 }
 
+/// Appends that an entry could not be read.
 fn add_entry(
     alloc: Global,
     findings: &mut Vec<Finding>,
@@ -251,6 +252,7 @@ fn add_changes(
     Ok(())
 }
 
+/// Appends that a file has other formats.
 fn add_change(
     alloc: Global,
     findings: &mut Vec<Finding>,

@@ -159,6 +159,7 @@ fn has_no_hash(lists: &Lists) -> bool {
         && has_file(lists.listed.items.as_slice())
 }
 
+/// Returns whether one of the items is a file.
 fn has_file(items: &[Item]) -> bool {
     items.iter().any(|item| item.kind == NodeKind::File)
 }

@@ -95,6 +95,7 @@ fn keep(
     add_item(items, item)
 }
 
+/// Appends an item.
 fn add_item(items: &mut Vec<Item>, item: Item) -> Result<(), AllocError>
     ensures kept { OnOk result (items.new.items ≡ items.old.items ++ item ∷ []) }
     ensures unchanged { OnErr result (items.new.items ≡ items.old.items) }

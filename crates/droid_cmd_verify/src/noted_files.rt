@@ -169,6 +169,7 @@ fn is_noted(entry: &FolderEntry) -> bool
     is_regular(entry.kind) && has_text(entry) && is_moment(entry.modified)
 }
 
+/// Returns whether an entry is a regular file.
 fn is_regular(kind: EntryKind) -> bool
     ensures { result ≡ is_regular kind }
 {

@@ -102,6 +102,7 @@ pub fn write_outcome<O: SteadyWrite>(output: &mut O, outcome: &Outcome) -> Verif
     }
 }
 
+/// Returns the ending where the report was written.
 fn ending_by(differs: bool) -> VerifyEnding
     ensures { result ≡ ending_by differs }
 {

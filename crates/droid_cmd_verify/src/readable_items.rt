@@ -111,6 +111,7 @@ fn add_readable(
     Ok(())
 }
 
+/// Copies an item.
 fn copy_of(alloc: Global, item: &Item) -> Result<Item, AllocError>
     ensures { IfOk result (λ copy. copy ≡ item.now) }
 {

@@ -194,6 +194,7 @@ fn size_text(alloc: Global, item: Option<&Item>) -> Result<String, AllocError>
     }
 }
 
+/// Returns the text of a size, which is empty for a folder.
 fn length_text(alloc: Global, length: Option<u64>) -> Result<String, AllocError>
     ensures { IfOk result (λ text. string_bytes text ≡ texts.length_text length) }
 {
@@ -216,6 +217,7 @@ fn hash_text(item: Option<&Item>) -> HashText
     }
 }
 
+/// Returns the path of an item, or nothing if there is none.
 fn path_text(item: Option<&Item>) -> &[u8]
     ensures { result.now ≡ texts.path_text (option_copied item.entry) }
 {

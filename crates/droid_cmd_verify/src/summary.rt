@@ -147,6 +147,7 @@ impl Display for FormatLine {
     }
 }
 
+/// Makes a line of the summary.
 fn line(name: &'static str, count: u64) -> CountLine
     ensures name { result.name.now ≡ name.now }
     ensures count { result.count ≡ count }

@@ -109,7 +109,7 @@ pub(crate) fn options_for(options: Options, hash: HashKind) -> Options
     }
 }
 
-/// Returns the fault that a fault of the walk is.
+/// Turns a fault of the walk into one of the comparison. The recipient, which keeps the items, fails only without memory.
 pub(crate) fn fault_of(fault: ProfileFault) -> CheckFault
     ensures { result ≡ fault_of fault }
 {
@@ -148,6 +148,7 @@ fn keep_unreadable(skipped: &mut Vec<SkippedEntry>)
     skipped.retain(|entry| is_unreadable(entry.why));
 }
 
+/// Returns whether a skipped entry counts as unreadable: links and repeated names do not.
 fn is_unreadable(why: Skipped) -> bool
     ensures { result ≡ is_unreadable why }
 {

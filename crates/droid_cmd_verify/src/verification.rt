@@ -212,6 +212,7 @@ fn finish<O: SteadyWrite>(
     }
 }
 
+/// Returns what the command ends with where no report was written.
 fn without_report(ending: VerifyEnding) -> Verified
     ensures { result ≡ without_report ending }
 {

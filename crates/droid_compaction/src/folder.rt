@@ -24,6 +24,7 @@ impl<'a, R: Files<File = File>> Folder<'a, R> {
     }
 }
 
+/// Drops the system's reason of a failed call.
 fn file_result(answer: io::Result<()>) -> Result<(), FileError> {
     match answer {
         Ok(()) => Ok(()),

@@ -29,11 +29,13 @@ pub fn run(rt: &HostRuntime, on_terminal: bool) -> ExitCode {
     }
 }
 
+/// Returns the words of the command line.
 fn words(rt: &HostRuntime) -> io::Result<Vec<String>> {
     let words = env::args(rt)?.collect(rt.alloc())?;
     Ok(words)
 }
 
+/// Runs the command that is asked for.
 fn fulfil(rt: &HostRuntime, asked: Asked<'_>, on_terminal: bool) -> ExitCode {
     match asked {
         Asked::Profile(options) => profile(rt, options, on_terminal),
@@ -68,6 +70,7 @@ fn fulfil(rt: &HostRuntime, asked: Asked<'_>, on_terminal: bool) -> ExitCode {
     }
 }
 
+/// Runs `profile`.
 fn profile(rt: &HostRuntime, options: ProfileOptions<'_>, on_terminal: bool) -> ExitCode {
     match named_registry(rt, options.registry) {
         Ok(registry) => {
@@ -111,6 +114,7 @@ fn verify(rt: &HostRuntime, options: VerifyOptions<'_>, on_terminal: bool) -> Ex
     }
 }
 
+/// Runs `verify`, with the registry that formats are compared by, if they are.
 fn verify_by(
     rt: &HostRuntime,
     registry: Option<&NamedRegistry<'_>>,
@@ -121,23 +125,27 @@ fn verify_by(
     end_by(rt, ending.told(rt, options.against, options.folder))
 }
 
+/// Runs `submit`.
 fn submit(rt: &HostRuntime, options: SubmitOptions<'_>, on_terminal: bool) -> ExitCode {
     let ending = submit_folder(rt, options, on_terminal);
     let _ = ending.print(rt, options);
     ExitCode::from(ending.status())
 }
 
+/// Runs `report`.
 fn report(rt: &HostRuntime, options: ReportOptions<'_>) -> ExitCode {
     let ending = report_profile(rt, options.profile, options.title, options.output);
     let _ = ending.print(rt, options.profile, options.output);
     ExitCode::from(ending.status())
 }
 
+/// Runs `registry`.
 fn registry(rt: &HostRuntime, options: RegistryOptions<'_>) -> ExitCode {
     let ending = registry_command(rt, options.file, options.output, options.quiet);
     end_by(rt, ending.told(options.file, options.output))
 }
 
+/// Runs `run`, with or without a journal.
 fn answer<'a>(
     rt: &'a HostRuntime,
     registry: RegistrySource<'a>,
@@ -149,6 +157,7 @@ fn answer<'a>(
     }
 }
 
+/// Runs `serve` for one connection at a time, with or without a journal.
 fn serve<'a>(
     rt: &'a HostRuntime,
     registry: RegistrySource<'a>,
@@ -162,6 +171,7 @@ fn serve<'a>(
     }
 }
 
+/// Runs `serve --at-once`, with or without a journal.
 fn serve_many<'a>(
     rt: &'a HostRuntime,
     registry: RegistrySource<'a>,
@@ -175,6 +185,7 @@ fn serve_many<'a>(
     }
 }
 
+/// Says how a command of a service ended, and returns its status.
 fn end(rt: &HostRuntime, ended: &Ended<'_>) -> ExitCode {
     let _ = ended.print(rt);
     ExitCode::from(ended.status())
@@ -186,6 +197,7 @@ fn end_by(rt: &HostRuntime, ending: Ending<'_>) -> ExitCode {
     ExitCode::from(ending.status())
 }
 
+/// Says why no command was run, and returns the status.
 fn end_without(rt: &HostRuntime, why: &NoCommand) -> ExitCode {
     let _ = why.print(rt);
     ExitCode::from(why.status())

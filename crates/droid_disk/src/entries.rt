@@ -76,7 +76,7 @@ fn entry_of<D: Disk>(
     }
 }
 
-/// Returns an entry of this folder with this metadata.
+/// Returns an entry of this folder with its metadata. Without them it is neither folder nor file, or too long a path.
 fn entry_with(folder: &str, name: Blob, found: Option<FileMetadata>) -> FolderEntry
     ensures name { result.name ≡ name }
     ensures shown { Shows folder.now found result }

@@ -87,6 +87,7 @@ fn read_some(file: &File, from: u64, buffer: &mut [u8]) -> Result<usize, TreeFau
     Err(TreeFault::Unreadable)
 }
 
+/// Returns whether a signal interrupted the call, which is then made again.
 fn was_interrupted(error: &Error) -> bool {
     error.kind() == ErrorKind::Interrupted
 }

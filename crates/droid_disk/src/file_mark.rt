@@ -64,6 +64,7 @@ fn is_at<R: Files>(rt: &R, path: &str, file: &File) -> bool {
     is_same_file(&there, &found) && found.mode() & MARK != 0
 }
 
+/// Returns whether these are the metadata of one file, by device and inode.
 fn is_same_file(first: &Metadata, second: &Metadata) -> bool {
     first.dev() == second.dev() && first.ino() == second.ino()
 }

@@ -28,6 +28,7 @@ pub fn meets(filter: &Filter, node: &Record) -> bool
     }
 }
 
+/// Returns whether a record meets each criterion.
 fn meets_all(criteria: &Criteria, node: &Record) -> bool
     ensures { result ≡ list_all (is_met node.now) criteria.now }
 {
@@ -41,6 +42,7 @@ fn meets_all(criteria: &Criteria, node: &Record) -> bool
     true
 }
 
+/// Returns whether a record meets one of the criteria.
 fn meets_any(criteria: &Criteria, node: &Record) -> bool
     ensures { result ≡ list_any (is_met node.now) criteria.now }
 {
@@ -70,6 +72,7 @@ pub(crate) fn is_met(criterion: &Criterion, node: &Record) -> bool
     }
 }
 
+/// Returns whether two methods are the same.
 fn is_same_method(left: Method, right: Method) -> bool
     ensures { result ≡ same_method left right }
 {
@@ -110,6 +113,7 @@ fn shares_one(texts: &Texts, puids: &Texts) -> bool
     false
 }
 
+/// Returns whether a text is in a list.
 fn is_among(texts: &Texts, text: &str) -> bool
     ensures { result ≡ is_among texts.now text.now }
 {
@@ -123,6 +127,7 @@ fn is_among(texts: &Texts, text: &str) -> bool
     false
 }
 
+/// Returns whether a text is in a list, where the case of ASCII letters makes no difference.
 fn is_among_in_any_case(texts: &Texts, text: &str) -> bool
     ensures { result ≡ is_among_in_any_case texts.now text.now }
 {

@@ -46,12 +46,14 @@ impl HashText {
         }
     }
 
+    /// Writes the 32 digits of an MD5.
     fn of_md5(digest: [u8; 16]) -> HashText
         ensures { result ≡ encode_lower digest }
     {
         HashText::of_digest(digest.as_slice())
     }
 
+    /// Writes the 64 digits of a SHA-256.
     fn of_sha256(digest: [u8; 32]) -> HashText
         ensures { result ≡ encode_lower digest }
     {

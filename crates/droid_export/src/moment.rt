@@ -57,6 +57,7 @@ struct Civil {
     day: u8,
 }
 
+/// Returns the date and the time of day of a moment, in UTC.
 fn date_of(modified: i64) -> Civil
     requires { IsMoment modified }
     ensures year { result.year ≡ (date_of modified).year }

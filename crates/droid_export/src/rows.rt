@@ -169,6 +169,7 @@ fn add_row<'a>(
     add_line(text, &row, format_version(format).as_bytes())
 }
 
+/// Returns the field MIME_TYPE, which is empty without a format.
 fn mime_type(format: Option<&Format>) -> &str
     ensures { result.now ≡ of_format (option_copied format.entry) (λ it. it.mime) }
 {
@@ -178,6 +179,7 @@ fn mime_type(format: Option<&Format>) -> &str
     }
 }
 
+/// Returns the field FORMAT_NAME, which is empty without a format.
 fn format_name(format: Option<&Format>) -> &str
     ensures { result.now ≡ of_format (option_copied format.entry) (λ it. it.name) }
 {
@@ -187,6 +189,7 @@ fn format_name(format: Option<&Format>) -> &str
     }
 }
 
+/// Returns the field FORMAT_VERSION, which is empty without a format.
 fn format_version(format: Option<&Format>) -> &str
     ensures { result.now ≡ of_format (option_copied format.entry) (λ it. it.version) }
 {
@@ -196,6 +199,7 @@ fn format_version(format: Option<&Format>) -> &str
     }
 }
 
+/// Returns the field METHOD.
 fn method_name(node: &Record) -> &str
     ensures { result.now ≡ spec.method_name (found_by node.now) }
 {
@@ -214,6 +218,7 @@ fn status(_node: &Record) -> &str
     "Done"
 }
 
+/// Returns the field TYPE.
 fn kind_name(node: &Record) -> &str
     ensures { result.now ≡ spec.kind_name node.now.kind }
 {
@@ -223,6 +228,7 @@ fn kind_name(node: &Record) -> &str
     }
 }
 
+/// Returns the field EXTENSION_MISMATCH.
 fn mismatch_text(node: &Record) -> &str
     ensures { result.now ≡ spec.truth (mismatch node.now) }
 {

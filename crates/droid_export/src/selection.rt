@@ -74,6 +74,7 @@ fn met_plainly(alloc: Global, criteria: &Criteria, node: &Record) -> Result<Vec<
     Ok(met)
 }
 
+/// Returns whether a record meets a criterion that is no list.
 #[tactic(auto, unfolding(crate::specs::Index::is_met_plainly))]
 fn is_met_plainly(criterion: &Criterion, node: &Record) -> bool
     ensures { result ≡ is_met_plainly node.now criterion.now }

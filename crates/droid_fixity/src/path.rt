@@ -29,6 +29,7 @@ fn is_name(name: &[u8]) -> bool
     !name.is_empty() && name != b".".as_slice() && name != b"..".as_slice() && has_no_zero(name)
 }
 
+/// Returns whether a name has no zero byte.
 fn has_no_zero(name: &[u8]) -> bool
     ensures { result ≡ list_all (λ b. not (b == 0)) name.now }
 {

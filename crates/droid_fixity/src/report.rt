@@ -67,7 +67,8 @@ fn note_place(places: &mut Vec<usize>, place: Option<usize>) -> Result<(), Alloc
     Ok(())
 }
 
-/// Returns the differences at these pairs.
+/// Returns the differences at these pairs, in which an item of the list, or one that was found, may be alone. By
+/// `missing` and `new`, which hold the hashes of those alone, a moved file is one difference.
 fn differences_at(
     alloc: Global,
     listed: &[Item],

@@ -77,6 +77,7 @@ fn len_with(limit: usize, fields: usize, rest: usize) -> Option<usize>
     Some(fields + rest)
 }
 
+/// Returns the length of a filter in an Export's body, or `None` if a body cannot hold it.
 fn filter_len(filter: &Filter) -> Option<usize>
     ensures { MatchOption result (¬ FilterFits filter.now) (λ len.
         FilterFits filter.now × (len ≡ length (filter_bytes filter.now))) }
@@ -92,6 +93,7 @@ fn filter_len(filter: &Filter) -> Option<usize>
     Some(len)
 }
 
+/// Returns the length of a criterion in a filter, its tag included, or `None` if a filter cannot hold it.
 fn criterion_len(criterion: &Criterion) -> Option<usize>
     ensures { MatchOption result (¬ CriterionFits criterion.now)
         (λ len. CriterionFits criterion.now × (len ≡ length (criterion_bytes criterion.now)) × (len ≤ 65536)) }
@@ -107,6 +109,7 @@ fn criterion_len(criterion: &Criterion) -> Option<usize>
     }
 }
 
+/// Returns the length of a criterion's list of texts, or `None` if a criterion cannot hold it.
 fn list_len(texts: &Texts) -> Option<usize>
     ensures { MatchOption result (¬ ListFits texts.now)
         (λ len. ListFits texts.now × (len ≡ length (list_bytes texts.now)) × (len ≤ 65281)) }

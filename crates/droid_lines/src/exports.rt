@@ -69,6 +69,7 @@ fn parse_filter(alloc: Global, text: &str) -> Result<Option<Filter>, AllocError>
     Ok(Some(Filter { all, criteria }))
 }
 
+/// Reads the criteria behind the word for how they are joined; no text means none.
 #[tactic(auto, unfolding(crate::specs::Exports::criteria_after))]
 fn criteria_after(alloc: Global, text: Option<&str>) -> Result<Option<Criteria>, AllocError>
     ensures { IfOk result (λ criteria. criteria ≡ criteria_after (option_map (λ text. text.now) text.entry)) }
@@ -104,6 +105,7 @@ fn parse_criterion(alloc: Global, word: &str) -> Result<Option<Criterion>, Alloc
     criterion_of(alloc, name, value)
 }
 
+/// Reads a criterion `name=value`, or returns `None` if there is no such one.
 #[tactic(auto, unfolding(crate::specs::Exports::criterion_of))]
 fn criterion_of(alloc: Global, name: &str, value: &str) -> Result<Option<Criterion>, AllocError>
     ensures { IfOk result (λ criterion. criterion ≡ criterion_of name.now value.now) }
@@ -127,6 +129,7 @@ fn criterion_of(alloc: Global, name: &str, value: &str) -> Result<Option<Criteri
     }
 }
 
+/// Reads how criteria are joined: `all` or `any`.
 #[tactic(auto, unfolding(crate::specs::Exports::join_word))]
 fn join_in(word: &str) -> Option<bool>
     ensures { result ≡ join_word word.now }
@@ -140,6 +143,7 @@ fn join_in(word: &str) -> Option<bool>
     }
 }
 
+/// Reads the value of `method`.
 #[tactic(auto, unfolding(crate::specs::Exports::method_word))]
 fn method_in(word: &str) -> Option<Criterion>
     ensures { result ≡ method_word word.now }
@@ -155,6 +159,7 @@ fn method_in(word: &str) -> Option<Criterion>
     }
 }
 
+/// Reads the value of `mismatch`.
 #[tactic(auto, unfolding(crate::specs::Exports::mismatch_word))]
 fn mismatch_in(word: &str) -> Option<Criterion>
     ensures { result ≡ mismatch_word word.now }
@@ -168,6 +173,7 @@ fn mismatch_in(word: &str) -> Option<Criterion>
     }
 }
 
+/// Reads the value of the least size.
 #[tactic(auto, unfolding(crate::specs::Exports::least_word))]
 fn least_in(word: &str) -> Option<Criterion>
     ensures { result ≡ least_word word.now }
@@ -176,6 +182,7 @@ fn least_in(word: &str) -> Option<Criterion>
     Some(Criterion::SizeAtLeast(size))
 }
 
+/// Reads the value of the largest size.
 #[tactic(auto, unfolding(crate::specs::Exports::most_word))]
 fn most_in(word: &str) -> Option<Criterion>
     ensures { result ≡ most_word word.now }
@@ -184,6 +191,7 @@ fn most_in(word: &str) -> Option<Criterion>
     Some(Criterion::SizeAtMost(size))
 }
 
+/// Reads the value of `type`.
 #[tactic(auto, unfolding(crate::specs::Exports::kind_word))]
 fn kind_in(word: &str) -> Option<Criterion>
     ensures { result ≡ kind_word word.now }

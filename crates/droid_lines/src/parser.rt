@@ -47,6 +47,7 @@ pub fn parse_line(alloc: Global, bytes: &[u8]) -> Result<Option<Line>, AllocErro
     }
 }
 
+/// Reads a line, in the version that a word in front may name.
 #[tactic(auto, unfolding(crate::specs::Lines::text_line))]
 fn parse_text(alloc: Global, text: &str) -> Result<Option<Line>, AllocError>
     ensures value { IfOk result (λ line. line ≡ text_line text.now) }
@@ -56,6 +57,7 @@ fn parse_text(alloc: Global, text: &str) -> Result<Option<Line>, AllocError>
     parse_numbered(alloc, version, rest)
 }
 
+/// Reads client, number and request of a line.
 #[tactic(auto, unfolding(crate::specs::Lines::numbered_line, crate::specs::Lines::where_fitting))]
 fn parse_numbered(alloc: Global, version: u8, text: &str) -> Result<Option<Line>, AllocError>
     ensures value { IfOk result (λ line. line ≡ numbered_line version text.now) }
@@ -94,6 +96,7 @@ pub fn parse_request_line(
     }
 }
 
+/// Reads a line without client and number, in the version that a word in front may name.
 #[tactic(auto, unfolding(crate::specs::Lines::text_request))]
 fn request_in(alloc: Global, text: &str) -> Result<Option<VersionedRequest>, AllocError>
     ensures value { IfOk result (λ asked. asked ≡ text_request text.now) }
@@ -103,6 +106,7 @@ fn request_in(alloc: Global, text: &str) -> Result<Option<VersionedRequest>, All
     parse_unnumbered(alloc, version, rest)
 }
 
+/// Reads the request of a line without client and number.
 #[tactic(auto, unfolding(crate::specs::Lines::unnumbered_line, crate::specs::Lines::request_where_fitting))]
 fn parse_unnumbered(
     alloc: Global,

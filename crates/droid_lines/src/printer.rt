@@ -92,6 +92,7 @@ fn finished_text(
     format!(in alloc; "finished {method} {mismatch} {digits} {puids}")
 }
 
+/// Returns the word for how a file was identified.
 fn method_text(method: Method) -> &'static str
     ensures { result.now ≡ method_text method }
 {
@@ -152,6 +153,7 @@ fn detail_text(alloc: Global, refusal: Refusal) -> Result<String, AllocError>
     }
 }
 
+/// Returns the word for a limit.
 fn limit_text(limit: Limit) -> &'static str
     ensures { result.now ≡ limit_text limit }
 {

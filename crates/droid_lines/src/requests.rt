@@ -162,6 +162,7 @@ fn parse_piece(alloc: Global, text: &str) -> Result<Option<Request>, AllocError>
     }))
 }
 
+/// Reads what stands behind `finish`.
 #[tactic(auto, unfolding(crate::specs::Requests::finish_words))]
 fn parse_finish(text: &str) -> Option<Request>
     ensures { result ≡ finish_words text.now }
@@ -170,6 +171,7 @@ fn parse_finish(text: &str) -> Option<Request>
     Some(Request::Finish { profile, file })
 }
 
+/// Reads what stands behind `abandon`.
 #[tactic(auto, unfolding(crate::specs::Requests::abandon_words))]
 fn parse_abandon(text: &str) -> Option<Request>
     ensures { result ≡ abandon_words text.now }
@@ -178,6 +180,7 @@ fn parse_abandon(text: &str) -> Option<Request>
     Some(Request::Abandon { profile, file })
 }
 
+/// Reads what stands behind `status`.
 #[tactic(auto, unfolding(crate::specs::Requests::status_words))]
 fn parse_status(text: &str) -> Option<Request>
     ensures { result ≡ status_words text.now }
@@ -241,6 +244,7 @@ fn bytes_in(alloc: Global, word: &str) -> Result<Option<Blob>, AllocError>
     }
 }
 
+/// Reads bytes from hexadecimal digits, or returns `None` if they are none.
 fn decode(alloc: Global, digits: &str) -> Result<Option<Blob>, AllocError>
     ensures { IfOk result (λ bytes. bytes ≡ result_ok (decode_of digits.now)) }
 {

@@ -91,6 +91,7 @@ pub fn u64_in(word: &str) -> Option<u64>
     word.parse().ok()
 }
 
+/// Reads a signed decimal number.
 fn i64_in(word: &str) -> Option<i64>
     ensures { result ≡ signed_number word.now }
 {
@@ -100,6 +101,7 @@ fn i64_in(word: &str) -> Option<i64>
     word.parse().ok()
 }
 
+/// Returns whether a word begins with `+`, which Rust's parser would take.
 fn has_plus(word: &str) -> bool
     ensures { result ≡ (slice_index word.now 0 == 43) }
 {

@@ -83,6 +83,7 @@ fn add_one(
 /// The paths of all that is known.
 type Paths<'a> = BTreeMap<&'a [u8], bool>;
 
+/// Indexes what is known by its paths.
 fn paths_of<'a>(alloc: Global, known: &'a [Known]) -> Result<Paths<'a>, AllocError>
     ensures { IfOk result (λ paths. HasPaths paths known.now) }
 {
@@ -198,6 +199,7 @@ fn has_text(modified: i64) -> bool
     modified >= -62_135_596_800 && modified <= 253_402_300_799
 }
 
+/// Returns whether a field is the lower-case digits of this hash.
 fn is_hash_text(text: &[u8], hash: &HashValue) -> bool
     ensures { result ≡ bytes_eq text.now (encode_lower (hash_bytes hash.now)) }
 {
@@ -212,6 +214,7 @@ fn same_hash(one: HashValue, other: HashValue) -> bool
     one.kind().number() == other.kind().number() && one.as_slice() == other.as_slice()
 }
 
+/// Returns the field METHOD.
 fn method_name(method: Method) -> &'static str
     ensures { result.now ≡ method_name method }
 {
@@ -222,6 +225,7 @@ fn method_name(method: Method) -> &'static str
     }
 }
 
+/// Returns the field TYPE.
 fn kind_name(kind: NodeKind) -> &'static str
     ensures { result.now ≡ kind_name kind }
 {
@@ -231,6 +235,7 @@ fn kind_name(kind: NodeKind) -> &'static str
     }
 }
 
+/// Returns the field EXTENSION_MISMATCH.
 fn truth(value: bool) -> &'static str
     ensures { result.now ≡ truth value }
 {

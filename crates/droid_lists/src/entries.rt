@@ -109,6 +109,7 @@ impl Entries {
         }
     }
 
+    /// Returns the ID of the folder at this path, if one was read.
     fn folder_id(&self, path: &str) -> Option<u64>
         ensures { result ≡ id_of (listed_at self.now path.now) }
     {

@@ -132,12 +132,14 @@ fn texts_in(alloc: Global, row: &ByteRecord) -> Result<Texts, AllocError>
     })
 }
 
+/// Returns whether a field is a PUID: 1 to 32 bytes of those that a PUID has.
 fn is_puid(puid: &[u8]) -> bool
     ensures { result ≡ is_puid puid.now }
 {
     1 <= puid.len() && puid.len() <= 32 && are_puid_bytes(puid)
 }
 
+/// Returns whether bytes are all of those that a PUID has.
 fn are_puid_bytes(puid: &[u8]) -> bool
     ensures { result ≡ list_all is_puid_byte puid.now }
 {

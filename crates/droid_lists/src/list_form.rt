@@ -82,6 +82,7 @@ fn manifest_form(alloc: Global, in_bag: bool, text: &[u8]) -> Result<ManifestFor
     Ok(form_by(is_of_bag))
 }
 
+/// Returns the form of a list of checksums.
 fn form_by(is_of_bag: bool) -> ManifestForm
     ensures { result ≡ forms.form_by is_of_bag }
 {

@@ -46,6 +46,7 @@ fn is_moment(modified: &i64) -> bool
     modified >= -62_135_596_800 && modified <= 253_402_300_799
 }
 
+/// Returns the size of a file, and nothing for a folder.
 fn length_of(kind: NodeKind, size: u64) -> Option<u64>
     ensures { result ≡ nodes.length_of kind size }
 {
@@ -55,6 +56,7 @@ fn length_of(kind: NodeKind, size: u64) -> Option<u64>
     }
 }
 
+/// Returns the hash of a file, and none for a folder.
 fn hash_of(kind: NodeKind, hash: HashValue) -> HashValue
     ensures { result ≡ nodes.hash_of kind hash }
 {

@@ -80,6 +80,7 @@ impl FirstBytes {
         distance(self.low, self.high, byte) <= distance(self.other_low, self.other_high, byte)
     }
 
+    /// Widens the first range so that it has this byte.
     fn first_grown(self, byte: u8) -> FirstBytes
         ensures added { Has result byte }
         ensures kept { (b : ℕ) → Has self b → Has result b }
@@ -92,6 +93,7 @@ impl FirstBytes {
         }
     }
 
+    /// Widens the other range so that it has this byte.
     fn other_grown(self, byte: u8) -> FirstBytes
         ensures added { Has result byte }
         ensures kept { (b : ℕ) → Has self b → Has result b }

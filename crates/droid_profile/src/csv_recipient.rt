@@ -120,6 +120,7 @@ impl<O: SteadyWrite, M: SteadyWrite> CsvRecipient<'_, O, M> {
         self.write_full_lines()
     }
 
+    /// Writes the rows that wait, once there are 64 KiB of them.
     fn write_full_rows(&mut self) -> Result<(), WriteFault>
         ensures ok { OnOk result (GoesOn O.contents O.seen M.contents M.seen self.old [] [] self.new) }
         ensures few { OnOk result (length self.new.rows < 65536) }
@@ -132,6 +133,7 @@ impl<O: SteadyWrite, M: SteadyWrite> CsvRecipient<'_, O, M> {
         self.write_rows()
     }
 
+    /// Writes the lines of the list that wait, once there are 64 KiB of them.
     #[tactic(auto, using(crate::proofs::FewPending::few_lines))]
     fn write_full_lines(&mut self) -> Result<(), WriteFault>
         ensures rows { self.new.rows ≡ self.old.rows }

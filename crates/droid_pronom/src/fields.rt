@@ -14,6 +14,7 @@ pub fn is_puid(text: &str) -> bool
     has_bytes(text, 1, 32) && are_puid_bytes(text)
 }
 
+/// Returns whether a text has only ASCII letters, digits, `/` and `-`.
 fn are_puid_bytes(text: &str) -> bool
     ensures { result ≡ list_all field.is_puid_byte text.now }
 {
@@ -21,6 +22,7 @@ fn are_puid_bytes(text: &str) -> bool
         .all(|c| c.is_ascii_alphanumeric() || c == b'/' || c == b'-')
 }
 
+/// Returns whether a text has `least` to `most` bytes.
 fn has_bytes(text: &str, least: usize, most: usize) -> bool
     ensures { result ≡ field.has_bytes least most text.now }
 {
@@ -48,6 +50,7 @@ pub(crate) fn is_extension(text: &str) -> bool
     has_bytes(text, 1, 64) && are_extension_bytes(text)
 }
 
+/// Returns whether a text has no dot and no slash.
 fn are_extension_bytes(text: &str) -> bool
     ensures { result ≡ list_all field.is_extension_byte text.now }
 {
@@ -65,6 +68,7 @@ pub(crate) fn number_of(text: &str) -> Option<u16>
     }
 }
 
+/// Returns whether a text has only ASCII digits.
 fn are_digits(text: &str) -> bool
     ensures { result ≡ list_all is_ascii_digit text.now }
 {

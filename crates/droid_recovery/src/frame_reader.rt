@@ -126,6 +126,7 @@ fn read_reply(alloc: Global, frame: &Frame, kind: u8, bytes: &[u8]) -> Result<Re
     }
 }
 
+/// Returns these 16 bytes as a mark.
 fn mark_in(bytes: &[u8]) -> [u8; MARK]
     requires { length bytes.now ≡ 16 }
     ensures { result ≡ bytes.now }
@@ -135,6 +136,7 @@ fn mark_in(bytes: &[u8]) -> [u8; MARK]
     mark
 }
 
+/// Reads a big-endian number of four bytes.
 fn number_in(bytes: &[u8]) -> u32
     requires { length bytes.now ≡ 4 }
     ensures { (number : ℕ) → bytes.now ≡ u32_bytes number → IsU32 number → result ≡ number }

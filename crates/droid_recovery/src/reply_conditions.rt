@@ -83,6 +83,7 @@ pub(crate) fn are_words(texts: &Texts) -> bool
     are_all_words(texts.as_slice())
 }
 
+/// Returns whether each text is a word.
 fn are_all_words(texts: &[Text]) -> bool
     ensures { result ≡ list_all is_word texts.now }
 {
@@ -94,6 +95,7 @@ fn are_all_words(texts: &[Text]) -> bool
     true
 }
 
+/// Returns whether a text has at least one byte and no space, so that the store can keep it as an identifier.
 fn is_word(text: &str) -> bool
     ensures { result ≡ is_word text.now }
 {
@@ -104,6 +106,7 @@ fn is_word(text: &str) -> bool
     false
 }
 
+/// Returns whether bytes have a space.
 fn has_space(bytes: &[u8]) -> bool
     ensures { result ≡ list_any (λ byte. byte == 32) bytes.now }
 {

@@ -81,6 +81,7 @@ fn count_row(table: &mut Vec<u64>, row: &Row, by: By)
     }
 }
 
+/// Returns the class that has all that is larger.
 fn last_class(by: By) -> usize
     ensures { result ≡ last_class by }
 {

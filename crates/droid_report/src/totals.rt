@@ -122,6 +122,7 @@ pub(crate) fn is_first_of_file(row: &Row) -> bool
     row.is_first && is_file(row.facts.kind)
 }
 
+/// Returns whether a row is of a file.
 fn is_file(kind: Kind) -> bool
     ensures { result ≡ totals.is_file kind }
 {

@@ -24,6 +24,7 @@ pub(crate) fn ways(all: &[Choices]) -> usize
     count
 }
 
+/// Multiplies, but returns the largest number where the product is larger.
 fn times(count: usize, more: usize) -> usize
     ensures { result ≡ min (count * more) 18446744073709551615 }
 {
@@ -119,6 +120,7 @@ fn push_pick(
     Ok(())
 }
 
+/// Returns the field for where a byte sequence is anchored.
 fn anchor_text(anchor: Anchor) -> &'static str
     ensures { result.now ≡ anchor_text anchor }
 {

@@ -76,6 +76,7 @@ pub fn convert(alloc: Global, file: &SignatureFile) -> Result<Converted, Convers
     Ok(made)
 }
 
+/// Makes the registry. Fails if memory runs out, or if it would be too long.
 fn make(alloc: Global, file: &SignatureFile) -> Result<Converted, AllocError>
     ensures { IfOk result (λ made. IsConversion file.now made.csv.items made.left_out.items made.taken) }
 {
@@ -89,6 +90,7 @@ fn make(alloc: Global, file: &SignatureFile) -> Result<Converted, AllocError>
     })
 }
 
+/// Counts what the registry has.
 fn taken_of(tables: &AllTables<'_>) -> Taken
     ensures { result ≡ taken_in tables.now }
 {

@@ -72,6 +72,7 @@ fn is_extension(text: &str) -> bool
     1 <= text.len() && text.len() <= 64 && are_extension_bytes(text)
 }
 
+/// Returns whether a text has no dot and no slash.
 fn are_extension_bytes(text: &str) -> bool
     ensures { result ≡ list_all field.is_extension_byte text.now }
 {

@@ -59,6 +59,7 @@ fn note_all(named: &mut Named, formats: &[FileFormat]) -> Result<(), AllocError>
     Ok(())
 }
 
+/// Notes the signatures that a format names.
 fn note_ids(named: &mut Named, ids: &[u32]) -> Result<(), AllocError>
     ensures { OnOk result ((before : List ℕ) → AreNamed named.old before → AreNamed named.new (before ++ ids.now)) }
 {
@@ -84,6 +85,7 @@ fn others(
     Ok(others)
 }
 
+/// Appends a signature's ID, if no format names it.
 fn add_other(others: &mut Vec<u32>, named: &Named, id: u32) -> Result<(), AllocError>
     ensures { OnOk result ((ids : List ℕ) → AreNamed named.now ids
         → others.new.items ≡ others.old.items ++ (if is_named ids id then [] else id ∷ [])) }

@@ -123,6 +123,7 @@ fn push_without(
     Ok(())
 }
 
+/// Appends that a format is left without a signature, if it had any and kept none.
 fn push_if_without(
     all: &mut Vec<LeftOut>,
     place: usize,

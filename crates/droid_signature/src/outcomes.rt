@@ -82,6 +82,7 @@ fn outcome_at(outcomes: &[Outcome], place: usize) -> Option<&Outcome>
     outcomes.get(place)
 }
 
+/// Returns what a signature becomes: rows of the registry, or why it is left out.
 fn outcome_of(alloc: Global, signature: &InternalSignature) -> Result<Outcome, AllocError>
     ensures { IfOk result (IsOutcome signature.now) }
 {

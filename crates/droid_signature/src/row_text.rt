@@ -65,6 +65,7 @@ fn push_doubled(text: &mut Vec<u8>, field: &[u8]) -> Result<(), AllocError>
     Ok(())
 }
 
+/// Returns whether a field has no double quote.
 fn has_no_quote(field: &[u8]) -> bool
     ensures { result ≡ list_all (λ c. not (c == 34)) field.now }
 {

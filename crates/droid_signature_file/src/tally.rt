@@ -168,6 +168,7 @@ impl Tally {
         Ok(())
     }
 
+    /// Counts an attribute of this kind of element, if its name is not known.
     fn note_attribute(&mut self, alloc: Global, kind: Kind, name: &str) -> Result<(), AllocError>
         ensures { OnOk result (self.new ≡ spec.noted_attribute kind self.old name.now) }
     {

@@ -72,6 +72,7 @@ pub fn push_gap(text: &mut Vec<u8>, least: u16, most: Option<u16>) -> Result<(),
     }
 }
 
+/// Appends a gap without an upper bound.
 fn push_open_gap(text: &mut Vec<u8>, least: u16) -> Result<(), AllocError>
     ensures { OnOk result (text.new.items ≡ text.old.items ++ spec.open_gap least) }
 {
@@ -85,6 +86,7 @@ fn push_open_gap(text: &mut Vec<u8>, least: u16) -> Result<(), AllocError>
     Ok(())
 }
 
+/// Appends a gap of `least` to `most` bytes.
 fn push_closed_gap(text: &mut Vec<u8>, least: u16, most: u16) -> Result<(), AllocError>
     ensures { OnOk result (text.new.items ≡ text.old.items ++ spec.gap least most) }
 {

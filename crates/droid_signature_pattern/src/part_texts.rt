@@ -218,6 +218,7 @@ fn two(
     }
 }
 
+/// Makes a list of two.
 fn pair(
     alloc: Global,
     first: PatternTexts,

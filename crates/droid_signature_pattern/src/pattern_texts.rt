@@ -115,6 +115,7 @@ impl PatternTexts {
         Ok(())
     }
 
+    /// Appends other texts, any of which may match too.
     fn append(&mut self, others: PatternTexts) -> Result<(), AllocError>
         ensures { OnOk result (self.new ≡ self.old ++ others) }
     {
@@ -207,6 +208,7 @@ fn both(alloc: Global, first: &[u8], second: &[u8]) -> Result<Vec<u8>, Stop>
     Ok(text)
 }
 
+/// Returns a text behind another one.
 fn appended(alloc: Global, len: usize, first: &[u8], second: &[u8]) -> Result<Vec<u8>, AllocError>
     ensures { IfOk result (λ text. text.items ≡ first.now ++ second.now) }
 {

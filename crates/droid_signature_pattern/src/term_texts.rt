@@ -176,12 +176,14 @@ fn are_all_runs(alternatives: &[Vec<TextItem>]) -> bool
     alternatives.iter().all(|items| are_runs(items.as_slice()))
 }
 
+/// Returns whether each item is one that a pattern can hold as it stands.
 fn are_runs(items: &[TextItem]) -> bool
     ensures { result ≡ list_all (λ item. spec.is_run (atom_of item)) items.now }
 {
     items.iter().all(|item| is_run(item))
 }
 
+/// Returns whether an item is one that a pattern can hold as it stands.
 fn is_run(item: &TextItem) -> bool
     ensures { result ≡ spec.is_run (atom_of item.now) }
 {

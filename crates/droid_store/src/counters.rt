@@ -6,6 +6,7 @@ ghost use Rattle.droid_store.specs.declared.fault.StoreFault.TheVariants.{Memory
 use crate::fault::StoreFault;
 use crate::rows::Counts;
 
+/// Returns the next number.
 fn next(count: u64) -> Result<u64, StoreFault>
     ensures next { IfOk result (λ n. n ≡ count + 1) }
     ensures memory { IfErr result (λ fault. fault ≡ Memory) }
@@ -16,6 +17,7 @@ fn next(count: u64) -> Result<u64, StoreFault>
     }
 }
 
+/// Counts a new profile.
 pub(crate) fn one_more_profile(counts: Counts) -> Result<Counts, StoreFault>
     ensures more { IfOk result (λ after. after ≡ record counts { profiles = counts.profiles + 1 }) }
     ensures memory { IfErr result (λ fault. fault ≡ Memory) }
@@ -24,6 +26,7 @@ pub(crate) fn one_more_profile(counts: Counts) -> Result<Counts, StoreFault>
     Ok(Counts { profiles, ..counts })
 }
 
+/// Counts a new unfinished file.
 pub(crate) fn one_more_unfinished(counts: Counts) -> Result<Counts, StoreFault>
     ensures more { IfOk result (λ after. after ≡ record counts { unfinished = counts.unfinished + 1 }) }
     ensures memory { IfErr result (λ fault. fault ≡ Memory) }
@@ -35,6 +38,7 @@ pub(crate) fn one_more_unfinished(counts: Counts) -> Result<Counts, StoreFault>
     })
 }
 
+/// Counts that a file was finished or abandoned.
 pub(crate) fn one_less_unfinished(counts: Counts) -> Counts
     requires { 1 ≤ counts.unfinished }
     ensures { result ≡ record counts { unfinished = counts.unfinished - 1 } }
@@ -45,6 +49,7 @@ pub(crate) fn one_less_unfinished(counts: Counts) -> Counts
     }
 }
 
+/// Counts an accepted command.
 pub(crate) fn one_more_reply(counts: Counts) -> Result<Counts, StoreFault>
     ensures more { IfOk result (λ after. after ≡ record counts { accepted = counts.accepted + 1 }) }
     ensures memory { IfErr result (λ fault. fault ≡ Memory) }

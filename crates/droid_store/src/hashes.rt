@@ -42,6 +42,7 @@ pub(crate) fn hash_of(bytes: &[u8]) -> Option<HashValue>
     }
 }
 
+/// Reads a SHA-256 from 32 bytes.
 fn long_hash_of(bytes: &[u8]) -> Option<HashValue>
     ensures value { IfSome result (λ hash. (length bytes.now ≡ 32) × (hash ≡ hashes.Sha256 bytes.now)) }
     ensures some { length bytes.now ≡ 32 → IsSome result }

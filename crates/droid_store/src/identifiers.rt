@@ -19,6 +19,7 @@ pub(crate) fn join(alloc: Global, words: &Texts) -> Result<String, AllocError>
     Ok(text)
 }
 
+/// Appends a word, behind a space if it isn't the first.
 fn append(text: &mut String, word: &str, is_first: bool) -> Result<(), AllocError>
     ensures { OnOk result
         (string_bytes text.new ≡ string_bytes text.old ++ (if is_first then word.now else 32 ∷ word.now)) }
@@ -39,6 +40,7 @@ pub(crate) fn words(alloc: Global, text: &str) -> Result<Texts, AllocError>
     split(alloc, text)
 }
 
+/// Splits a text at its spaces.
 fn split(alloc: Global, text: &str) -> Result<Texts, AllocError>
     ensures { IfOk result (λ words. words ≡ slice_split (λ byte. byte == 32) text.now) }
 {

@@ -28,6 +28,7 @@ fn or_none(answer: Result<Row, Error>) -> Result<Option<Row>, Error>
     }
 }
 
+/// Looks for the row of a profile.
 pub(crate) fn find_profile(
     conn: &mut Connection<TreeStore>,
     profile: u32,
@@ -43,6 +44,7 @@ pub(crate) fn find_profile(
     or_none(answer)
 }
 
+/// Looks for the row of a folder or file by its number.
 pub(crate) fn find_node(
     conn: &mut Connection<TreeStore>,
     profile: u32,
@@ -60,6 +62,7 @@ pub(crate) fn find_node(
     or_none(answer)
 }
 
+/// Looks for the row of a folder or file by its name and the folder that it lies in.
 pub(crate) fn find_child(
     conn: &mut Connection<TreeStore>,
     profile: u32,
@@ -79,6 +82,7 @@ pub(crate) fn find_child(
     or_none(answer)
 }
 
+/// Looks for the row of an accepted command by its client and number.
 pub(crate) fn find_reply(
     conn: &mut Connection<TreeStore>,
     client: u32,

@@ -30,6 +30,7 @@ pub(crate) fn signed(number: u64) -> i64
     number.cast_signed()
 }
 
+/// Adds the row of a profile.
 pub(crate) fn insert_profile(
     tx: &mut Transaction<'_, TreeStore>,
     profile: u32,
@@ -53,6 +54,7 @@ pub(crate) fn insert_profile(
     )
 }
 
+/// Adds the row of an accepted command with its reply.
 pub(crate) fn insert_reply(
     tx: &mut Transaction<'_, TreeStore>,
     entry: &Entry,
@@ -84,6 +86,7 @@ pub(crate) fn insert_reply(
     )
 }
 
+/// Adds the row of a folder or file.
 fn insert_node(
     tx: &mut Transaction<'_, TreeStore>,
     node: &NewNode<'_>,
@@ -118,6 +121,7 @@ fn insert_node(
     )
 }
 
+/// Sets how many folders and files a profile has.
 fn count_nodes(
     tx: &mut Transaction<'_, TreeStore>,
     profile: u32,
@@ -159,6 +163,7 @@ pub(crate) fn add_node(
     count_nodes(tx, node.profile, node.id)
 }
 
+/// Sets what was found of a finished file.
 pub(crate) fn finish_node(
     tx: &mut Transaction<'_, TreeStore>,
     profile: u32,
@@ -199,6 +204,7 @@ fn number_of(method: Method) -> u32
     u32::from(method.number())
 }
 
+/// Removes the row of an abandoned file.
 pub(crate) fn delete_node(
     tx: &mut Transaction<'_, TreeStore>,
     profile: u32,

@@ -24,6 +24,7 @@ use droid_frame::{Blob, HashKind, HashValue, Method, NodeKind, Record, Text, Tex
 use sqlite::Row;
 use std::alloc::Global;
 
+/// Reads the row of a profile. Fails for a row that no profile has.
 pub(crate) fn profile_of(row: &Row) -> Result<ProfileRow, StoreFault>
     ensures read { IfOk result (λ read. (p : ProfileRowValue) → row.now ≡ shown_profile p → read ≡ p) }
     ensures memory { (p : ProfileRowValue) → row.now ≡ shown_profile p → ProfileFits p
@@ -41,6 +42,7 @@ pub(crate) fn profile_of(row: &Row) -> Result<ProfileRow, StoreFault>
     })
 }
 
+/// Reads the column of a profile's hash.
 fn hash_kind_in(row: &Row) -> Result<HashKind, StoreFault>
     ensures read { IfOk result (λ read. (p : ProfileRowValue) → row.now ≡ shown_profile p → read ≡ p.hash) }
     ensures memory { (p : ProfileRowValue) → row.now ≡ shown_profile p → IfErr result (λ fault. fault ≡ Memory) }
@@ -123,6 +125,7 @@ struct Head {
     piece_size: u32,
 }
 
+/// Reads the columns of a node that finishing it doesn't change.
 fn head_of(row: &Row) -> Result<Head, StoreFault>
     ensures read { IfOk result (λ read.
         (n : Node) → row.now ≡ shown_node n
@@ -162,6 +165,7 @@ struct Findings {
     puids: Texts,
 }
 
+/// Reads the columns of a node that are set when it is finished.
 fn findings_of(alloc: Global, row: &Row) -> Result<Findings, StoreFault>
     ensures read { IfOk result (λ read.
         (n : Node) → AllByRecursion IsWord n.puids → row.now ≡ shown_node n
@@ -181,6 +185,7 @@ fn findings_of(alloc: Global, row: &Row) -> Result<Findings, StoreFault>
     })
 }
 
+/// Returns whether a node is a folder or a file, by its state.
 fn kind_of(state: NodeState) -> NodeKind
     ensures { result ≡ kind_of state }
 {
@@ -191,6 +196,7 @@ fn kind_of(state: NodeState) -> NodeKind
     }
 }
 
+/// Reads the row of a folder or file. Fails for a row that no node has.
 pub(crate) fn node_of(alloc: Global, row: &Row) -> Result<NodeRow, StoreFault>
     ensures read { IfOk result (λ read.
         (n : Node) → AllByRecursion IsWord n.puids → row.now ≡ shown_node n → read ≡ row_of n) }
@@ -221,6 +227,7 @@ pub(crate) fn node_of(alloc: Global, row: &Row) -> Result<NodeRow, StoreFault>
     })
 }
 
+/// Reads the column of a node's state.
 fn state_in(row: &Row) -> Result<NodeState, StoreFault>
     ensures read { IfOk result (λ read. (n : Node) → row.now ≡ shown_node n → read ≡ n.state) }
     ensures memory { (n : Node) → row.now ≡ shown_node n → IfErr result (λ fault. fault ≡ Memory) }
@@ -232,6 +239,7 @@ fn state_in(row: &Row) -> Result<NodeState, StoreFault>
     }
 }
 
+/// Reads the column of a node's method.
 fn method_in(row: &Row) -> Result<Method, StoreFault>
     ensures read { IfOk result (λ read. (n : Node) → row.now ≡ shown_node n → read ≡ n.method) }
     ensures memory { (n : Node) → row.now ≡ shown_node n → IfErr result (λ fault. fault ≡ Memory) }
@@ -243,6 +251,7 @@ fn method_in(row: &Row) -> Result<Method, StoreFault>
     }
 }
 
+/// Returns the state of this number.
 fn state_of(number: u32) -> Option<NodeState>
     ensures { (s : NodeStateValue) → number ≡ state_number s → result ≡ Some s }
 {
@@ -254,6 +263,7 @@ fn state_of(number: u32) -> Option<NodeState>
     }
 }
 
+/// Returns the method of this number.
 fn method_of(number: u32) -> Option<Method>
     ensures { (m : MethodValue) → number ≡ method_number m → result ≡ Some m }
 {

@@ -39,6 +39,7 @@ pub(crate) fn make_tables(conn: &mut Connection<TreeStore>) -> Result<(), Error>
     Ok(())
 }
 
+/// Creates the table of profiles, the first one.
 fn make_profiles(conn: &mut Connection<TreeStore>) -> Result<usize, Error>
     requires { Settled (state over_trees conn.old) (HasEmpty no_schema []) }
     ensures made { OnOk result (Settled (state over_trees conn.new) (HasEmpty first_schema (0 ∷ []))) }
@@ -48,6 +49,7 @@ fn make_profiles(conn: &mut Connection<TreeStore>) -> Result<usize, Error>
     conn.execute(MAKE_PROFILES, &[])
 }
 
+/// Creates the table of folders and files, the second one.
 fn make_nodes(conn: &mut Connection<TreeStore>) -> Result<usize, Error>
     requires { Settled (state over_trees conn.old) (HasEmpty first_schema (0 ∷ [])) }
     ensures made { OnOk result (Settled (state over_trees conn.new) (HasEmpty second_schema (0 ∷ 1 ∷ []))) }
@@ -57,6 +59,7 @@ fn make_nodes(conn: &mut Connection<TreeStore>) -> Result<usize, Error>
     conn.execute(MAKE_NODES, &[])
 }
 
+/// Creates the table of accepted commands and their replies, the third one.
 fn make_replies(conn: &mut Connection<TreeStore>) -> Result<usize, Error>
     requires { Settled (state over_trees conn.old) (HasEmpty second_schema (0 ∷ 1 ∷ [])) }
     ensures made { OnOk result (Settled (state over_trees conn.new) (Holds no_rows)) }

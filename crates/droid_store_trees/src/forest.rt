@@ -23,6 +23,7 @@ impl Forest {
     ghost use Rattle.droid_store_trees.specs.Edits.{edited, Fits};
     ghost use Rattle.droid_store_trees.specs.Alike.{AreAlike, Replaces, Relabels};
 
+    /// Makes a database without trees.
     pub(crate) fn new(alloc: Global) -> Forest
         ensures { (result.trees.items ≡ []) × (result.version ≡ 0) }
     {
@@ -32,6 +33,7 @@ impl Forest {
         }
     }
 
+    /// Copies all trees, which share their rows. Fails only if memory runs out.
     pub(crate) fn copy(&self, alloc: Global) -> Result<Forest, AllocError>
         ensures { IfOk result (AreAlike self.now) }
     {
@@ -45,6 +47,7 @@ impl Forest {
         })
     }
 
+    /// Returns whether the tree of this number is a table, an index or not there.
     pub(crate) fn shape(&self, tree: u32) -> Shape
         ensures { result ≡ shape_of self.now tree }
     {
@@ -53,6 +56,7 @@ impl Forest {
             .map_or(Shape::Absent, |t| t.shape)
     }
 
+    /// Returns a cursor at the first row that is sought, in one of the two directions.
     pub(crate) fn placed(&self, tree: usize, key: &Row, direction: Direction) -> Cursor
         ensures { left_of self.now result
             ≡ sought (order_of (shape_of self.now tree)) direction key.now (rows_of self.now tree) }
@@ -112,6 +116,7 @@ impl Forest {
         }
     }
 
+    /// Changes the rows of a tree.
     pub(crate) fn edit(
         &mut self,
         alloc: Global,
@@ -139,6 +144,7 @@ impl Forest {
         Ok(())
     }
 
+    /// Puts a tree in the place of the one that has this number.
     pub(crate) fn replace(&mut self, alloc: Global, tree: u32, new: Tree) -> Result<(), AllocError>
         ensures ok { OnOk result (Replaces self.old self.new tree new) }
         ensures err { OnErr result (AreAlike self.old self.new) }

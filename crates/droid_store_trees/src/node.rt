@@ -30,6 +30,7 @@ pub(crate) struct Fork {
 }
 
 impl Node {
+    /// Returns how many rows the tree has.
     pub(crate) fn len(&self) -> usize
         requires { IsCounted self.now }
         ensures { result ≡ length (rows self.now) }
@@ -52,6 +53,7 @@ impl Node {
         }
     }
 
+    /// Makes a node of two trees and the row between them, and counts its rows.
     fn joined(
         alloc: Global,
         left: Node,
@@ -96,6 +98,7 @@ impl Node {
         Node::joined(alloc, left, row, right)
     }
 
+    /// Makes a node whose right tree gives its first part to the left: one of the two turns that keep trees balanced.
     fn turned_left(
         alloc: Global,
         left: Node,
@@ -113,6 +116,7 @@ impl Node {
         }
     }
 
+    /// Makes a node whose left tree gives its last part to the right: the other turn.
     fn turned_right(
         alloc: Global,
         left: &Node,
@@ -130,6 +134,7 @@ impl Node {
         }
     }
 
+    /// Returns the row at a place, counted from 0.
     pub(crate) fn get(&self, at: usize) -> Option<&Rc<PackedRow>>
         requires { IsCounted self.now }
         ensures found { IfSome result (λ row.
@@ -170,6 +175,7 @@ impl Node {
         }
     }
 
+    /// Returns a tree with another row at this place.
     #[tactic(auto, using(crate::proofs::Edits::set_left, crate::proofs::Edits::set_here, crate::proofs::Edits::set_right))]
     pub(crate) fn set(
         &self,
@@ -198,6 +204,7 @@ impl Node {
         }
     }
 
+    /// Returns a tree with a row more, at this place.
     #[tactic(auto, using(crate::proofs::Edits::insert_left, crate::proofs::Edits::insert_right))]
     pub(crate) fn insert(
         &self,
@@ -224,6 +231,7 @@ impl Node {
         }
     }
 
+    /// Returns a tree without the row at this place.
     #[tactic(auto, using(crate::proofs::Edits::remove_left, crate::proofs::Edits::remove_here, crate::proofs::Edits::remove_right))]
     pub(crate) fn remove(&self, alloc: Global, at: usize) -> Result<Node, AllocError>
         requires counted { IsCounted self.now }

@@ -51,6 +51,7 @@ impl TreeStore {
         }
     }
 
+    /// Returns the trees as they are now: those of the transaction, if there is one that wrote, or those before it.
     fn current(&self) -> &Forest
         ensures { result.now ≡ current self.now }
     {
@@ -73,6 +74,7 @@ impl TreeStore {
         }
     }
 
+    /// Puts a cursor under this number.
     fn set_cursor(
         cursors: &mut Vec<Option<Cursor>>,
         at: usize,
@@ -87,6 +89,7 @@ impl TreeStore {
         Ok(())
     }
 
+    /// Changes the rows of a tree within the transaction. If memory runs out, all is as before.
     fn write(&mut self, tree: u32, edit: Edit<'_>) -> Result<(), StoreError>
         requires { Fits edit ((view self.old).shape tree) }
         ensures ok { OnOk result (SetsTree (view self.old) (view self.new) tree (edited edit.entry)) }
@@ -100,6 +103,7 @@ impl TreeStore {
         Ok(done?)
     }
 
+    /// Puts a tree in the place of another within the transaction. If memory runs out, all is as before.
     fn replace(&mut self, tree: u32, new: Tree) -> Result<(), StoreError>
         ensures ok { OnOk result (Replaces (current self.old) (current self.new) tree new) }
         ensures err { OnErr result (IsStill (view self.old) (view self.new)) }

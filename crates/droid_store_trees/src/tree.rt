@@ -32,6 +32,7 @@ pub(crate) struct Tree {
     pub ghost ordered: { ∥ IsShaped shape rows ∥₁ },
 }
 
+/// Returns whether the row at a place has this number.
 fn has_rowid_at(rows: &Entries, at: usize, id: ValueRef<'_>) -> bool
     ensures { IsTestAt (λ r. is_eq (value_cmp (rowid r) (owned id.entry))) rows.now at result }
 {
@@ -41,6 +42,7 @@ fn has_rowid_at(rows: &Entries, at: usize, id: ValueRef<'_>) -> bool
     }
 }
 
+/// Returns whether the row at a place is this entry of an index.
 fn has_entry_at(order: Order, rows: &Entries, at: usize, entry: &Row) -> bool
     ensures { IsTestAt (λ e. is_eq (entry_cmp order e entry.now)) rows.now at result }
 {
@@ -54,6 +56,7 @@ impl Tree {
     ghost use Rattle.droid_store_trees.specs.Shown.{heading};
     ghost use Rattle.droid_store_trees.specs.Edits.{edited, Fits};
 
+    /// Makes a tree without rows for this table or index.
     pub(crate) fn new(alloc: Global, object: &Object<'_>) -> Result<Tree, AllocError>
         ensures heading { IfOk result (λ t. heading t ≡ (object.now.shape, object.now.reals, description object.now)) }
         ensures rows { IfOk result (λ t. t.rows ≡ []) }
@@ -67,6 +70,7 @@ impl Tree {
         })
     }
 
+    /// Makes what stands in the place of a tree that was removed.
     pub(crate) fn absent(alloc: Global) -> Result<Tree, AllocError>
         ensures heading { IfOk result (λ t. heading t ≡ (Shape.Absent, 0, [])) }
         ensures rows { IfOk result (λ t. t.rows ≡ []) }
@@ -113,6 +117,7 @@ impl Tree {
         Ok(row)
     }
 
+    /// Copies the tree, which shares its rows.
     pub(crate) fn copy(&self) -> Result<Tree, AllocError>
         ensures heading { IfOk result (λ t. heading t ≡ heading self.now) }
         ensures rows { IfOk result (λ t. t.rows ≡ self.now.rows) }
@@ -125,6 +130,7 @@ impl Tree {
         })
     }
 
+    /// Writes the table's row of this number into `row`, and returns whether there is one.
     pub(crate) fn get(&self, id: i64, row: &mut Row) -> Result<bool, AllocError>
         requires { self.now.shape ≡ Shape.Table }
         ensures { IfOk result (Finds self.now.rows id row.new) }
@@ -188,6 +194,7 @@ impl Tree {
         at.checked_sub(below)
     }
 
+    /// Adds a row to a table, or replaces the one of its number.
     fn put(&mut self, alloc: Global, new: &Row) -> Result<(), AllocError>
         requires table { self.old.shape ≡ Shape.Table }
         requires keyed { IsTrue (is_int (rowid new.now)) }
@@ -204,6 +211,7 @@ impl Tree {
         }
     }
 
+    /// Removes the row of this number from a table.
     fn delete(&mut self, alloc: Global, id: i64) -> Result<(), AllocError>
         requires { self.old.shape ≡ Shape.Table }
         ensures ok { OnOk result (self.new.rows ≡ without_rowid id self.old.rows) }
@@ -218,6 +226,7 @@ impl Tree {
         }
     }
 
+    /// Adds an entry to an index.
     fn insert(&mut self, alloc: Global, order: Order, new: &Row) -> Result<(), AllocError>
         requires { self.old.shape ≡ Shape.Index order }
         ensures ok { OnOk result (self.new.rows ≡ insert_entry order new.now self.old.rows) }
@@ -233,6 +242,7 @@ impl Tree {
         }
     }
 
+    /// Removes an entry from an index.
     fn remove(&mut self, alloc: Global, order: Order, entry: &Row) -> Result<(), AllocError>
         requires { self.old.shape ≡ Shape.Index order }
         ensures ok { OnOk result (self.new.rows ≡ remove_entry order entry.now self.old.rows) }
@@ -247,6 +257,7 @@ impl Tree {
         }
     }
 
+    /// Makes one of these four changes.
     pub(crate) fn apply(&mut self, alloc: Global, edit: Edit<'_>) -> Result<(), AllocError>
         requires { Fits edit self.old.shape }
         ensures ok { OnOk result (self.new.rows ≡ edited edit.entry self.old.rows) }

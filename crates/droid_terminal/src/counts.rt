@@ -116,6 +116,7 @@ impl Counts {
         }
     }
 
+    /// Counts how a file was identified.
     fn count_method(&mut self, method: Method)
         ensures { self.new ≡ after_method method self.old }
     {
@@ -126,6 +127,7 @@ impl Counts {
         }
     }
 
+    /// Counts a file whose extension contradicts its formats.
     fn count_mismatch(&mut self, mismatch: bool)
         ensures { self.new ≡ after_mismatch mismatch self.old }
     {

@@ -55,6 +55,7 @@ fn folder_fault<R: Files>(rt: &R, path: &str) -> Option<ErrorKind> {
     }
 }
 
+/// Says why a folder can't be listed, and what to do.
 fn folder_advice(kind: ErrorKind) -> &'static str {
     match kind {
         ErrorKind::NotFound => "its folder does not exist: create it first",

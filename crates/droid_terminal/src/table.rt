@@ -92,6 +92,7 @@ impl Display for Formats<'_> {
     }
 }
 
+/// Writes a line for each of these formats.
 fn write_formats<W: Write>(f: &mut Formatter<W>, reported: &[FormatCount]) -> fmt::Result
     ensures { WritesOnOk W.write_str_gives f.old result (flat_map format_line reported.now) f.new }
 {

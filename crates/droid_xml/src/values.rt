@@ -26,6 +26,7 @@ struct Draft {
 }
 
 impl Draft {
+    /// Begins a value without bytes.
     fn new(alloc: Global) -> Self
         ensures { partial result ≡ nothing }
     {

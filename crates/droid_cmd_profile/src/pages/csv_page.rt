@@ -55,6 +55,7 @@ fn page_of(alloc: Global, report: &Report, texts: PageTexts<'_>) -> Result<Strin
     Ok(page)
 }
 
+/// Returns the lines above the page's tables: what was profiled, when, and by which hash.
 fn about_of(alloc: Global, texts: PageTexts<'_>, hash: HashColumn) -> Result<String, AllocError>
     ensures { IfOk result (λ about.
         string_bytes about

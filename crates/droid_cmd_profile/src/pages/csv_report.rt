@@ -78,12 +78,14 @@ fn moment_now<R: Clock + AllocGlobal>(rt: &R) -> Result<Text, AllocError> {
     }
 }
 
+/// Returns the seconds since 1970 by the clock, if it isn't before.
 fn seconds_now<R: Clock>(rt: &R) -> Option<u64> {
     let now = SystemTime::now(rt).ok()?;
     let since = now.duration_since(UNIX_EPOCH).ok()?;
     Some(since.as_secs())
 }
 
+/// Returns the text of a time in seconds since 1970.
 fn moment_of<R: AllocGlobal>(rt: &R, seconds: u64) -> Result<Text, AllocError> {
     moment_text(rt.alloc(), seconds.min(LAST_SECOND) as i64)
 }

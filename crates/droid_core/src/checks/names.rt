@@ -16,6 +16,7 @@ pub fn is_bad_name(name: &str) -> bool
         || has_separator(name.as_bytes())
 }
 
+/// Returns whether a name has a slash or a zero byte.
 fn has_separator(name: &[u8]) -> bool
     ensures { result ≡ list_any is_separator name.now }
 {

@@ -66,6 +66,7 @@ pub fn is_carried(version: u8, hash: HashKind) -> bool
     is_md5(hash)
 }
 
+/// Returns whether a profile's files get MD5s, as version 1 of a Finished needs them.
 fn is_md5(hash: HashKind) -> bool
     ensures { result ≡ is_md5 hash }
 {

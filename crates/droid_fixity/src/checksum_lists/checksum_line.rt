@@ -29,6 +29,7 @@ pub fn add_line(text: &mut Vec<u8>, hash: HashValue, path: &str) -> Result<(), A
     }
 }
 
+/// Returns a path without the slash in front, as lists have it.
 fn without_slash(path: &[u8]) -> &[u8]
     ensures { result.now ≡ writing.without_slash path.now }
 {
@@ -60,6 +61,7 @@ fn add_line_below(text: &mut Vec<u8>, hash: HashValue, path: &[u8]) -> Result<()
     }
 }
 
+/// Returns the 32 digits of an MD5.
 fn md5_digits(digest: [u8; 16]) -> [u8; 32]
     ensures { result ≡ encode_lower digest }
 {
@@ -70,6 +72,7 @@ fn md5_digits(digest: [u8; 16]) -> [u8; 32]
     }
 }
 
+/// Returns the 64 digits of a SHA-256.
 fn sha256_digits(digest: [u8; 32]) -> [u8; 64]
     ensures { result ≡ encode_lower digest }
 {
@@ -99,12 +102,14 @@ fn has_escaped(path: &[u8]) -> bool
     path.iter().any(|byte| is_escaped(*byte))
 }
 
+/// Returns whether a byte of a path is written with a backslash.
 fn is_escaped(byte: u8) -> bool
     ensures { result ≡ spellings.is_escaped byte }
 {
     byte == b'\\' || byte == b'\n' || byte == b'\r'
 }
 
+/// Appends the line of a file whose path has nothing to escape.
 fn add_plain_line(text: &mut Vec<u8>, digits: &[u8], path: &[u8]) -> Result<(), AllocError>
     ensures added { OnOk result (text.new.items ≡ text.old.items ++ writing.plain_line digits.now path.now) }
     ensures front { KeepsFront text.old.items text.new.items }
@@ -115,6 +120,7 @@ fn add_plain_line(text: &mut Vec<u8>, digits: &[u8], path: &[u8]) -> Result<(), 
     Ok(())
 }
 
+/// Appends the line of a file whose path is escaped, with a backslash in front.
 fn add_escaped_line(text: &mut Vec<u8>, digits: &[u8], path: &[u8]) -> Result<(), AllocError>
     ensures added { OnOk result
         (text.new.items ≡ text.old.items ++ 92 ∷ writing.plain_line digits.now (spellings.escaped path.now)) }
@@ -148,6 +154,7 @@ fn add_escaped(text: &mut Vec<u8>, path: &[u8]) -> Result<(), AllocError>
     Ok(())
 }
 
+/// Appends a byte of a path, escaped where it has to be.
 fn add_escaped_byte(text: &mut Vec<u8>, byte: u8) -> Result<(), AllocError>
     ensures added { OnOk result (text.new.items ≡ text.old.items ++ spellings.escaped_byte byte) }
     ensures front { KeepsFront text.old.items text.new.items }

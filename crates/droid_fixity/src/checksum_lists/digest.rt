@@ -19,6 +19,7 @@ pub(crate) fn hash_of(digits: &[u8]) -> Option<HashValue>
     None
 }
 
+/// Reads an MD5 from 32 hexadecimal digits.
 pub(crate) fn md5_of(digits: &[u8]) -> Option<HashValue>
     ensures { result ≡ digests.md5_of digits.now }
 {
@@ -28,6 +29,7 @@ pub(crate) fn md5_of(digits: &[u8]) -> Option<HashValue>
     }
 }
 
+/// Reads a SHA-256 from 64 hexadecimal digits.
 pub(crate) fn sha256_of(digits: &[u8]) -> Option<HashValue>
     ensures { result ≡ digests.sha256_of digits.now }
 {

@@ -30,6 +30,7 @@ fn checksum_entry(line: &[u8]) -> Option<(HashValue, Escapes, &[u8])>
     }
 }
 
+/// Reads a line of `md5sum`: digest, two spaces (or a space and `*`), path.
 #[tactic(auto, unfolding(crate::specs::Lines::plain_entry))]
 fn plain_entry(line: &[u8]) -> Option<(HashValue, Escapes, &[u8])>
     ensures { option_map (λ entry. (entry.0, entry.1, entry.2.now)) result ≡ lines.plain_entry line.now }
@@ -40,6 +41,7 @@ fn plain_entry(line: &[u8]) -> Option<(HashValue, Escapes, &[u8])>
     Some((hash, escapes_of(line), text))
 }
 
+/// Reads a line of `md5sum --tag` or `sha256sum --tag`.
 fn tag_entry(line: &[u8]) -> Option<(HashValue, Escapes, &[u8])>
     ensures { option_map (λ entry. (entry.0, entry.1, entry.2.now)) result ≡ lines.tag_entry line.now }
 {
@@ -57,6 +59,7 @@ fn tag_parts(line: &[u8]) -> Option<(HashValue, &[u8])>
     }
 }
 
+/// Reads a line `MD5 (PATH) = DIGEST`.
 #[tactic(auto, unfolding(crate::specs::Lines::md5_tag, crate::specs::Lines::tagged))]
 fn md5_tag(line: &[u8]) -> Option<(HashValue, &[u8])>
     ensures { option_map (λ parts. (parts.0, parts.1.now)) result ≡ lines.md5_tag line.now }
@@ -68,6 +71,7 @@ fn md5_tag(line: &[u8]) -> Option<(HashValue, &[u8])>
     Some((hash, path))
 }
 
+/// Reads a line `SHA256 (PATH) = DIGEST`.
 #[tactic(auto, unfolding(crate::specs::Lines::sha256_tag, crate::specs::Lines::tagged))]
 fn sha256_tag(line: &[u8]) -> Option<(HashValue, &[u8])>
     ensures { option_map (λ parts. (parts.0, parts.1.now)) result ≡ lines.sha256_tag line.now }
@@ -100,6 +104,7 @@ fn before<'a>(end: &[u8], text: &'a [u8]) -> Option<&'a [u8]>
     }
 }
 
+/// Reads a line of a bag's manifest: digest, spaces or tabs, perhaps `*`, path.
 #[tactic(auto, unfolding(crate::specs::Lines::bag_entry))]
 fn bag_entry(line: &[u8]) -> Option<(HashValue, Escapes, &[u8])>
     ensures { option_map (λ entry. (entry.0, entry.1, entry.2.now)) result ≡ lines.bag_entry line.now }
@@ -126,6 +131,7 @@ fn escapes_of(line: &[u8]) -> Escapes
     }
 }
 
+/// Returns a line without the backslash in front that says that its path is escaped.
 fn without_backslash(line: &[u8]) -> &[u8]
     ensures { result.now ≡ lines.without_backslash line.now }
 {
@@ -145,12 +151,14 @@ fn cut_at_gap(line: &[u8]) -> Option<(&[u8], &[u8])>
     }
 }
 
+/// Returns the place of the first space or tab.
 fn first_gap(line: &[u8]) -> Option<usize>
     ensures { result ≡ position lines.is_gap line.now }
 {
     line.iter().position(|byte| is_gap(*byte))
 }
 
+/// Returns the place of the first byte that is neither space nor tab.
 fn first_no_gap(line: &[u8]) -> Option<usize>
     ensures { result ≡ position lines.is_no_gap line.now }
 {
@@ -187,6 +195,7 @@ fn behind_gaps(text: &[u8]) -> Option<&[u8]>
     }
 }
 
+/// Returns a text without the `*` in front, if it has one.
 fn without_star(text: &[u8]) -> &[u8]
     ensures { result.now ≡ lines.without_star text.now }
 {

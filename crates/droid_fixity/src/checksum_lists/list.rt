@@ -98,6 +98,7 @@ fn take_file(items: &mut Vec<Item>, number: u64, item: Item) -> Result<(), Manif
     Ok(())
 }
 
+/// Appends an item.
 fn add_item(items: &mut Vec<Item>, item: Item) -> Result<(), AllocError>
     ensures { OnOk result (items.new.items ≡ items.old.items ++ item ∷ []) }
 {

@@ -17,6 +17,7 @@ pub(crate) fn below(form: ManifestForm, text: &[u8]) -> Option<&[u8]>
     }
 }
 
+/// Returns a path without the `./` in front, if it has one.
 fn without_dot(text: &[u8]) -> &[u8]
     ensures { result.now ≡ paths.without_dot text.now }
 {

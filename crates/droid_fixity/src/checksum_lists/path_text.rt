@@ -114,6 +114,7 @@ fn byte_in_front(text: &[u8]) -> Option<u8>
     }
 }
 
+/// Returns the byte that two digits behind a `%` stand for: a line feed, a carriage return or a percent sign.
 fn byte_behind_percent(digits: &[u8]) -> Option<u8>
     ensures { result ≡ spellings.byte_behind_percent digits.now }
 {

@@ -38,6 +38,7 @@ pub(crate) fn has_returns(form: ManifestForm, text: &[u8]) -> bool
     }
 }
 
+/// Returns whether a text has a carriage return.
 fn has_return(text: &[u8]) -> bool
     ensures { result ≡ list_any (λ b. b == 13) text.now }
 {

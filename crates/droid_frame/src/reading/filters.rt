@@ -29,6 +29,7 @@ pub(crate) fn filter_of(alloc: Global, bytes: &[u8]) -> Result<Filter, BodyFault
     Ok(filter)
 }
 
+/// Returns whether all these bytes spell a filter, without taking memory.
 #[tactic(auto, unfolding(crate::specs::FilterValues::filter_value, crate::specs::Reading::whole))]
 fn is_filter(bytes: &[u8]) -> bool
     ensures { result ≡ is_some (filter_value bytes.now) }
@@ -49,6 +50,7 @@ fn after_filter(bytes: &[u8]) -> Option<&[u8]>
     after_criteria(usize::from(count), rest)
 }
 
+/// Returns the bytes behind this many criteria, or `None` if they are malformed.
 fn after_criteria(count: usize, bytes: &[u8]) -> Option<&[u8]>
     ensures { option_map (λ rest. rest.now) result ≡ option_map (λ x. x.1) (sequence_at criterion_at count bytes.now) }
 {
@@ -59,6 +61,7 @@ fn after_criteria(count: usize, bytes: &[u8]) -> Option<&[u8]>
     Some(rest)
 }
 
+/// Returns the bytes behind a criterion, or `None` if it is malformed.
 #[tactic(auto, unfolding(crate::specs::FilterValues::criterion_at, crate::specs::FilterValues::tagged_at))]
 fn after_criterion(bytes: &[u8]) -> Option<&[u8]>
     ensures { option_map (λ rest. rest.now) result ≡ option_map (λ x. x.1) (criterion_at bytes.now) }
@@ -74,6 +77,7 @@ fn after_criterion(bytes: &[u8]) -> Option<&[u8]>
     }
 }
 
+/// Returns the bytes behind a list of texts, or `None` if it is malformed.
 #[tactic(auto, unfolding(crate::specs::FilterValues::list_at, crate::specs::SequenceFields::counted_at))]
 fn after_list(bytes: &[u8]) -> Option<&[u8]>
     ensures { option_map (λ rest. rest.now) result ≡ option_map (λ x. x.1) (list_at bytes.now) }
@@ -94,6 +98,7 @@ fn filter_at(alloc: Global, bytes: &[u8]) -> Result<(Filter, &[u8]), BodyFault>
     Ok((Filter { all, criteria }, rest))
 }
 
+/// Reads this many criteria.
 fn criteria_at(alloc: Global, count: usize, bytes: &[u8]) -> Result<(Criteria, &[u8]), BodyFault>
     ensures { Gives (λ x. (x.0, x.1.now)) result (sequence_at criterion_at count bytes.now) }
 {
@@ -107,6 +112,7 @@ fn criteria_at(alloc: Global, count: usize, bytes: &[u8]) -> Result<(Criteria, &
     Ok((criteria, rest))
 }
 
+/// Reads a criterion: its tag, and what the tag says that follows.
 #[tactic(auto, unfolding(crate::specs::FilterValues::criterion_at))]
 fn criterion_at(alloc: Global, bytes: &[u8]) -> Result<(Criterion, &[u8]), BodyFault>
     ensures { Gives (λ x. (x.0, x.1.now)) result (criterion_at bytes.now) }
@@ -115,6 +121,7 @@ fn criterion_at(alloc: Global, bytes: &[u8]) -> Result<(Criterion, &[u8]), BodyF
     tagged_at(alloc, tag, rest)
 }
 
+/// Reads what stands behind this tag of a criterion.
 #[tactic(auto, unfolding(crate::specs::FilterValues::tagged_at, crate::specs::FilterValues::puid_in_at, crate::specs::FilterValues::ext_in_at))]
 fn tagged_at(alloc: Global, tag: u8, bytes: &[u8]) -> Result<(Criterion, &[u8]), BodyFault>
     ensures { Gives (λ x. (x.0, x.1.now)) result (tagged_at tag bytes.now) }
@@ -132,6 +139,7 @@ fn tagged_at(alloc: Global, tag: u8, bytes: &[u8]) -> Result<(Criterion, &[u8]),
     }
 }
 
+/// Reads a list of texts.
 #[tactic(auto, unfolding(crate::specs::FilterValues::list_at, crate::specs::SequenceFields::counted_at))]
 fn list_at(alloc: Global, bytes: &[u8]) -> Result<(Texts, &[u8]), BodyFault>
     ensures { Gives (λ x. (x.0, x.1.now)) result (list_at bytes.now) }
@@ -170,6 +178,7 @@ fn plain_at(tag: u8, bytes: &[u8]) -> Option<(Criterion, &[u8])>
     }
 }
 
+/// Reads whether a node is a folder or a file, from its number.
 #[tactic(auto, unfolding(crate::specs::FilterValues::node_kind_at))]
 fn node_kind_at(bytes: &[u8]) -> Option<(NodeKind, &[u8])>
     ensures { option_map (λ x. (x.0, x.1.now)) result ≡ node_kind_at bytes.now }

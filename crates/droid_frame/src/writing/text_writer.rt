@@ -21,6 +21,7 @@ pub(crate) fn append_texts(out: &mut Vec<u8>, texts: &Texts) -> Result<(), Alloc
     Ok(())
 }
 
+/// Appends a text behind its length in one byte.
 fn append_text(out: &mut Vec<u8>, text: &Text) -> Result<(), AllocError>
     requires { length text.now ≤ 255 }
     ensures added { OnOk result (out.new.items ≡ out.old.items ++ sized_bytes text.now) }

@@ -79,6 +79,7 @@ fn see_regular<R: Files>(runtime: &R, path: &str) -> Result<(), DiskFault> {
     }
 }
 
+/// Opens the file for reading and appending, and makes it with mode 0600 if there is none.
 fn open_for_appending<R: Files<File = File>>(runtime: &R, path: &str) -> io::Result<File> {
     OpenOptions::new()
         .read(true)
@@ -212,6 +213,7 @@ impl<'a, R: Files<File = File> + Eprint + AllocGlobal> FileDrive<'a, R> {
     }
 }
 
+/// Drops the system's reason of a failed call.
 fn drive_result<T: Drop>(answer: io::Result<T>) -> Result<T, DriveError> {
     match answer {
         Ok(value) => Ok(value),

@@ -198,6 +198,7 @@ fn has_right_mark(key: Key, at: u64, first: bool, bytes: &[u8]) -> bool
     front == wanted.as_slice()
 }
 
+/// Reads a big-endian number of four bytes from the front.
 fn number_of(bytes: &[u8]) -> Option<(u32, &[u8])>
     ensures { Gives (λ x. (x.0, x.1.now)) result (number_at bytes.now) }
 {
@@ -211,6 +212,7 @@ fn number_of(bytes: &[u8]) -> Option<(u32, &[u8])>
     ))
 }
 
+/// Reads as many bytes as a number before them says from the front.
 #[tactic(auto, unfolding(crate::specs::Reading::string_at))]
 fn string_of(bytes: &[u8]) -> Option<(&[u8], &[u8])>
     ensures { Gives (λ x. (x.0.now, x.1.now)) result (string_at bytes.now) }

@@ -70,6 +70,7 @@ fn copies_or_none(alloc: Global, puids: &[Text]) -> Result<Vec<Blob>, AllocError
     Ok(copies)
 }
 
+/// Returns a list of one empty PUID, as the row of a file without a format has it.
 fn one_empty(alloc: Global) -> Result<Vec<Blob>, AllocError>
     ensures { IfOk result (λ copies. copies.items ≡ [] ∷ []) }
 {
@@ -78,6 +79,7 @@ fn one_empty(alloc: Global) -> Result<Vec<Blob>, AllocError>
     Ok(copies)
 }
 
+/// Copies PUIDs.
 fn copies_of(alloc: Global, puids: &[Text]) -> Result<Vec<Blob>, AllocError>
     ensures { IfOk result (λ copies. copies.items ≡ puids.now) }
 {

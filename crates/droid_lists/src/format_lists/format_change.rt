@@ -70,6 +70,7 @@ fn add_change(
     Ok(())
 }
 
+/// Makes the change of a file, with the formats of both sides.
 fn change_of(
     alloc: Global,
     path: &[u8],
@@ -102,12 +103,14 @@ fn has_all(puids: &[Blob], others: &[Blob]) -> bool
     others.iter().all(|other| is_among(puids, other))
 }
 
+/// Returns whether a PUID is among others.
 fn is_among(puids: &[Blob], puid: &Blob) -> bool
     ensures { result ≡ formats.is_among puids.now puid.now }
 {
     puids.iter().any(|one| is_same(one, puid))
 }
 
+/// Returns whether two PUIDs are the same bytes.
 fn is_same(one: &Blob, other: &Blob) -> bool
     ensures { result ≡ bytes_eq one.now other.now }
 {
@@ -137,6 +140,7 @@ fn append_after_spaces(text: &mut Vec<u8>, puids: &[Blob]) -> Result<(), AllocEr
     Ok(())
 }
 
+/// Appends a PUID behind a space.
 fn append_after_space(text: &mut Vec<u8>, puid: &Blob) -> Result<(), AllocError>
     ensures { OnOk result (text.new.items ≡ text.old.items ++ 32 ∷ puid.now) }
 {

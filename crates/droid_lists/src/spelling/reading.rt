@@ -162,7 +162,7 @@ fn take_row<'a>(
     }
 }
 
-/// Returns the first wrong column of a row behind the first; if there is none, notes its format.
+/// Reads one more row of a file with several formats: returns its first wrong column; if there is none, notes its format.
 #[tactic(auto, unfolding(crate::specs::ProfileRows::wrong_more))]
 fn wrong_more(
     formats: &mut Formats,

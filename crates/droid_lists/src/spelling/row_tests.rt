@@ -97,6 +97,7 @@ pub(crate) fn wrong_content(hash: HashKind, row: &ByteRecord) -> Option<u8>
     None
 }
 
+/// Returns whether STATUS is `Done`.
 fn is_done(row: &ByteRecord) -> bool
     ensures { result ≡ tests.is_done (fields_of row.now) }
 {
@@ -104,6 +105,7 @@ fn is_done(row: &ByteRecord) -> bool
     field(row, 6) == done
 }
 
+/// Returns whether SIZE is a number for a file, and empty for a folder.
 fn has_size(row: &ByteRecord) -> bool
     ensures { result ≡ tests.has_size (fields_of row.now) }
 {
@@ -114,6 +116,7 @@ fn has_size(row: &ByteRecord) -> bool
     }
 }
 
+/// Returns whether the hash's column is a digest of this kind for a file, and empty for a folder.
 fn has_digest(hash: HashKind, row: &ByteRecord) -> bool
     ensures { result ≡ tests.has_digest hash (fields_of row.now) }
 {
@@ -124,6 +127,7 @@ fn has_digest(hash: HashKind, row: &ByteRecord) -> bool
     }
 }
 
+/// Returns whether FORMAT_COUNT is a number for a file, and empty for a folder.
 fn has_count(row: &ByteRecord) -> bool
     ensures { result ≡ tests.has_count (fields_of row.now) }
 {
@@ -134,6 +138,7 @@ fn has_count(row: &ByteRecord) -> bool
     }
 }
 
+/// Returns whether EXT is the extension of NAME, and empty for a folder.
 fn is_extension(row: &ByteRecord) -> bool
     ensures { result ≡ tests.is_extension (fields_of row.now) }
 {
@@ -144,6 +149,7 @@ fn is_extension(row: &ByteRecord) -> bool
     }
 }
 
+/// Returns whether a text is what stands after the last dot of a name.
 fn is_extension_of(name: &[u8], text: &[u8]) -> bool
     ensures { result ≡ tests.is_extension_of name.now text.now }
 {
@@ -153,6 +159,7 @@ fn is_extension_of(name: &[u8], text: &[u8]) -> bool
     }
 }
 
+/// Returns whether a text is a moment as the export writes it.
 fn is_moment_text(text: &[u8]) -> bool
     ensures { result ≡ tests.is_moment_text text.now }
 {
@@ -162,12 +169,14 @@ fn is_moment_text(text: &[u8]) -> bool
     }
 }
 
+/// Returns whether a text is a digest of this kind in lower-case digits.
 fn is_digest(hash: HashKind, text: &[u8]) -> bool
     ensures { result ≡ tests.is_digest hash text.now }
 {
     text.len() == digest_length(hash) && are_digest_bytes(text)
 }
 
+/// Returns how many digits a digest of this kind has.
 fn digest_length(hash: HashKind) -> usize
     ensures { result ≡ tests.digest_length hash }
 {
@@ -178,6 +187,7 @@ fn digest_length(hash: HashKind) -> usize
     }
 }
 
+/// Returns whether bytes are all lower-case hexadecimal digits.
 fn are_digest_bytes(text: &[u8]) -> bool
     ensures { result ≡ list_all tests.is_digest_byte text.now }
 {
@@ -185,6 +195,7 @@ fn are_digest_bytes(text: &[u8]) -> bool
         .all(|c| c.is_ascii_digit() || b'a' <= *c && *c <= b'f')
 }
 
+/// Returns whether METHOD is `Signature` or `Extension` in a row with a format, and empty in another.
 fn is_method(row: &ByteRecord) -> bool
     ensures { result ≡ tests.is_method (fields_of row.now) }
 {
@@ -196,6 +207,7 @@ fn is_method(row: &ByteRecord) -> bool
     }
 }
 
+/// Returns whether METHOD is `Signature`.
 fn is_by_signature(row: &ByteRecord) -> bool
     ensures { result ≡ tests.is_by_signature (fields_of row.now) }
 {
@@ -203,6 +215,7 @@ fn is_by_signature(row: &ByteRecord) -> bool
     field(row, 5) == signature
 }
 
+/// Returns whether EXTENSION_MISMATCH is `true` or `false`, and `true` only by signature and with an extension.
 fn is_mismatch(row: &ByteRecord) -> bool
     ensures { result ≡ tests.is_mismatch (fields_of row.now) }
 {

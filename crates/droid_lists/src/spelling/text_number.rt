@@ -65,6 +65,7 @@ pub(crate) fn is_next(last: u64, number: Option<u64>) -> bool
     }
 }
 
+/// Returns whether there is a number, and it is at most this one.
 fn is_at_most(most: u64, number: Option<u64>) -> bool
     ensures { result ≡ tests.is_at_most most number }
 {

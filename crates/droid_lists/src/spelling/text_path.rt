@@ -32,6 +32,7 @@ pub(crate) fn path_of(path: &[u8]) -> Option<&str>
     text_of(path)
 }
 
+/// Returns whether bytes are a path that a profile can have: names of at most 255 bytes, 4,096 bytes in all.
 fn is_path(path: &[u8]) -> bool
     ensures { result ≡ tests.is_path path.now }
 {
@@ -79,6 +80,7 @@ fn is_last(text: &[u8], name: &[u8]) -> bool
     }
 }
 
+/// Returns whether a name has no slash.
 fn has_no_slash(name: &[u8]) -> bool
     ensures { result ≡ fields.has_no_slash name.now }
 {

@@ -52,6 +52,7 @@ fn number_by(name: &str, attempt: u32, kind: u8, body: &[u8]) -> u64
     }
 }
 
+/// Returns the number of a Piece, which is made of its profile, file and index.
 fn piece_number(body: &[u8]) -> u64
     requires { 12 ≤ length body.now }
     ensures { result ≡ piece_number body.now }

@@ -44,6 +44,7 @@ fn is_node(name_at: usize, body: &[u8]) -> bool
     }
 }
 
+/// Returns whether bytes are UTF-8.
 fn is_text(bytes: &[u8]) -> bool
     ensures { result ≡ is_utf8 bytes.now }
 {

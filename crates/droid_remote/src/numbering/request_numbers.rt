@@ -42,6 +42,7 @@ pub(crate) fn packed_part(profile: u32, from: u64) -> Option<u64>
     packed(0, profile, 0, from / PART_SIZE)
 }
 
+/// Returns whether profile, file and index fit 6, 17 and 20 bits of a number.
 fn fits_fields(profile: u32, file: u32, index: u64) -> bool
     ensures { result ≡ fits_fields profile file index }
 {

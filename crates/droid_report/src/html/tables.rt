@@ -78,6 +78,7 @@ impl Display for Tables<'_> {
     }
 }
 
+/// Writes the tables, one after the other.
 fn write_tables<W: Write>(f: &mut Formatter<W>, tables: &[Table]) -> fmt::Result
     ensures { WritesOnOk W.write_str_gives f.old result (flat_map table_text tables.now) f.new }
 {
@@ -115,6 +116,7 @@ impl Display for Heads<'_> {
     }
 }
 
+/// Writes the heads of a table's columns.
 fn write_heads<W: Write>(f: &mut Formatter<W>, heads: &[String]) -> fmt::Result
     ensures { WritesOnOk W.write_str_gives f.old result (flat_map head_text heads.now) f.new }
 {
@@ -124,6 +126,7 @@ fn write_heads<W: Write>(f: &mut Formatter<W>, heads: &[String]) -> fmt::Result
     Ok(())
 }
 
+/// Writes the head of a column.
 #[tactic(auto, unfolding(crate::specs::TableTrees::head_text))]
 fn write_head<W: Write>(f: &mut Formatter<W>, head: &String) -> fmt::Result
     ensures { WritesOnOk W.write_str_gives f.old result (head_text head.now) f.new }
@@ -160,6 +163,7 @@ impl Display for EachRow<'_> {
     }
 }
 
+/// Writes the rows of a table.
 fn write_rows<W: Write>(f: &mut Formatter<W>, rows: &[Vec<Cell>]) -> fmt::Result
     ensures { WritesOnOk W.write_str_gives f.old result (flat_map row_text rows.now) f.new }
 {
@@ -169,6 +173,7 @@ fn write_rows<W: Write>(f: &mut Formatter<W>, rows: &[Vec<Cell>]) -> fmt::Result
     Ok(())
 }
 
+/// Writes a row of a table.
 #[tactic(auto, unfolding(crate::specs::TableTrees::row_text))]
 fn write_row<W: Write>(f: &mut Formatter<W>, row: &Vec<Cell>) -> fmt::Result
     ensures { WritesOnOk W.write_str_gives f.old result (row_text row.now) f.new }
@@ -188,6 +193,7 @@ impl Display for Cells<'_> {
     }
 }
 
+/// Writes the cells of a row.
 fn write_cells<W: Write>(f: &mut Formatter<W>, cells: &[Cell]) -> fmt::Result
     ensures { WritesOnOk W.write_str_gives f.old result (flat_map cell_text cells.now) f.new }
 {

@@ -48,6 +48,7 @@ impl Display for ClassName {
     }
 }
 
+/// Returns 4 to this power, the bound of a class of sizes.
 fn power_of_four(n: usize) -> u64
     ensures { result ≡ power_of_four n }
 {

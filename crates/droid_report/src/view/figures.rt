@@ -81,6 +81,7 @@ fn add_groups(
     Ok(())
 }
 
+/// Appends the row of a number with its name.
 fn add_figure(
     lines: &mut Vec<Vec<Cell>>,
     alloc: Global,

@@ -38,6 +38,7 @@ impl<'a> Orders<'a> {
     }
 }
 
+/// Orders groups by how many files they have, the largest first.
 fn by_count<'a>(alloc: Global, groups: &'a Groups) -> Result<Vec<Group<'a>>, AllocError>
     ensures { IfOk result (λ ranked. IsOrder by_count 1 groups.now ranked.items) }
 {
@@ -46,6 +47,7 @@ fn by_count<'a>(alloc: Global, groups: &'a Groups) -> Result<Vec<Group<'a>>, All
     Ok(ranked)
 }
 
+/// Orders groups by their bytes, the largest first.
 fn by_bytes<'a>(alloc: Global, groups: &'a Groups) -> Result<Vec<Group<'a>>, AllocError>
     ensures { IfOk result (λ ranked. IsOrder by_bytes 1 groups.now ranked.items) }
 {
@@ -54,6 +56,7 @@ fn by_bytes<'a>(alloc: Global, groups: &'a Groups) -> Result<Vec<Group<'a>>, All
     Ok(ranked)
 }
 
+/// Orders the groups of equal files by the bytes that the second and further copies take.
 fn copies<'a>(alloc: Global, groups: &'a Groups) -> Result<Vec<Group<'a>>, AllocError>
     ensures { IfOk result (λ ranked. IsOrder by_saved 2 groups.now ranked.items) }
 {

@@ -56,6 +56,7 @@ pub(crate) fn picture_note(limit: usize) -> &'static str
     }
 }
 
+/// Makes a bar for each of these groups.
 fn group_rows(
     alloc: Global,
     groups: &[Group<'_>],
@@ -72,6 +73,7 @@ fn group_rows(
     Ok(lines)
 }
 
+/// Makes the bar of a group, as long as its part of the largest.
 fn group_row(
     alloc: Global,
     group: &Group<'_>,
@@ -115,6 +117,7 @@ fn most_of(first: &[Group<'_>], rest: &[Group<'_>], measure: Measure) -> u64
     }
 }
 
+/// Returns the files or the bytes of a group.
 fn measure_of(group: &Group<'_>, measure: Measure) -> u64
     ensures { result ≡ measure_of measure group.now }
 {
@@ -124,6 +127,7 @@ fn measure_of(group: &Group<'_>, measure: Measure) -> u64
     }
 }
 
+/// Returns the files or the bytes of these groups together.
 fn rest_of(groups: &[Group<'_>], measure: Measure) -> u64
     ensures { result ≡ rest_of measure groups.now }
 {

@@ -22,6 +22,7 @@ pub(crate) fn file_rows(alloc: Global, rows: &[Row]) -> Result<Vec<Vec<Cell>>, A
     Ok(lines)
 }
 
+/// Makes the row of a file.
 fn file_line(alloc: Global, row: &Row) -> Result<Vec<Cell>, AllocError>
     ensures { IfOk result (λ line. row_seen line ≡ file_row row.now) }
 {
@@ -50,6 +51,7 @@ pub(crate) fn format_rows(
     Ok(lines)
 }
 
+/// Makes the row of a format.
 fn format_line(alloc: Global, format: &Group<'_>) -> Result<Vec<Cell>, AllocError>
     ensures { IfOk result (λ line. row_seen line ≡ format_row format.now) }
 {
@@ -97,6 +99,7 @@ pub(crate) fn copy_rows(alloc: Global, groups: &[Group<'_>]) -> Result<Vec<Vec<C
     Ok(lines)
 }
 
+/// Makes the row of a group of equal files.
 fn copy_line(alloc: Global, group: &Group<'_>) -> Result<Vec<Cell>, AllocError>
     ensures { IfOk result (λ line. row_seen line ≡ copy_row group.now) }
 {

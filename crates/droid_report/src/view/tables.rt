@@ -41,6 +41,7 @@ pub(crate) fn add_overview(
     Ok(())
 }
 
+/// Appends the two pictures of formats: by files and by bytes.
 fn add_pictures(
     tables: &mut Vec<Table>,
     alloc: Global,
@@ -71,6 +72,7 @@ fn add_pictures(
     Ok(())
 }
 
+/// Makes the table of totals.
 fn totals_table(alloc: Global, totals: Totals, orders: &Orders<'_>) -> Result<Table, AllocError>
     ensures { IfOk result (λ table. table_seen table ≡ shown.totals_table totals orders.now) }
 {
@@ -81,6 +83,7 @@ fn totals_table(alloc: Global, totals: Totals, orders: &Orders<'_>) -> Result<Ta
     Ok(table)
 }
 
+/// Makes a picture of formats by one measure.
 fn picture(
     alloc: Global,
     title: &str,
@@ -146,6 +149,7 @@ const DEPTHS: Frame<'static> = Frame {
     head: texts::SLASHES,
 };
 
+/// Makes the table of files by year, size or depth.
 fn class_table(
     alloc: Global,
     frame: Frame<'_>,
@@ -181,6 +185,7 @@ pub(crate) fn add_groups(
     Ok(())
 }
 
+/// Makes the table of formats.
 fn format_table(alloc: Global, formats: &[Group<'_>], limit: usize) -> Result<Table, AllocError>
     ensures { IfOk result (λ table. table_seen table ≡ shown.format_table formats.now limit) }
 {
@@ -192,6 +197,7 @@ fn format_table(alloc: Global, formats: &[Group<'_>], limit: usize) -> Result<Ta
     Ok(table)
 }
 
+/// Makes the table of equal files.
 fn copy_table(alloc: Global, groups: &[Group<'_>], limit: usize) -> Result<Table, AllocError>
     ensures { IfOk result (λ table. table_seen table ≡ shown.copy_table groups.now limit) }
 {
@@ -292,6 +298,7 @@ fn note_for(
     Ok(note)
 }
 
+/// Makes a table of files with a note below its title.
 fn file_table(
     alloc: Global,
     title: &str,

@@ -8,6 +8,7 @@ use sqlite_trees::store::{Alter, Shape};
 use sqlite_value::row::Row;
 use std::alloc::{AllocError, Global};
 
+// The trait of the kit's `sqlite_trees` that creates and removes tables; it says what each method has to do.
 impl Alter for TreeStore {
     ghost use Rattle.droid_store_trees.specs.Shown.{current};
     ghost use Rattle.droid_store_trees.specs.Laws.{is_listed};

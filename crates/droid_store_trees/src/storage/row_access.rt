@@ -10,6 +10,7 @@ use sqlite_trees::store::{Direction, Shape, Store};
 use sqlite_trees::typed::is_typed;
 use sqlite_value::row::Row;
 
+// The trait of the kit's `sqlite_trees` for rows and transactions; it says what each method has to do.
 impl Store for TreeStore {
     ghost use Rattle.droid_store_trees.specs.Shown.{view, current};
     ghost use Rattle.droid_store_trees.specs.Laws.{is_ordered, is_unaltered};

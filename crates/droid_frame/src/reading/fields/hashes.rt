@@ -27,6 +27,7 @@ pub(crate) fn digest_at(version: u8, bytes: &[u8]) -> Option<(HashValue, &[u8])>
     hash_value_at(kind, rest)
 }
 
+/// Reads a hash's kind from its number.
 #[tactic(auto, unfolding(crate::specs::HashFields::hash_kind_at))]
 fn hash_kind_at(bytes: &[u8]) -> Option<(HashKind, &[u8])>
     ensures { option_map (λ x. (x.0, x.1.now)) result ≡ hash_kind_at bytes.now }
@@ -39,6 +40,7 @@ fn hash_kind_at(bytes: &[u8]) -> Option<(HashKind, &[u8])>
     }
 }
 
+/// Reads a digest of this kind: as many bytes as the kind has.
 #[tactic(auto, unfolding(crate::specs::HashFields::hash_value_at))]
 fn hash_value_at(kind: HashKind, bytes: &[u8]) -> Option<(HashValue, &[u8])>
     ensures { option_map (λ x. (x.0, x.1.now)) result ≡ hash_value_at kind bytes.now }
@@ -56,6 +58,7 @@ fn hash_value_at(kind: HashKind, bytes: &[u8]) -> Option<(HashValue, &[u8])>
     }
 }
 
+/// Reads the 16 bytes of an MD5.
 #[tactic(auto, unfolding(crate::specs::HashFields::run_at))]
 fn md5_at(bytes: &[u8]) -> Option<([u8; 16], &[u8])>
     ensures { option_map (λ x. (x.0, x.1.now)) result ≡ run_at 16 bytes.now }
@@ -64,6 +67,7 @@ fn md5_at(bytes: &[u8]) -> Option<([u8; 16], &[u8])>
     Some((*md5, rest))
 }
 
+/// Reads the 32 bytes of a SHA-256.
 #[tactic(auto, unfolding(crate::specs::HashFields::run_at))]
 fn sha256_at(bytes: &[u8]) -> Option<([u8; 32], &[u8])>
     ensures { option_map (λ x. (x.0, x.1.now)) result ≡ run_at 32 bytes.now }

@@ -13,6 +13,7 @@ use crate::blob::Blob;
 use crate::method::Method;
 use crate::text::Text;
 
+/// Makes a text of all these bytes, or `None` if they are not UTF-8.
 pub(crate) fn text_of(bytes: Vec<u8>) -> Option<Text>
     ensures { result ≡ text_at bytes.items }
 {
@@ -22,6 +23,7 @@ pub(crate) fn text_of(bytes: Vec<u8>) -> Option<Text>
     }
 }
 
+/// Reads a number of one byte.
 #[tactic(auto, unfolding(crate::specs::Reading::byte_at))]
 pub(crate) fn u8_at(bytes: &[u8]) -> Option<(u8, &[u8])>
     ensures { option_map (λ x. (x.0, x.1.now)) result ≡ byte_at bytes.now }
@@ -32,6 +34,7 @@ pub(crate) fn u8_at(bytes: &[u8]) -> Option<(u8, &[u8])>
     }
 }
 
+/// Reads a big-endian number of two bytes.
 pub(crate) fn u16_at(bytes: &[u8]) -> Option<(u16, &[u8])>
     ensures { option_map (λ x. (x.0, x.1.now)) result ≡ number_at w16 bytes.now }
 {
@@ -40,6 +43,7 @@ pub(crate) fn u16_at(bytes: &[u8]) -> Option<(u16, &[u8])>
     Some((number, rest))
 }
 
+/// Reads a big-endian number of four bytes.
 pub(crate) fn u32_at(bytes: &[u8]) -> Option<(u32, &[u8])>
     ensures value { option_map (λ x. (x.0, x.1.now)) result ≡ number_at w32 bytes.now }
     ensures rest { IfSome result (λ x. IsEnd bytes.now x.1.now) }
@@ -49,6 +53,7 @@ pub(crate) fn u32_at(bytes: &[u8]) -> Option<(u32, &[u8])>
     Some((number, rest))
 }
 
+/// Reads a big-endian number of eight bytes.
 pub(crate) fn u64_at(bytes: &[u8]) -> Option<(u64, &[u8])>
     ensures value { option_map (λ x. (x.0, x.1.now)) result ≡ number_at w64 bytes.now }
     ensures rest { IfSome result (λ x. IsEnd bytes.now x.1.now) }
@@ -60,6 +65,7 @@ pub(crate) fn u64_at(bytes: &[u8]) -> Option<(u64, &[u8])>
     Some((number, rest))
 }
 
+/// Reads a signed number of eight bytes, in two's complement.
 #[tactic(auto, unfolding(crate::specs::Reading::signed_at))]
 pub(crate) fn i64_at(bytes: &[u8]) -> Option<(i64, &[u8])>
     ensures value { option_map (λ x. (x.0, x.1.now)) result ≡ signed_at bytes.now }
@@ -69,6 +75,7 @@ pub(crate) fn i64_at(bytes: &[u8]) -> Option<(i64, &[u8])>
     Some((number.cast_signed(), rest))
 }
 
+/// Reads a byte that is 0 (false) or 1 (true).
 #[tactic(auto, unfolding(crate::specs::Reading::truth_at))]
 pub(crate) fn bool_at(bytes: &[u8]) -> Option<(bool, &[u8])>
     ensures { option_map (λ x. (x.0, x.1.now)) result ≡ truth_at bytes.now }
@@ -80,6 +87,7 @@ pub(crate) fn bool_at(bytes: &[u8]) -> Option<(bool, &[u8])>
     }
 }
 
+/// Reads how a file was identified, from its number.
 #[tactic(auto, unfolding(crate::specs::Reading::method_at))]
 pub(crate) fn method_at(bytes: &[u8]) -> Option<(Method, &[u8])>
     ensures { option_map (λ x. (x.0, x.1.now)) result ≡ method_at bytes.now }

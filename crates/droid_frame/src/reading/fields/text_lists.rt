@@ -44,6 +44,7 @@ pub(crate) fn texts_at(
     Ok((texts, rest))
 }
 
+/// Reads a text of `least` to `most` bytes and copies it. Fails if it is malformed, or if memory runs out.
 fn sized_text_at(
     alloc: Global,
     least: u8,
@@ -56,6 +57,7 @@ fn sized_text_at(
     Ok((Text::copy_of(alloc, text)?, rest))
 }
 
+/// Reads a text of `least` to `most` bytes.
 #[tactic(auto, unfolding(crate::specs::TextListFields::sized_text_at))]
 fn sized_str_at(least: u8, most: u8, bytes: &[u8]) -> Option<(&str, &[u8])>
     ensures { option_map (λ x. (x.0.now, x.1.now)) result ≡ sized_text_at least most bytes.now }
@@ -65,6 +67,7 @@ fn sized_str_at(least: u8, most: u8, bytes: &[u8]) -> Option<(&str, &[u8])>
     Some((text, rest))
 }
 
+/// Reads `least` to `most` bytes behind their length in one byte.
 #[tactic(auto, unfolding(crate::specs::TextListFields::sized_at))]
 fn sized_at(least: u8, most: u8, bytes: &[u8]) -> Option<(&[u8], &[u8])>
     ensures { option_map (λ x. (x.0.now, x.1.now)) result ≡ sized_at least most bytes.now }
@@ -81,6 +84,7 @@ fn sized_at(least: u8, most: u8, bytes: &[u8]) -> Option<(&[u8], &[u8])>
     rest.split_at_checked(usize::from(*size))
 }
 
+/// Returns all these bytes as a text, or `None` if they are not UTF-8.
 fn str_of(bytes: &[u8]) -> Option<&str>
     ensures { option_map (λ text. text.now) result ≡ text_at bytes.now }
 {

@@ -54,6 +54,7 @@ fn are_puids(count: u16, bytes: &[u8]) -> bool
     }
 }
 
+/// Reads the fields of a Finished before its PUIDs.
 #[tactic(auto, unfolding(crate::specs::ReplyValues::finished_head_at))]
 fn finished_head_at(version: u8, bytes: &[u8]) -> Option<(FinishedHead, &[u8])>
     ensures { option_map (λ x. (x.0, x.1.now)) result ≡ finished_head_at version bytes.now }

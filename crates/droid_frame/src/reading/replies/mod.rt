@@ -47,6 +47,7 @@ pub fn reply_of(alloc: Global, frame: Frame) -> Result<Reply, BodyFault>
     value_of(alloc, frame.version, frame.kind, frame.body)
 }
 
+/// Reads the body of a reply of this kind, in a known version.
 #[tactic(auto, unfolding(crate::specs::ReplyValues::reply_value))]
 fn value_of(alloc: Global, version: u8, kind: u8, body: Blob) -> Result<Reply, BodyFault>
     ensures answer { IsReplyAnswer kind (reply_value version kind body) result }
@@ -89,6 +90,7 @@ fn plain(kind: u8, body: Blob) -> Option<Reply>
     }
 }
 
+/// Reads the body of a Made.
 #[tactic(auto, unfolding(crate::specs::ReplyValues::made_value))]
 fn made(body: &[u8]) -> Option<Reply>
     ensures { result ≡ made_value body.now }
@@ -97,6 +99,7 @@ fn made(body: &[u8]) -> Option<Reply>
     whole(rest, Reply::Made { profile })
 }
 
+/// Reads the body of a Node.
 #[tactic(auto, unfolding(crate::specs::ReplyValues::node_value))]
 fn node(body: &[u8]) -> Option<Reply>
     ensures { result ≡ node_value body.now }
@@ -105,6 +108,7 @@ fn node(body: &[u8]) -> Option<Reply>
     whole(rest, Reply::Node { id })
 }
 
+/// Reads the body of a Taken.
 #[tactic(auto, unfolding(crate::specs::ReplyValues::taken_value))]
 fn taken(body: &[u8]) -> Option<Reply>
     ensures { result ≡ taken_value body.now }
@@ -113,6 +117,7 @@ fn taken(body: &[u8]) -> Option<Reply>
     whole(rest, Reply::Taken { held })
 }
 
+/// Reads the body of an Abandoned, which is empty.
 #[tactic(auto, unfolding(crate::specs::ReplyValues::abandoned_value))]
 fn abandoned(body: &[u8]) -> Option<Reply>
     ensures { result ≡ abandoned_value body.now }
@@ -120,6 +125,7 @@ fn abandoned(body: &[u8]) -> Option<Reply>
     whole(body, Reply::Abandoned)
 }
 
+/// Reads the body of a Progress.
 #[tactic(auto, unfolding(crate::specs::ReplyValues::progress_value))]
 fn progress(body: &[u8]) -> Option<Reply>
     ensures { result ≡ progress_value body.now }
@@ -129,6 +135,7 @@ fn progress(body: &[u8]) -> Option<Reply>
     whole(rest, Reply::Progress { held, missing })
 }
 
+/// Reads the body of a Part, whose bytes it moves and does not copy.
 #[tactic(auto, unfolding(crate::specs::ReplyValues::part_value))]
 fn part(body: Blob) -> Option<Reply>
     ensures { result ≡ part_value body }
@@ -146,6 +153,7 @@ fn part(body: Blob) -> Option<Reply>
     })
 }
 
+/// Reads the body of a Refused.
 #[tactic(auto, unfolding(crate::specs::ReplyValues::refused_value))]
 fn refused(body: &[u8]) -> Option<Reply>
     ensures { result ≡ refused_value body.now }

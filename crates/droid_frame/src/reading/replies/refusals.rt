@@ -8,6 +8,7 @@ ghost use Rattle.droid_frame.specs.ReplyRefusals.{limit_reached_at, refusal_afte
 use crate::reading::fields::u32_at;
 use crate::refusal::{Limit, Refusal};
 
+/// Reads a refusal: its number, and what belongs to it.
 #[tactic(auto, unfolding(crate::specs::ReplyRefusals::refusal_at))]
 pub(crate) fn refusal_at(bytes: &[u8]) -> Option<(Refusal, &[u8])>
     ensures { option_map (λ x. (x.0, x.1.now)) result ≡ refusal_at bytes.now }
@@ -18,6 +19,7 @@ pub(crate) fn refusal_at(bytes: &[u8]) -> Option<(Refusal, &[u8])>
     }
 }
 
+/// Reads what stands behind this number of a refusal.
 #[tactic(auto, unfolding(crate::specs::ReplyRefusals::refusal_after))]
 fn refusal_after(number: u8, rest: &[u8]) -> Option<(Refusal, &[u8])>
     ensures { option_map (λ x. (x.0, x.1.now)) result ≡ refusal_after number rest.now }
@@ -30,6 +32,7 @@ fn refusal_after(number: u8, rest: &[u8]) -> Option<(Refusal, &[u8])>
     }
 }
 
+/// Reads the piece that is awaited, of a TooFarAhead.
 #[tactic(auto, unfolding(crate::specs::ReplyRefusals::too_far_at))]
 fn too_far_at(bytes: &[u8]) -> Option<(Refusal, &[u8])>
     ensures { option_map (λ x. (x.0, x.1.now)) result ≡ too_far_at bytes.now }
@@ -38,6 +41,7 @@ fn too_far_at(bytes: &[u8]) -> Option<(Refusal, &[u8])>
     Some((Refusal::TooFarAhead { missing }, rest))
 }
 
+/// Reads the first missing piece, of an Incomplete.
 #[tactic(auto, unfolding(crate::specs::ReplyRefusals::incomplete_at))]
 fn incomplete_at(bytes: &[u8]) -> Option<(Refusal, &[u8])>
     ensures { option_map (λ x. (x.0, x.1.now)) result ≡ incomplete_at bytes.now }
@@ -46,6 +50,7 @@ fn incomplete_at(bytes: &[u8]) -> Option<(Refusal, &[u8])>
     Some((Refusal::Incomplete { missing }, rest))
 }
 
+/// Reads which limit was reached, of a LimitReached.
 #[tactic(auto, unfolding(crate::specs::ReplyRefusals::limit_reached_at))]
 fn limit_reached_at(bytes: &[u8]) -> Option<(Refusal, &[u8])>
     ensures { option_map (λ x. (x.0, x.1.now)) result ≡ limit_reached_at bytes.now }
@@ -54,6 +59,7 @@ fn limit_reached_at(bytes: &[u8]) -> Option<(Refusal, &[u8])>
     Some((Refusal::LimitReached(which), rest))
 }
 
+/// Returns the refusal of this number, if it has nothing behind its number.
 #[tactic(auto, unfolding(crate::specs::ReplyRefusals::plain_refusal_at))]
 fn plain_refusal_at(number: u8, rest: &[u8]) -> Option<(Refusal, &[u8])>
     ensures { option_map (λ x. (x.0, x.1.now)) result ≡ plain_refusal_at number rest.now }
@@ -62,6 +68,7 @@ fn plain_refusal_at(number: u8, rest: &[u8]) -> Option<(Refusal, &[u8])>
     Some((refusal, rest))
 }
 
+/// Reads the name of a limit, from its number.
 #[tactic(auto, unfolding(crate::specs::ReplyRefusals::limit_at))]
 fn limit_at(bytes: &[u8]) -> Option<(Limit, &[u8])>
     ensures { option_map (λ x. (x.0, x.1.now)) result ≡ limit_at bytes.now }

@@ -49,6 +49,7 @@ pub fn request_of(alloc: Global, frame: Frame) -> Result<Request, BodyFault>
     value_of(alloc, frame.version, frame.kind, frame.body)
 }
 
+/// Reads the body of a request of this kind, in a known version. Only an Export takes memory.
 #[tactic(auto, unfolding(crate::specs::RequestValues::request_value))]
 fn value_of(alloc: Global, version: u8, kind: u8, body: Blob) -> Result<Request, BodyFault>
     ensures answer { IsAnswer result (request_value version kind body) }
@@ -77,6 +78,7 @@ fn any_value(alloc: Global, version: u8, kind: u8, body: Blob) -> Result<Request
     }
 }
 
+/// Reads the body of an Export.
 #[tactic(auto, unfolding(crate::specs::RequestValues::export_value))]
 fn export(alloc: Global, body: &[u8]) -> Result<Request, BodyFault>
     ensures { IsAnswer result (export_value body.now) }

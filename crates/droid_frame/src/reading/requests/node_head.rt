@@ -18,6 +18,7 @@ pub(crate) struct NodeHead {
     pub(crate) modified: i64,
 }
 
+/// Reads profile, parent and modification time.
 #[tactic(auto, unfolding(crate::specs::NodeHeads::node_head_at))]
 pub(crate) fn node_head_at(bytes: &[u8]) -> Option<(NodeHead, &[u8])>
     ensures value { option_map (λ x. (x.0, x.1.now)) result ≡ node_head_at bytes.now }

@@ -40,6 +40,7 @@ pub(crate) fn plain_value(version: u8, kind: u8, body: Blob) -> Option<Request>
     }
 }
 
+/// Reads the body of a CreateProfile.
 #[tactic(auto, unfolding(crate::specs::RequestValues::create_profile_value, crate::specs::Reading::whole))]
 fn create_profile(version: u8, body: &[u8]) -> Option<Request>
     ensures { result ≡ create_profile_value version body.now }
@@ -57,6 +58,7 @@ fn create_profile(version: u8, body: &[u8]) -> Option<Request>
     })
 }
 
+/// Reads the body of an AddFolder, whose name it moves and does not copy.
 #[tactic(auto, unfolding(crate::specs::RequestValues::add_folder_value))]
 fn add_folder(body: Blob) -> Option<Request>
     ensures { result ≡ add_folder_value body }
@@ -72,6 +74,7 @@ fn add_folder(body: Blob) -> Option<Request>
     })
 }
 
+/// Reads the body of an AddFile, whose name it moves and does not copy.
 #[tactic(auto, unfolding(crate::specs::RequestValues::add_file_value))]
 fn add_file(body: Blob) -> Option<Request>
     ensures { result ≡ add_file_value body }
@@ -91,6 +94,7 @@ fn add_file(body: Blob) -> Option<Request>
     })
 }
 
+/// Reads the body of a Piece, whose bytes it moves and does not copy.
 #[tactic(auto, unfolding(crate::specs::RequestValues::piece_value))]
 fn piece(body: Blob) -> Option<Request>
     ensures { result ≡ piece_value body }

@@ -63,6 +63,7 @@ fn add_hash(front: &mut SmallBytes, version: u8, hash: &HashValue)
     }
 }
 
+/// Appends a refusal's number, and what belongs to it.
 fn add_refusal(front: &mut SmallBytes, refusal: Refusal)
     requires room { front.old ≡ [] }
     requires spelling { HasRefusalSpelling refusal }

@@ -26,6 +26,7 @@ pub(crate) fn append_filter(out: &mut Vec<u8>, filter: &Filter) -> Result<(), Al
     Ok(())
 }
 
+/// Appends a criterion behind its tag.
 fn append_criterion(out: &mut Vec<u8>, criterion: &Criterion) -> Result<(), AllocError>
     requires { CriterionFits criterion.now }
     ensures added { OnOk result (out.new.items ≡ out.old.items ++ criterion_bytes criterion.now) }
@@ -43,6 +44,7 @@ fn append_criterion(out: &mut Vec<u8>, criterion: &Criterion) -> Result<(), Allo
     Ok(())
 }
 
+/// Appends a criterion that is a list of texts.
 fn append_list(out: &mut Vec<u8>, tag: u8, texts: &Texts) -> Result<(), AllocError>
     requires { ListFits texts.now }
     ensures added { OnOk result (out.new.items ≡ out.old.items ++ tag ∷ list_bytes texts.now) }
@@ -53,6 +55,7 @@ fn append_list(out: &mut Vec<u8>, tag: u8, texts: &Texts) -> Result<(), AllocErr
     append_texts(out, texts)
 }
 
+/// Appends a criterion on the size.
 fn append_size(out: &mut Vec<u8>, tag: u8, size: u64) -> Result<(), AllocError>
     ensures added { OnOk result (out.new.items ≡ out.old.items ++ tag ∷ u64_bytes size) }
     ensures spelled { size < 2 ^ 64 }

@@ -101,6 +101,7 @@ fn append_body(out: &mut Vec<u8>, version: u8, request: &Request) -> Result<(), 
     }
 }
 
+/// Appends the body of a CreateProfile.
 fn append_options(
     out: &mut Vec<u8>,
     version: u8,
@@ -130,6 +131,7 @@ fn append_hash(out: &mut Vec<u8>, version: u8, hash: HashKind) -> Result<(), All
     Ok(())
 }
 
+/// Appends the body of an AddFolder.
 fn append_folder(
     out: &mut Vec<u8>,
     profile: u32,
@@ -147,6 +149,7 @@ fn append_folder(
     Ok(())
 }
 
+/// Appends the body of an AddFile.
 fn append_file(
     out: &mut Vec<u8>,
     profile: u32,
@@ -170,6 +173,7 @@ fn append_file(
     Ok(())
 }
 
+/// Appends the body of a Piece.
 fn append_piece(
     out: &mut Vec<u8>,
     profile: u32,
@@ -187,6 +191,7 @@ fn append_piece(
     Ok(())
 }
 
+/// Appends the body of an Export.
 fn append_export(
     out: &mut Vec<u8>,
     profile: u32,
@@ -206,6 +211,7 @@ fn append_export(
     Ok(())
 }
 
+/// Appends a big-endian number of four bytes.
 fn append_u32(out: &mut Vec<u8>, number: u32) -> Result<(), AllocError>
     ensures added { OnOk result (out.new.items ≡ out.old.items ++ u32_bytes number) }
     ensures spelled { IsU32 number }
@@ -213,6 +219,7 @@ fn append_u32(out: &mut Vec<u8>, number: u32) -> Result<(), AllocError>
     out.extend_from_slice(&number.to_be_bytes())
 }
 
+/// Appends a big-endian number of eight bytes.
 fn append_u64(out: &mut Vec<u8>, wide: u64) -> Result<(), AllocError>
     ensures added { OnOk result (out.new.items ≡ out.old.items ++ u64_bytes wide) }
     ensures spelled { IsU64 wide }
@@ -220,6 +227,7 @@ fn append_u64(out: &mut Vec<u8>, wide: u64) -> Result<(), AllocError>
     out.extend_from_slice(&wide.to_be_bytes())
 }
 
+/// Appends a signed number of eight bytes, in two's complement.
 fn append_i64(out: &mut Vec<u8>, signed: &i64) -> Result<(), AllocError>
     ensures added { OnOk result (out.new.items ≡ out.old.items ++ i64_bytes signed.now) }
     ensures spelled { IsI64 signed.now }
@@ -228,6 +236,7 @@ fn append_i64(out: &mut Vec<u8>, signed: &i64) -> Result<(), AllocError>
     out.extend_from_slice(&signed.to_be_bytes())
 }
 
+/// Appends a name, without its length.
 fn append_name(out: &mut Vec<u8>, name: &Text) -> Result<(), AllocError>
     ensures added { OnOk result (out.new.items ≡ out.old.items ++ name.now) }
     ensures utf8 { IsUtf8 name.now }
@@ -236,6 +245,7 @@ fn append_name(out: &mut Vec<u8>, name: &Text) -> Result<(), AllocError>
     out.extend_from_slice(name.as_bytes())
 }
 
+/// Appends the bytes of a blob, without their length.
 fn append_bytes(out: &mut Vec<u8>, bytes: &Blob) -> Result<(), AllocError>
     ensures added { OnOk result (out.new.items ≡ out.old.items ++ bytes.now) }
     ensures are_bytes { IsBytes bytes.now }
@@ -243,6 +253,7 @@ fn append_bytes(out: &mut Vec<u8>, bytes: &Blob) -> Result<(), AllocError>
     out.extend_from_slice(bytes.as_slice())
 }
 
+/// Appends two big-endian numbers of four bytes each.
 fn append_pair(out: &mut Vec<u8>, first: u32, second: u32) -> Result<(), AllocError>
     ensures { OnOk result (out.new.items ≡ out.old.items ++ (u32_bytes first ++ u32_bytes second)) }
 {
