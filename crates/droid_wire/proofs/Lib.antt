@@ -17,6 +17,7 @@ pub mod ReadStreams
 pub mod RequestKinds
 mod Results
 pub mod SentWhole
+pub mod ServedStreams
 pub mod ServiceSteps
 pub mod SmallHistories
 pub mod SoFar

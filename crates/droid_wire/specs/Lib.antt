@@ -8,6 +8,7 @@ pub mod Schedules
 pub mod Serving
 pub mod Standing
 pub mod Steps
+pub mod StreamServing
 pub mod Turns
 pub mod WhatWasRead
 pub mod Whole

@@ -3,12 +3,15 @@
 
 ghost use Rattle.droid_core_spec.specs.Setting.{Setting};
 ghost use Rattle.droid_frame.specs.declared.reply.Reply.{Reply};
+ghost use Rattle.droid_wire.specs.StreamServing.{StreamsAreServed};
 ghost use Rattle.droid_wire.specs.WhatWasRead.{ReadFramesAreAnswered};
 ghost use Rattle.droid_wire.specs.Whole.{FirstFramesAreAnswered};
 ghost use Rattle.droid_wire.specs.Desks.{IsDesk, desk_of};
 ghost use Rattle.droid_wire.specs.Schedules.{Event, start, run, AreOnes, AreApart, AreHeld, AreOnce, NoneReused};
 ghost use Rattle.droid_wire.specs.Schedules.{answer_at};
 ghost use Rattle.std.specs.Prelude.{◌≡◌, ℕ, List, ◌++◌, Some};
+
+use droid_frame::{SteadyRead, SteadyWrite};
 
 /// If neither stream failed and memory sufficed for each frame, [`serve`](crate::server::serve) answers the first
 /// frames of the stream: as many as its turns, or all if there are fewer. It ends as `Closed` exactly if nothing
@@ -21,6 +24,14 @@ pub fn first_frames_are_answered()
 /// It wrote all their reply frames or, if writing failed, the first bytes of them, counted by the fault.
 pub fn read_frames_are_answered()
     ensures { ReadFramesAreAnswered }
+{}
+
+/// A stream that [`answer_service`](crate::service_stream::answer_service) answers has an outcome of
+/// [`serve`](crate::server::serve) with 1,000,000 turns: frames of its front were handled, in order, their reply frames
+/// were written, and it ends for the same reason. But the loop may have read further than the frames that it handled,
+/// and if writing fails it may have handled up to 16 frames whose replies were not written.
+pub fn a_stream_is_answered_as_by_serve<R: SteadyRead, W: SteadyWrite>()
+    ensures { StreamsAreServed R.remaining W.contents R.seen W.seen W.room }
 {}
 
 /// The service accepts each command once. A request whose number is new is accepted with one more entry, refused, or
