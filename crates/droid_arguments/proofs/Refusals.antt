@@ -1,5 +1,5 @@
 -- Why the words of a command ask for nothing.
-use Rattle.std.proofs.Common.{◌≡◌, ◌∙◌, ◌⊎◌, ◌↔◌, ℕ, ap, sym, subst, refl, inl, inr, Bool, true, false, List, [], Option, Some, None, codes, option_map}
+use Rattle.std.proofs.Common.{◌≡◌, ◌∙◌, ◌↔◌, ℕ, ap, sym, subst, refl, inl, inr, Bool, true, false, List, [], Option, Some, None, codes, option_map}
 use Rattle.std.proofs.lemmas.Slice.Eq.{bytes_eq-Decides}
 use Rattle.std.specs.Bool.{MatchBool}
 use Rattle.std.specs.Str.{bytes_eq}
@@ -11,17 +11,17 @@ use Rattle.clap.specs.declared.error.kind.ErrorKind.TheVariants.{OutOfMemory}
 use Rattle.clap.specs.declared.parser.matches.ArgMatches.{ArgMatches}
 use Rattle.clap.specs.declared.parser.matches.ArgMatches.TheViews.{out-ArgMatches, out-SubCommand}
 use Rattle.clap.specs.declared.parser.matches.SubCommand.{SubCommand}
-use Rattle.droid_arguments.specs.Asking.{IsAsked, IsAskedBy, IsConversion, IsCount, IsMany, IsOneByOne, IsProfile, IsReport, IsSubmit, IsVerify, ReadsMany, checks_nothing, has_no_checksums, measures_twice, names_two, reads_nothing}
+use Rattle.droid_arguments.specs.Asking.{IsAsked, IsAskedBy, IsConversion, IsCount, IsProfile, IsReport, IsServing, IsSubmit, IsVerify, checks_nothing, has_no_checksums, measures_twice, names_two, reads_nothing}
 use Rattle.droid_arguments.specs.declared.arguments.Asked.{Asked}
-use Rattle.droid_arguments.specs.declared.arguments.Asked.TheVariants.{Profile, Submit, Verify, Report, Registry, Script, Run, Serve, ServeMany, Send, Compact}
+use Rattle.droid_arguments.specs.declared.arguments.Asked.TheVariants.{Profile, Submit, Verify, Report, Registry, Script, Run, Serve, Send, Compact}
 use Rattle.droid_arguments.specs.declared.registry_options.RegistryOptions.{RegistryOptions}
-use Rattle.droid_arguments.specs.declared.connection_options.ManyOptions.{ManyOptions}
+use Rattle.droid_arguments.specs.declared.connection_options.ServeOptions.{ServeOptions}
 use Rattle.droid_arguments.specs.declared.profile.ProfileOptions.{ProfileOptions}
 use Rattle.droid_arguments.specs.declared.report_options.ReportOptions.{ReportOptions}
 use Rattle.droid_arguments.specs.declared.submit.SubmitOptions.{SubmitOptions}
 use Rattle.droid_arguments.specs.declared.verify.VerifyOptions.{VerifyOptions}
 use Rattle.droid_arguments.proofs.Options.{same_flag}
-use Rattle.droid_arguments.specs.Values.{IsFlag, IsGiven, IsHash, IsSource, Reads}
+use Rattle.droid_arguments.specs.Values.{IsFlag, IsGiven, IsHash, IsSource}
 use Rattle.droid_arguments.specs.declared.source.RegistrySource.{RegistrySource}
 use Rattle.droid_frame.specs.declared.hash_kind.HashKind.{HashKind}
 use Rattle.droid_frame.specs.declared.hash_kind.HashKind.TheVariants as hashes
@@ -99,7 +99,7 @@ no_count rows number forever given (Some count) is = let bad : true ≡ false = 
 -- what the options of the command with this name give, if they ask for anything
 abbrev AsksServe : List Row → Type 0
 AsksServe rows =
-    ((registry : RegistrySource) × IsSource rows registry) × ((port : ℕ) × IsGiven 16 (one_of (codes "port") rows) port) × (IsOneByOne rows ⊎ ((options : ManyOptions) × IsMany rows options))
+    ((registry : RegistrySource) × IsSource rows registry) × ((port : ℕ) × IsGiven 16 (one_of (codes "port") rows) port) × ((options : ServeOptions) × IsServing rows options)
 
 abbrev AsksSend : List Row → Type 0
 AsksSend rows = ((port : ℕ) × IsGiven 16 (one_of (codes "port") rows) port) × ((client : ℕ) × IsGiven 32 (one_of (codes "client") rows) client)
@@ -128,22 +128,9 @@ asks_by name rows (Report options) is = subst (λ (n : Text). AsksBy n rows) (sy
 asks_by name rows (Registry options) is = subst (λ (n : Text). AsksBy n rows) (sym is.0) (options, is.1)
 asks_by name rows (Script registry) is = subst (λ (n : Text). AsksBy n rows) (sym is.0) (registry, is.1)
 asks_by name rows (Run registry journal) is = subst (λ (n : Text). AsksBy n rows) (sym is.0) (registry, is.1)
-asks_by name rows (Serve registry journal port connections) is = subst (λ (n : Text). AsksBy n rows) (sym is.0) ((registry, is.1), (port, is.3), inl is.5)
-asks_by name rows (ServeMany registry journal port options) is = subst (λ (n : Text). AsksBy n rows) (sym is.0) ((registry, is.1), (port, is.3), inr (options, is.4))
+asks_by name rows (Serve registry journal port options) is = subst (λ (n : Text). AsksBy n rows) (sym is.0) ((registry, is.1), (port, is.3), (options, is.4))
 asks_by name rows (Send port client first) is = subst (λ (n : Text). AsksBy n rows) (sym is.0) ((port, is.1), (client, is.2))
 asks_by name rows (Compact registry file quiet) is = subst (λ (n : Text). AsksBy n rows) (sym is.0) ((registry, is.1), (file.now, is.2))
-
--- `serve` for many connections asks for nothing
-one_left : (rows : List Row) → ((options : ManyOptions) → IsMany rows options → ⊥) → IsOneByOne rows ⊎ ((options : ManyOptions) × IsMany rows options) → IsOneByOne rows
-one_left rows none (inl one) = one
-one_left rows none (inr many) = absurd (none many.0 many.1)
-
-pub one_by_one : (rows : List Row) → ((options : ManyOptions) → IsMany rows options → ⊥) → (asked : Asked) → IsAskedBy (codes "serve") rows asked → IsOneByOne rows
-one_by_one rows none asked is = one_left rows none (asks_by (codes "serve") rows asked is).2
-
-pub reads_many : (rows : List Row) (result : Option Asked) → (IsOneByOne rows → ⊥) → ReadsMany rows result → Reads result (IsAskedBy (codes "serve") rows)
-reads_many rows None many reads = λ asked is. many (reads asked is)
-reads_many rows (Some asked) many reads = reads
 
 -- no command has this name
 not_by : (name : Text) (asked : Asked) (rows : List Row) → (Some name ≡ Some (codes "profile") → ⊥) → (Some name ≡ Some (codes "submit") → ⊥) → (Some name ≡ Some (codes "verify") → ⊥)
@@ -156,8 +143,7 @@ not_by name (Report options) rows profile submit verify report registry script r
 not_by name (Registry options) rows profile submit verify report registry script run serve send compact is = registry (ap (λ (t : Text). Some t) is.0)
 not_by name (Script source) rows profile submit verify report registry script run serve send compact is = script (ap (λ (t : Text). Some t) is.0)
 not_by name (Run source journal) rows profile submit verify report registry script run serve send compact is = run (ap (λ (t : Text). Some t) is.0)
-not_by name (Serve source journal port connections) rows profile submit verify report registry script run serve send compact is = serve (ap (λ (t : Text). Some t) is.0)
-not_by name (ServeMany source journal port options) rows profile submit verify report registry script run serve send compact is = serve (ap (λ (t : Text). Some t) is.0)
+not_by name (Serve source journal port options) rows profile submit verify report registry script run serve send compact is = serve (ap (λ (t : Text). Some t) is.0)
 not_by name (Send port client first) rows profile submit verify report registry script run serve send compact is = send (ap (λ (t : Text). Some t) is.0)
 not_by name (Compact source file quiet) rows profile submit verify report registry script run serve send compact is = compact (ap (λ (t : Text). Some t) is.0)
 

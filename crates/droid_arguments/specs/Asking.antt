@@ -1,5 +1,5 @@
 -- What the command line asks for (this project's own).
-use Rattle.std.specs.Prelude.{◌≡◌, ◌&&◌, ℕ, Bool, true, false, List, [], Option, Some, None, MatchOption, codes}
+use Rattle.std.specs.Prelude.{◌≡◌, ◌&&◌, ℕ, Bool, true, false, List, [], Option, Some, None, codes}
 use Rattle.std.specs.Prelude.{option_map}
 use Rattle.clap.specs.Words.{App, Row, Text, fault_of, first_of, kind_of, one_of, subcommand_of}
 use Rattle.clap.specs.declared.error.Error.{Error}
@@ -7,9 +7,9 @@ use Rattle.clap.specs.declared.error.kind.ErrorKind.TheVariants as parsing
 use Rattle.droid_arguments.specs.Commands.{program}
 use Rattle.droid_arguments.specs.declared.arguments.Asked.{Asked}
 use Rattle.droid_arguments.specs.declared.arguments.Asked.TheVariants.{Profile, Submit, Verify, Report, Registry}
-use Rattle.droid_arguments.specs.declared.arguments.Asked.TheVariants.{Script, Run, Serve, ServeMany, Send, Compact}
+use Rattle.droid_arguments.specs.declared.arguments.Asked.TheVariants.{Script, Run, Serve, Send, Compact}
 use Rattle.droid_arguments.specs.declared.registry_options.RegistryOptions.{RegistryOptions}
-use Rattle.droid_arguments.specs.declared.connection_options.ManyOptions.{ManyOptions}
+use Rattle.droid_arguments.specs.declared.connection_options.ServeOptions.{ServeOptions}
 use Rattle.droid_arguments.specs.declared.profile.ProfileOptions.{ProfileOptions}
 use Rattle.droid_arguments.specs.declared.no_command.NoCommand.{NoCommand}
 use Rattle.droid_arguments.specs.declared.no_command.NoCommand.TheVariants.{Memory}
@@ -120,19 +120,22 @@ IsCount rows None = IsFlag (one_of (codes "forever") rows) true × (first_of (co
 IsCount rows (Some count) =
     IsFlag (one_of (codes "forever") rows) false × IsNumberOr 32 1 (one_of (codes "connections") rows) count
 
--- the options of `serve` for many connections at once
-pub record IsMany (rows : List Row) (options : ManyOptions) : Type 0 where
-  pub seats : IsGiven 32 (one_of (codes "at-once") rows) options.seats
-  pub connections : IsCount rows options.connections
-  pub idle : IsNumberOr 32 60 (one_of (codes "idle") rows) options.idle
-  pub verbose : IsFlag (one_of (codes "verbose") rows) options.verbose
+-- neither `--at-once` nor `--idle` is given
+abbrev pub NamesNeither : List Row → Type 0
+NamesNeither rows = (first_of (codes "at-once") rows ≡ None) × (first_of (codes "idle") rows ≡ None)
 
--- none of them is given
-pub record IsOneByOne (rows : List Row) : Type 0 where
-  pub seats : first_of (codes "at-once") rows ≡ None
-  pub forever : IsFlag (one_of (codes "forever") rows) false
-  pub idle : first_of (codes "idle") rows ≡ None
-  pub verbose : IsFlag (one_of (codes "verbose") rows) false
+-- after how many seconds an idle connection is closed: never, where neither is given; else after those of `--idle`, 60
+-- without it
+abbrev pub IsIdleLimit : List Row → Option ℕ → Type 0
+IsIdleLimit rows None = NamesNeither rows
+IsIdleLimit rows (Some idle) = (NamesNeither rows → ⊥) × IsNumberOr 32 60 (one_of (codes "idle") rows) idle
+
+-- the options of `serve`
+pub record IsServing (rows : List Row) (options : ServeOptions) : Type 0 where
+  pub seats : IsNumberOr 32 1 (one_of (codes "at-once") rows) options.seats
+  pub connections : IsCount rows options.connections
+  pub idle : IsIdleLimit rows options.idle
+  pub verbose : IsFlag (one_of (codes "verbose") rows) options.verbose
 
 -- what the options of the command with this name ask for
 abbrev pub IsAskedBy : Text → List Row → Asked → Type 0
@@ -145,15 +148,10 @@ IsAskedBy name rows (Script registry) = (name ≡ codes "script") × IsSource ro
 IsAskedBy name rows (Run registry journal) =
     (name ≡ codes "run") × IsSource rows registry
     × (option_map (λ path. path.now) journal ≡ first_of (codes "journal") rows)
-IsAskedBy name rows (Serve registry journal port connections) =
+IsAskedBy name rows (Serve registry journal port options) =
     (name ≡ codes "serve") × IsSource rows registry
     × (option_map (λ path. path.now) journal ≡ first_of (codes "journal") rows)
-    × IsGiven 16 (one_of (codes "port") rows) port
-    × IsNumberOr 32 1 (one_of (codes "connections") rows) connections × IsOneByOne rows
-IsAskedBy name rows (ServeMany registry journal port options) =
-    (name ≡ codes "serve") × IsSource rows registry
-    × (option_map (λ path. path.now) journal ≡ first_of (codes "journal") rows)
-    × IsGiven 16 (one_of (codes "port") rows) port × IsMany rows options
+    × IsGiven 16 (one_of (codes "port") rows) port × IsServing rows options
 IsAskedBy name rows (Send port client first) =
     (name ≡ codes "send") × IsGiven 16 (one_of (codes "port") rows) port
     × IsGiven 32 (one_of (codes "client") rows) client
@@ -161,12 +159,6 @@ IsAskedBy name rows (Send port client first) =
 IsAskedBy name rows (Compact registry file quiet) =
     (name ≡ codes "compact") × IsSource rows registry × (Some file.now ≡ first_of (codes "file") rows)
     × IsFlag (one_of (codes "quiet") rows) quiet
-
--- what `serve` asks for, other than one connection after another
-abbrev pub ReadsMany : List Row → Option Asked → Type 0
-ReadsMany rows result =
-    MatchOption result ((asked : Asked) → IsAskedBy (codes "serve") rows asked → IsOneByOne rows)
-    (IsAskedBy (codes "serve") rows)
 
 -- a parse came to this command, and its options ask for that
 pub record IsAsked (entered : Option (Text × List Row)) (asked : Asked) : Type 0 where

@@ -3,7 +3,7 @@
 ghost use Rattle.std.specs.Prelude.{◌≡◌, [], IfErr, IfOk, codes, map, string_bytes, true};
 ghost use Rattle.clap.specs.Words.{app_of, fault_of, found_of, is_simple, is_simple_and_free, new_app, rows_of};
 ghost use Rattle.clap.specs.Words.{subcommand_of, subcommand_rows_of};
-ghost use Rattle.droid_arguments.specs.Asking.{FailsBy, IsAsked, IsAskedBy, ReadsMany, RefusesWords, WordsAsk};
+ghost use Rattle.droid_arguments.specs.Asking.{FailsBy, IsAsked, IsAskedBy, RefusesWords, WordsAsk};
 ghost use Rattle.droid_arguments.specs.Commands.{program, run_command, script_command, send_command, serve_command};
 ghost use Rattle.droid_arguments.specs.Commands.{top_command};
 ghost use Rattle.droid_arguments.specs.Made.{Makes};
@@ -12,7 +12,7 @@ ghost use Rattle.droid_arguments.specs.Values.{Reads};
 use crate::builder::Builder;
 use crate::compact_options::{COMPACT, compact, compact_asked};
 use crate::connection_options::{
-    AT_ONCE, FOREVER, IDLE, ManyOptions, VERBOSE, is_one_by_one, many_options,
+    AT_ONCE, CONNECTIONS, FOREVER, IDLE, ServeOptions, VERBOSE, serve_options,
 };
 use crate::helps::help::{ABOUT, EVERYDAY_HELP, HELP, REGISTRY_HELP, SCRIPT_ABOUT, SCRIPT_HELP};
 use crate::helps::stream_help::{
@@ -42,14 +42,9 @@ const SERVE: &str = "serve";
 
 const SEND: &str = "send";
 
-pub(crate) const CONNECTIONS: &str = "connections";
-
 const FIRST: &str = "first";
 
 const JOURNAL: &str = "journal";
-
-/// How many connections `serve` serves by default.
-pub(crate) const DEFAULT_CONNECTIONS: u32 = 1;
 
 /// The number of the first request that `send` sends by default.
 const DEFAULT_FIRST: u64 = 1;
@@ -64,10 +59,6 @@ pub(crate) const NO_SUCH_HASH: &str =
 /// The error for a list of checksums where files get no hash.
 const NO_CHECKSUMS: &str =
     "the option '--manifest <FILE>' writes checksums: it cannot be used with '--hash none'";
-
-/// The error for an option of many connections without `--at-once`.
-const ONE_AT_A_TIME: &str =
-    "the options '--idle <SECONDS>', '--forever' and '--verbose' need '--at-once <N>'";
 
 /// The error for `--connections` beside `--forever`.
 const NO_END: &str = "the options '--forever' and '--connections <K>' cannot be used together";
@@ -98,19 +89,12 @@ pub enum Asked<'a> {
         registry: RegistrySource<'a>,
         journal: Option<&'a str>,
     },
-    /// Serve this many connections to a port, with a journal as `Run`.
+    /// Serve connections to a port, with a journal as `Run`.
     Serve {
         registry: RegistrySource<'a>,
         journal: Option<&'a str>,
         port: u16,
-        connections: u32,
-    },
-    /// Serve many connections to a port at once, with a journal as `Run`.
-    ServeMany {
-        registry: RegistrySource<'a>,
-        journal: Option<&'a str>,
-        port: u16,
-        options: ManyOptions,
+        options: ServeOptions,
     },
     /// Send requests to a port, as this client, under numbers from `first` on.
     Send {
@@ -188,12 +172,9 @@ fn mistake_in(matches: &ArgMatches<'_>) -> &'static str {
 
 /// Says what is wrong with options of `serve` that ask for nothing.
 fn mistake_in_serve(serve: &ArgMatches<'_>) -> &'static str {
-    if source_of(serve).is_none() {
-        return TWO_REGISTRIES;
-    }
-    match serve.get_str(AT_ONCE) {
+    match source_of(serve) {
         Some(_) => NO_END,
-        None => ONE_AT_A_TIME,
+        None => TWO_REGISTRIES,
     }
 }
 
@@ -249,34 +230,15 @@ fn run_asked<'a>(run: &ArgMatches<'a>) -> Option<Asked<'a>>
     Some(Asked::Run { registry, journal })
 }
 
-/// Returns what the options of `serve` ask for, for one connection at a time or many.
+/// Returns what the options of `serve` ask for.
 fn serve_asked<'a>(serve: &ArgMatches<'a>) -> Option<Asked<'a>>
     ensures { Reads result (IsAskedBy (codes "serve") (rows_of (found_of serve.now))) }
 {
-    if !is_one_by_one(serve) {
-        return serve_many_asked(serve);
-    }
     let registry = source_of(serve)?;
     let journal = serve.get_str(JOURNAL);
     let port = serve.get_one(PORT)?;
-    let connections = serve.get_one(CONNECTIONS).unwrap_or(DEFAULT_CONNECTIONS);
+    let options = serve_options(serve)?;
     Some(Asked::Serve {
-        registry,
-        journal,
-        port,
-        connections,
-    })
-}
-
-/// Returns what the options of `serve` with `--at-once` ask for.
-fn serve_many_asked<'a>(serve: &ArgMatches<'a>) -> Option<Asked<'a>>
-    ensures { ReadsMany (rows_of (found_of serve.now)) result }
-{
-    let registry = source_of(serve)?;
-    let journal = serve.get_str(JOURNAL);
-    let port = serve.get_one(PORT)?;
-    let options = many_options(serve)?;
-    Some(Asked::ServeMany {
         registry,
         journal,
         port,

@@ -17,7 +17,7 @@ mod value;
 mod verify;
 
 pub use arguments::{Asked, what_is_asked};
-pub use connection_options::ManyOptions;
+pub use connection_options::ServeOptions;
 pub use no_command::{NoCommand, unread_words};
 pub use profile::ProfileOptions;
 pub use registry_options::RegistryOptions;

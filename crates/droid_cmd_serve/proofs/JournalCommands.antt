@@ -1,7 +1,7 @@
 -- What the end of serving by a service with a journal says of the program's ending.
 use Rattle.std.proofs.Common.{◌≡◌, ℕ, List, Option, Some, None, refl, sym, subst, ◌∙◌}
 use Rattle.std.specs.declared.io.ErrorKind.{ErrorKind}
-use Rattle.droid_cmd_serve.specs.Fresh.{IsNotMadeOf}
+use Rattle.droid_cmd_serve.specs.Fresh.{IsNotMadeOf, IsUnmade}
 use Rattle.droid_cmd_serve.specs.JournalEndings.{IsAnsweringEnd, IsUnopened, JournalEndsAs, ServesSteps, journal_ending_of, left_ending_of, stream_journal_ending_of, unsettled_ending}
 use Rattle.droid_cmd_serve.specs.declared.exit.Ending.{Ending}
 use Rattle.droid_cmd_serve.specs.declared.exit.Ending.TheVariants.{Done, Registry, NoService, Script, Stream, Send, Socket, Journal, BadLine}
@@ -100,3 +100,15 @@ unopened_so (Send fault) unopened = absurd unopened
 unopened_so Socket unopened = absurd unopened
 unopened_so BadLine unopened = absurd unopened
 unopened_so Done unopened = absurd unopened
+
+-- no service could be made
+pub unmade_so : (ended : Ending) → IsUnmade ended → IsAnsweringEnd ended
+unmade_so (Registry fault) unmade = tt
+unmade_so (NoService fault) unmade = tt
+unmade_so (Journal fault) unmade = absurd unmade
+unmade_so (Script fault) unmade = absurd unmade
+unmade_so (Stream fault) unmade = absurd unmade
+unmade_so (Send fault) unmade = absurd unmade
+unmade_so Socket unmade = absurd unmade
+unmade_so BadLine unmade = absurd unmade
+unmade_so Done unmade = absurd unmade

@@ -7,6 +7,7 @@ use Rattle.droid_cmd_serve.specs.declared.exit.Ending.TheVariants.{Socket, Journ
 use Rattle.droid_cmd_serve.specs.declared.journal_fault.JournalFault.TheVariants.{Closed}
 use Rattle.droid_frame.specs.declared.streams.fault.FrameFault.TheVariants as frame_faults
 use Rattle.droid_frame.specs.declared.io.stream_record.Seen.{Seen}
+use Rattle.droid_cmd_serve.specs.Many.{ManyEndsAs}
 use Rattle.droid_wire.specs.JournalServing.{AnswersJournal, ServesJournal}
 use Rattle.droid_wire.specs.declared.journal_handler.JournalHandler.{JournalHandler}
 use Rattle.droid_turns.specs.declared.pipe.Pipe.{Pipe}
@@ -25,10 +26,6 @@ use Rattle.droid_turns.specs.declared.departure.Departure.TheVariants as departu
 use Rattle.droid_turns.specs.declared.rules.Rules.{Rules}
 use Rattle.droid_turns.specs.declared.service_end.Served.{Served}
 use Rattle.droid_turns.specs.declared.service_end.Served.TheVariants as ways
-
--- this many connections, one at a time, each for as long as it stays
-abbrev pub rules_one_by_one : ℕ → Rules
-rules_one_by_one count = record { seats = 1; total = Some count; idle = 18446744073709551615 }
 
 -- the end of a journal that could not settle
 abbrev pub unsettled_ending : Option Fault → Ending
@@ -131,3 +128,8 @@ JournalEndsAs rules (Journal fault) cause = Unit {0}
 JournalEndsAs rules (Script fault) cause = ⊥
 JournalEndsAs rules (Send fault) cause = ⊥
 JournalEndsAs rules BadLine cause = ⊥
+
+-- the same, with a journal and without one
+abbrev pub ServingEndsAs : {Path : Type 0} → Option Path → Rules → Ending → Option ErrorKind → Type 0
+ServingEndsAs None rules ending cause = ManyEndsAs rules ending cause
+ServingEndsAs (Some path) rules ending cause = JournalEndsAs rules ending cause

@@ -1,7 +1,7 @@
 -- How `serve` by a service that keeps everything in memory ends.
-use Rattle.std.specs.Prelude.{◌≡◌, ◌≢◌, ◌*◌, [], Option, None, Some}
+use Rattle.std.specs.Prelude.{◌≡◌, ◌≢◌, ℕ, ◌*◌, [], Option, None, Some}
 use Rattle.std.specs.declared.io.ErrorKind.{ErrorKind}
-use Rattle.droid_arguments.specs.declared.connection_options.ManyOptions.{ManyOptions}
+use Rattle.droid_arguments.specs.declared.connection_options.ServeOptions.{ServeOptions}
 use Rattle.droid_cmd_serve.specs.Endings.{IsProgramSetting, program_limits}
 use Rattle.droid_cmd_serve.specs.declared.exit.Ending.{Ending}
 use Rattle.droid_cmd_serve.specs.declared.exit.Ending.TheVariants.{Done, Registry, NoService, Script, Stream, Send}
@@ -19,9 +19,14 @@ use Rattle.droid_turns.specs.declared.rules.Rules.{Rules}
 use Rattle.droid_turns.specs.declared.service_end.Served.{Served}
 use Rattle.droid_turns.specs.declared.service_end.Served.TheVariants as ways
 
--- the rules that the options name; the time is in milliseconds
-abbrev pub rules_named : ManyOptions → Rules
-rules_named options = record { seats = options.seats; total = options.connections; idle = options.idle * 1000 }
+-- how long a connection may be idle, in milliseconds; without a limit for ever
+abbrev pub idle_named : Option ℕ → ℕ
+idle_named None = 18446744073709551615
+idle_named (Some seconds) = seconds * 1000
+
+-- the rules that the options name
+abbrev pub rules_named : ServeOptions → Rules
+rules_named options = record { seats = options.seats; total = options.connections; idle = idle_named options.idle }
 
 -- how the end of serving ends the program
 abbrev pub many_ending_of : Served → Ending

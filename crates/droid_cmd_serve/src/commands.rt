@@ -1,24 +1,29 @@
 //! The commands of a service, over files, standard streams and ports of this machine.
 
 ghost use Rattle.std.specs.Prelude.{◌<◌, ◌^◌};
+ghost use Rattle.droid_cmd_serve.specs.JournalEndings.{IsAnsweringEnd, ServingEndsAs};
+ghost use Rattle.droid_cmd_serve.specs.Many.{rules_named};
 
 use crate::client::send_lines;
 use crate::command_end::Ended;
 use crate::exit::Ending;
+use crate::journal_commands::{run_journal_command, serve_journal_command};
+use crate::many_connections::serve_in_memory;
 use crate::registry::{note_formats, open_registry, service_for};
 use crate::scripts::{script_by_registry, script_by_sample};
 use crate::stream::answer_stream;
-use droid_arguments::RegistrySource;
+use droid_arguments::{RegistrySource, ServeOptions};
 use droid_core::Service;
 use droid_frame::{NUMBER_LIMIT, Noted};
 use droid_lines::SendFault;
 use droid_pronom::common_registry;
 use droid_turns::Pipe;
 use droid_wire::ServiceHandler;
-use std::fs::Files;
+use std::fs::{File, Files};
 use std::io;
 use std::io::BufReader;
 use std::net::{Ipv4Addr, Net, TcpListener, TcpStream};
+use std::time::Clock;
 
 /// Runs a script from standard input to standard output, over a new service.
 pub fn script_command<'a, R: Files + Input + Print + Eprint + AllocGlobal>(
@@ -63,11 +68,28 @@ fn script_by_file<'a, R: Files + Input + Print + Eprint + AllocGlobal>(
     Ended::over(ending, source)
 }
 
-/// Answers the frames of standard input on standard output, by a new service.
-pub fn run_command<'a, R: Files + Input + Print + Eprint + AllocGlobal>(
-    rt: &R,
+/// Answers the frames of standard input on standard output, by a new service, or by one with the journal at a path.
+pub fn run_command<'a, R>(
+    rt: &'a R,
     source: RegistrySource<'a>,
-) -> Ended<'a> {
+    journal: Option<&'a str>,
+) -> Ended<'a>
+where
+    R: Files<File = File> + Input + Print + Eprint + AllocGlobal,
+    ensures { IsAnsweringEnd result.ending }
+{
+    match journal {
+        Some(path) => run_journal_command(rt, source, path),
+        None => run_in_memory(rt, source),
+    }
+}
+
+/// Answers them by a new service.
+fn run_in_memory<'a, R>(rt: &R, source: RegistrySource<'a>) -> Ended<'a>
+where
+    R: Files + Input + Print + Eprint + AllocGlobal,
+    ensures { IsAnsweringEnd result.ending }
+{
     note_sample(rt, source);
     match service_for(rt, source) {
         Ok(service) => Ended::over(answer_input(rt, service), source),
@@ -76,10 +98,30 @@ pub fn run_command<'a, R: Files + Input + Print + Eprint + AllocGlobal>(
 }
 
 /// Answers the frames of standard input on standard output.
-fn answer_input<R: Input + Print + AllocGlobal>(rt: &R, service: Service) -> Ending {
+fn answer_input<R: Input + Print + AllocGlobal>(rt: &R, service: Service) -> Ending
+    ensures { IsAnsweringEnd result }
+{
     let mut handler = ServiceHandler { service };
     let mut pipe = Pipe::new(Noted::new(rt.reader()), Noted::new(io::writer(rt)));
     answer_stream(rt.alloc(), &mut handler, &mut pipe)
+}
+
+/// Serves connections to a port, as the options say, by a new service, or by one with the journal at a path.
+pub fn serve_command<'a, R>(
+    rt: &'a R,
+    source: RegistrySource<'a>,
+    port: u16,
+    options: ServeOptions,
+    journal: Option<&'a str>,
+) -> Ended<'a>
+where
+    R: Files<File = File> + Print + Eprint + AllocGlobal + Clock + Net,
+    ensures { ServingEndsAs journal.entry (rules_named options) result.ending result.cause }
+{
+    match journal {
+        Some(path) => serve_journal_command(rt, source, port, options, path),
+        None => serve_in_memory(rt, source, port, options),
+    }
 }
 
 /// Notes on standard error that the sample registry is used.

@@ -2,7 +2,7 @@
 
 ghost use Rattle.std.specs.Prelude.{◌≡◌, Some, IfErr, IfOk, IfSome};
 ghost use Rattle.droid_cmd_serve.specs.Fresh.{IsMadeOf};
-ghost use Rattle.droid_cmd_serve.specs.JournalEndings.{IsAnsweringEnd, IsUnopened, JournalEndsAs, rules_one_by_one};
+ghost use Rattle.droid_cmd_serve.specs.JournalEndings.{IsAnsweringEnd, IsUnopened, JournalEndsAs};
 ghost use Rattle.droid_cmd_serve.specs.Many.{rules_named};
 
 use crate::command_end::Ended;
@@ -11,12 +11,12 @@ use crate::compaction::light_journal_for;
 use crate::exit::Ending;
 use crate::fresh::fresh_service;
 use crate::journal::open_journal;
-use crate::journal_connections::{answer_with_journal, one_by_one, serve_with_journal};
+use crate::journal_connections::{answer_with_journal, serve_with_journal};
 use crate::journal_fault::JournalFault;
 use crate::many_connections::{rules_of, verbosity_of};
 use crate::registry::{note_formats, open_registry};
 use crate::sample::sample_registry;
-use droid_arguments::{ManyOptions, RegistrySource};
+use droid_arguments::{RegistrySource, ServeOptions};
 use droid_core::Service;
 use droid_frame::{InputFault, Noted, Retries, SteadyRead, read_some, read_to_end};
 use droid_journal::{DiskLog, FileDrive};
@@ -41,7 +41,11 @@ const RANDOM: &str = "/dev/urandom";
 pub(crate) type MachineJournal<'a, R> = ServiceJournal<DiskLog<FileDrive<'a, R>>>;
 
 /// Answers the frames of standard input on standard output, by a service with a journal.
-pub fn run_journal_command<'a, R>(rt: &'a R, source: RegistrySource<'a>, path: &'a str) -> Ended<'a>
+pub(crate) fn run_journal_command<'a, R>(
+    rt: &'a R,
+    source: RegistrySource<'a>,
+    path: &'a str,
+) -> Ended<'a>
 where
     R: Files<File = File> + Input + Print + Eprint + AllocGlobal,
     ensures { IsAnsweringEnd result.ending }
@@ -62,28 +66,12 @@ where
     Ended::at_with_journal(ending, 0, path)
 }
 
-/// Serves this many connections to a port, one after the other, by a service with a journal.
-pub fn serve_journal_command<'a, R>(
+/// Serves connections to a port, by a service with a journal.
+pub(crate) fn serve_journal_command<'a, R>(
     rt: &'a R,
     source: RegistrySource<'a>,
     port: u16,
-    connections: u32,
-    path: &'a str,
-) -> Ended<'a>
-where
-    R: Files<File = File> + Print + Eprint + AllocGlobal + Clock + Net,
-    ensures { JournalEndsAs (rules_one_by_one connections) result.ending result.cause }
-{
-    let rules = one_by_one(connections);
-    serve_by(rt, source, port, rules, Verbosity::Quiet, path)
-}
-
-/// Serves many connections to a port at once, by a service with a journal.
-pub fn serve_many_journal_command<'a, R>(
-    rt: &'a R,
-    source: RegistrySource<'a>,
-    port: u16,
-    options: ManyOptions,
+    options: ServeOptions,
     path: &'a str,
 ) -> Ended<'a>
 where

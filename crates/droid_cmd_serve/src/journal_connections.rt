@@ -2,8 +2,7 @@
 
 ghost use Rattle.std.specs.Prelude.{◌≡◌};
 ghost use Rattle.droid_cmd_serve.specs.JournalEndings.{EndsAnsweringJournal, EndsServingJournal, journal_ending_of};
-ghost use Rattle.droid_cmd_serve.specs.JournalEndings.{left_ending_of, rules_one_by_one, stream_journal_ending_of};
-ghost use Rattle.droid_cmd_serve.specs.JournalEndings.{unsettled_ending};
+ghost use Rattle.droid_cmd_serve.specs.JournalEndings.{left_ending_of, stream_journal_ending_of, unsettled_ending};
 
 use crate::exit::Ending;
 use crate::journal_fault::JournalFault;
@@ -40,17 +39,6 @@ pub fn answer_with_journal<R: SteadyRead, W: SteadyWrite, F: LogFile + Drop>(
 {
     let served = answer_journal(alloc, handler, pipe);
     stream_end_of(served, pipe.departure, handler.fault)
-}
-
-/// Returns the rules for one connection at a time, each for as long as it stays.
-pub(crate) fn one_by_one(connections: u32) -> Rules
-    ensures { result ≡ rules_one_by_one connections }
-{
-    Rules {
-        seats: 1,
-        total: Some(u64::from(connections)),
-        idle: u64::MAX,
-    }
 }
 
 /// Maps the end of serving to the end of the program.

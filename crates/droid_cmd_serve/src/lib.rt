@@ -24,11 +24,7 @@ mod smaller_journal;
 mod stream;
 
 pub use command_end::Ended;
-pub use commands::{run_command, script_command, send_command};
+pub use commands::{run_command, script_command, send_command, serve_command};
 pub use compaction::compact_command;
 pub use exit::Ending;
-pub use journal_commands::{
-    run_journal_command, serve_journal_command, serve_many_journal_command,
-};
-pub use many_connections::{serve_command, serve_many_command};
 pub use registry::{no_registry, note_formats, registry_bytes};

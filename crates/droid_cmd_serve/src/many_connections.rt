@@ -2,16 +2,14 @@
 
 ghost use Rattle.std.specs.Prelude.{◌≡◌, true, false};
 ghost use Rattle.droid_cmd_serve.specs.Fresh.{IsMade};
-ghost use Rattle.droid_cmd_serve.specs.JournalEndings.{rules_one_by_one};
-ghost use Rattle.droid_cmd_serve.specs.Many.{EndsServing, ManyEndsAs, many_ending_of, rules_named};
+ghost use Rattle.droid_cmd_serve.specs.Many.{EndsServing, ManyEndsAs, idle_named, many_ending_of, rules_named};
 ghost use Rattle.droid_core.specs.Standing.{limits_of, registry_of};
 
 use crate::command_end::Ended;
 use crate::commands::note_sample;
 use crate::exit::Ending;
-use crate::journal_connections::one_by_one;
 use crate::registry::service_for;
-use droid_arguments::{ManyOptions, RegistrySource};
+use droid_arguments::{RegistrySource, ServeOptions};
 use droid_core::Service;
 use droid_frame::FrameFault;
 use droid_sockets::{Sockets, Verbosity};
@@ -25,30 +23,12 @@ use std::time::Clock;
 /// How many milliseconds a second has.
 const SECOND: u64 = 1_000;
 
-/// Serves this many connections to a port, one after the other, over one new service.
-pub fn serve_command<'a, R>(
+/// Serves connections to a port over one new service, which keeps everything in memory.
+pub(crate) fn serve_in_memory<'a, R>(
     rt: &R,
     source: RegistrySource<'a>,
     port: u16,
-    connections: u32,
-) -> Ended<'a>
-where
-    R: Files + Print + Eprint + AllocGlobal + Clock + Net,
-    ensures { ManyEndsAs (rules_one_by_one connections) result.ending result.cause }
-{
-    note_sample(rt, source);
-    match service_for(rt, source) {
-        Ok(service) => serve_port(rt, service, port, one_by_one(connections), Verbosity::Quiet),
-        Err(ended) => ended,
-    }
-}
-
-/// Serves many connections to a port at once, over one new service.
-pub fn serve_many_command<'a, R>(
-    rt: &R,
-    source: RegistrySource<'a>,
-    port: u16,
-    options: ManyOptions,
+    options: ServeOptions,
 ) -> Ended<'a>
 where
     R: Files + Print + Eprint + AllocGlobal + Clock + Net,
@@ -85,7 +65,7 @@ where
     Ended::at(ending, port)
 }
 
-pub(crate) fn verbosity_of(options: ManyOptions) -> Verbosity
+pub(crate) fn verbosity_of(options: ServeOptions) -> Verbosity
     ensures verbose { options.verbose ≡ true → result ≡ Verbosity.Verbose }
     ensures quiet { options.verbose ≡ false → result ≡ Verbosity.Quiet }
 {
@@ -115,7 +95,7 @@ pub fn serve_connections<C: Connections>(
 }
 
 /// Returns the rules that the options name.
-pub(crate) fn rules_of(options: ManyOptions) -> Rules
+pub(crate) fn rules_of(options: ServeOptions) -> Rules
     ensures { result ≡ rules_named options }
 {
     let total = match options.connections {
@@ -125,7 +105,17 @@ pub(crate) fn rules_of(options: ManyOptions) -> Rules
     Rules {
         seats: options.seats as usize,
         total,
-        idle: u64::from(options.idle) * SECOND,
+        idle: idle_of(options.idle),
+    }
+}
+
+/// Returns a time in milliseconds. Without a limit it is the longest.
+fn idle_of(seconds: Option<u32>) -> u64
+    ensures { result ≡ idle_named seconds }
+{
+    match seconds {
+        Some(seconds) => u64::from(seconds) * SECOND,
+        None => u64::MAX,
     }
 }
 

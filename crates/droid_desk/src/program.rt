@@ -1,15 +1,14 @@
 //! Reads the command line, runs the command that it asks for, and returns the exit status.
 
 use droid_arguments::{
-    Asked, ManyOptions, NoCommand, ProfileOptions, RegistryOptions, RegistrySource, ReportOptions,
+    Asked, NoCommand, ProfileOptions, RegistryOptions, RegistrySource, ReportOptions,
     SubmitOptions, VerifyOptions, unread_words, what_is_asked,
 };
 use droid_cmd_profile::{NamedRegistry, profile_folder, report_profile};
 use droid_cmd_registry::registry_command;
 use droid_cmd_serve::{
-    Ended, compact_command, no_registry, note_formats, registry_bytes, run_command,
-    run_journal_command, script_command, send_command, serve_command, serve_journal_command,
-    serve_many_command, serve_many_journal_command,
+    Ended, compact_command, no_registry, note_formats, registry_bytes, run_command, script_command,
+    send_command, serve_command,
 };
 use droid_cmd_submit::submit_folder;
 use droid_cmd_verify::verify_folder;
@@ -44,19 +43,13 @@ fn fulfil(rt: &HostRuntime, asked: Asked<'_>, on_terminal: bool) -> ExitCode {
         Asked::Report(options) => report(rt, options),
         Asked::Registry(options) => registry(rt, options),
         Asked::Script { registry } => end(rt, &script_command(rt, registry)),
-        Asked::Run { registry, journal } => end(rt, &answer(rt, registry, journal)),
+        Asked::Run { registry, journal } => end(rt, &run_command(rt, registry, journal)),
         Asked::Serve {
             registry,
             journal,
             port,
-            connections,
-        } => end(rt, &serve(rt, registry, journal, port, connections)),
-        Asked::ServeMany {
-            registry,
-            journal,
-            port,
             options,
-        } => end(rt, &serve_many(rt, registry, journal, port, options)),
+        } => end(rt, &serve_command(rt, registry, port, options, journal)),
         Asked::Send {
             port,
             client,
@@ -143,46 +136,6 @@ fn report(rt: &HostRuntime, options: ReportOptions<'_>) -> ExitCode {
 fn registry(rt: &HostRuntime, options: RegistryOptions<'_>) -> ExitCode {
     let ending = registry_command(rt, options.file, options.output, options.quiet);
     end_by(rt, ending.told(options.file, options.output))
-}
-
-/// Runs `run`, with or without a journal.
-fn answer<'a>(
-    rt: &'a HostRuntime,
-    registry: RegistrySource<'a>,
-    journal: Option<&'a str>,
-) -> Ended<'a> {
-    match journal {
-        Some(path) => run_journal_command(rt, registry, path),
-        None => run_command(rt, registry),
-    }
-}
-
-/// Runs `serve` for one connection at a time, with or without a journal.
-fn serve<'a>(
-    rt: &'a HostRuntime,
-    registry: RegistrySource<'a>,
-    journal: Option<&'a str>,
-    port: u16,
-    connections: u32,
-) -> Ended<'a> {
-    match journal {
-        Some(path) => serve_journal_command(rt, registry, port, connections, path),
-        None => serve_command(rt, registry, port, connections),
-    }
-}
-
-/// Runs `serve --at-once`, with or without a journal.
-fn serve_many<'a>(
-    rt: &'a HostRuntime,
-    registry: RegistrySource<'a>,
-    journal: Option<&'a str>,
-    port: u16,
-    options: ManyOptions,
-) -> Ended<'a> {
-    match journal {
-        Some(path) => serve_many_journal_command(rt, registry, port, options, path),
-        None => serve_many_command(rt, registry, port, options),
-    }
 }
 
 /// Says how a command of a service ended, and returns its status.

@@ -49,28 +49,31 @@ pub const SERVE_PORT_HELP: &str = "Listen on this port of 127.0.0.1 (1 to 65535)
 
 pub const CONNECTIONS_HELP: &str = "Exit after this many connections (1 to 1000, default 1)";
 
-pub const AT_ONCE_HELP: &str = "Serve up to this many connections at once, in turns (1 to 64)";
+pub const AT_ONCE_HELP: &str =
+    "Serve up to this many connections at once, in turns (1 to 64, default 1)";
 
-pub const IDLE_HELP: &str =
-    "With --at-once: close a connection that neither sends nor takes anything for this long (1 to 3600, default 60)";
+pub const IDLE_HELP: &str = "\
+Close a connection that neither sends nor takes anything for this many seconds (1 to 3600, default 60 with --at-once, \
+else never)";
 
-pub const FOREVER_HELP: &str = "With --at-once, in the place of --connections: never exit";
+pub const FOREVER_HELP: &str = "Never exit; not together with --connections";
 
 pub const VERBOSE_HELP: &str =
-    "With --at-once: print a line to standard error for each connection that ended, and one a minute";
+    "Print a line to standard error for each connection that ended, and one a minute";
 
 pub const SERVE_HELP: &str = "\
 The service prints `listening P` to standard output once it listens. It answers each connection as
 `droid_desk run` answers its input, up to 1,000,000 frames. Later connections find what earlier ones
 have sent. When the service ends, all is lost, unless it has a journal: `droid_desk run --help`
-explains it. A large journal may be made smaller at the start: `droid_desk compact --help`. Failed connections aren't \
-logged and don't stop it: a client that lost
-its connection sends its requests again under the same numbers.
+explains it. A large journal may be made smaller at the start: `droid_desk compact --help`. Failed
+connections don't stop it: a client that lost its connection sends its requests again under the same
+numbers.
 
-With --at-once a silent client delays no other. Replies come in order on each connection; the requests
-of all are handled one after another, up to 16 of one before the next one's turn. A further client
-waits until one leaves. A connection is closed when its frames end, at a faulty frame, when it fails,
-or when it was idle for too long.
+Without --at-once one connection is served after the other, and a silent client keeps all others
+waiting. With --at-once it delays none: the requests of all are handled one after another, up to 16 of
+one before the next one's turn, and a further client waits until one leaves. Replies come in order on
+each connection. It is closed when its frames end, at a faulty frame, when it fails, or when it was
+idle for too long.
 
 Exit status:
 
