@@ -12,7 +12,7 @@ import long_session
 from lib.connections import SECONDS, connect, read_exactly, read_frame
 from lib.frames import HEADER, LIMITS, MADE, create, numbers
 from lib.processes import processor_seconds
-from lib.program import MORE_OPTIONS, PROGRAM, Serve
+from lib.program import MORE_OPTIONS, PROGRAM, Serve, preloaded
 from lib.rows import COLUMNS, IN_ROW
 
 
@@ -28,6 +28,18 @@ class Idle(unittest.TestCase):
                 self.assertLessEqual(processor_seconds(service.process) - before, 0.05)
             stream.sendall(whole[20:])
             self.assertEqual(read_frame(stream), (MADE, 7, 1, numbers(1)))
+
+    @unittest.skipIf(MORE_OPTIONS, "with --at-once it is closed after a minute")
+    def test_one_seat_has_no_idle_limit(self):
+        """A client that says nothing for ten minutes keeps its seat: a desk may think."""
+        clock = preloaded("STREAMS", CLOCK_TIMES=300)
+        with Serve(2, env=clock) as service, connect(service.port) as first, connect(service.port) as second:
+            second.sendall(create(1, client=8))
+            time.sleep(2)
+            first.sendall(create(1, client=7))
+            self.assertEqual(read_frame(first), (MADE, 7, 1, numbers(1)))
+            first.close()
+            self.assertEqual(read_frame(second), (MADE, 8, 1, numbers(2)))
 
     @unittest.skipIf(MORE_OPTIONS, "with --at-once it is served before")
     def test_a_second_client_is_served_when_the_first_has_gone(self):

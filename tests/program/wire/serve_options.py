@@ -1,4 +1,4 @@
-"""The options of `serve --at-once`: which are refused, what `--verbose` prints, and the unit for systemd."""
+"""The options of `serve`: which are refused, what `--verbose` prints, and the unit for systemd."""
 
 import contextlib
 import os
@@ -13,7 +13,7 @@ import unittest
 from lib.connections import SECONDS, connect, free_port, read_exactly, read_frame, reset
 from lib.frames import HEADER, LIMITS, REFUSED, STATUS, frame
 from lib.processes import is_asleep
-from lib.program import PROGRAM, SAMPLE_NOTE, TOP, preloaded
+from lib.program import PROGRAM, SAMPLE_NOTE, TOP, Serve, preloaded
 from serve_at_once import NOTHING, NO_PROFILE, is_closed, lasting, slow_reader
 
 UNIT = os.path.join(TOP, "examples", "droid_desk.service")
@@ -39,15 +39,15 @@ def ask(stream):
 
 class Options(unittest.TestCase):
     def test_what_is_refused(self):
-        """A number beyond its limits, or none; an option without the one that it needs, or beside one that it excludes.
-        Then nothing is served and the option is named."""
+        """A number beyond its limits, or none; an option beside one that it excludes. Then nothing is served and the option is
+        named."""
         rows = [(["--at-once", number], "--at-once") for number in ("0", "65", "x", "", str(2**64 + 1))]
         rows += [(["--at-once"], "--at-once"), (["--at-once", "2", "--at-once", "2"], "--at-once")]
         rows += [(["--at-once", "2", "--idle", number], "--idle") for number in ("0", "3601", "x", "", str(2**32 + 60))]
         rows += [(["--at-once", "2", "--connections", number], "--connections") for number in ("0", "1001", "x")]
         rows += [(["--at-once", "-1"], "-1"), (["--at-once", "2", "--idle", "-1"], "-1")]
-        rows += [(["--idle", "5"], "--idle"), (["--forever"], "--forever"), (["--verbose"], "--verbose")]
-        rows += [(["--forever", "--connections", "2", "--at-once", "2"], "--connections")]
+        rows += [(["--idle", number], "--idle") for number in ("0", "3601", "x")]
+        rows += [(["--forever", "--connections", "2", *seats], "--connections") for seats in ([], ["--at-once", "2"])]
         port = str(free_port())
         for options, named in rows:
             with self.subTest(options=options):
@@ -57,9 +57,9 @@ class Options(unittest.TestCase):
 
     def test_the_least_and_the_most(self):
         for options in (["--idle", "1"], ["--idle", "3600"], ["--connections", "1"], ["--connections", "1000"], ["--forever"], []):
-            for seats in (1, 64):
+            for seats in ([], ["--at-once", "1"], ["--at-once", "64"]):
                 port = free_port()
-                words = [PROGRAM, "serve", "--port", str(port), "--at-once", str(seats), *options]
+                words = [PROGRAM, "serve", "--port", str(port), *seats, *options]
                 with self.subTest(words=words[4:]), subprocess.Popen(words, stdout=subprocess.PIPE, stderr=subprocess.DEVNULL) as service:
                     try:
                         self.assertEqual(service.stdout.readline(), b"listening %d\n" % port)
@@ -121,6 +121,14 @@ class Verbose(unittest.TestCase):
             end(stream)
             wanted = f"connection {name}: {count} frames, {len(sent)} bytes in, {count * REPLY_SIZE} bytes out, {reason}\n"
             self.assertEqual(next_line(service, b"connection "), wanted)
+
+    def test_one_seat(self):
+        """Without `--at-once` too: a silent client is closed where that is asked for, and then the next one is served."""
+        rows = [(b"", until_closed, 0, "idle"), (NOTHING * 2, socket_end, 2, "closed"), (NOTHING[:5], until_closed, 0, "idle")]
+        with Serve(None, ["--forever", "--verbose", "--idle", "1"], killed=True) as service:
+            for row in rows:
+                with self.subTest(row=row):
+                    self.ends(service, *row)
 
     def test_a_failed_write(self):
         """One that reads no reply is not read any more, and then it breaks. Some bytes were written to it, but not all."""
