@@ -1,39 +1,52 @@
--- A record of CSV, written field by field.
-use Rattle.std.proofs.Common.{◌≡◌, ◌==◌, ◌≤◌, ◌<◌, ℕ, suc, Bool, true, false, List, [], ◌∷◌, ◌++◌, Bor, length, map, slice_index, refl, ap, sym, ◌∙◌, arith, append_assoc}
+-- A row, written column by column.
+use Rattle.std.proofs.Common.{◌≡◌, ◌==◌, ◌≤◌, ◌<◌, ℕ, suc, Bool, true, false, List, [], ◌∷◌, ◌++◌, length, map, slice_index, take, refl, ap, sym, ◌∙◌, arith, append-nil, append_assoc}
 use Rattle.std.specs.List.{flat_map}
+use Rattle.std.proofs.lemmas.Grind.{flat_map-append}
 use Rattle.memchr.specs.Find.{Nowhere, Passes, is_byte}
 use Rattle.droid_export.specs.Csv.{doubled, joined, line, quoted}
+use Rattle.droid_export.specs.Rows.{Row}
+use Rattle.droid_export.specs.Table.{columns, place_of}
+use Rattle.droid_export.specs.Text.{piece, row_text}
+use Rattle.droid_export.specs.declared.column.Column.{Column}
+use Rattle.droid_export.specs.declared.column.Column.TheVariants.{FormatVersion}
 
 -- a field and the comma behind it
-abbrev pub with_comma : Bor (List ℕ) → List ℕ
-with_comma field = quoted field.now ++ 44 ∷ []
+abbrev comma_behind : Row → Column → List ℕ
+comma_behind row column = quoted (row column) ++ 44 ∷ []
 
 -- the first of at least two fields
-joined_first : (field : List ℕ) (fields : List (List ℕ)) (last : List ℕ) → joined (field ∷ (fields ++ last ∷ [])) ≡ quoted field ++ 44 ∷ joined (fields ++ last ∷ [])
+joined_first : (field : List ℕ) (row : Row) (columns : List Column) (last : Column) → joined (field ∷ map row (columns ++ last ∷ [])) ≡ quoted field ++ 44 ∷ joined (map row (columns ++ last ∷ []))
 unfolding joined
-joined_first field [] last = refl
-joined_first field (next ∷ fields) last = refl
+joined_first field row [] last = refl
+joined_first field row (next ∷ columns) last = refl
 
-joined_front : (fields : List (Bor (List ℕ))) (last : List ℕ) → joined (map (λ field. field.now) fields ++ last ∷ []) ≡ flat_map with_comma fields ++ quoted last
+joined_front : (row : Row) (columns : List Column) (last : Column) → joined (map row (columns ++ last ∷ [])) ≡ flat_map (comma_behind row) columns ++ quoted (row last)
 unfolding joined
-joined_front [] last = refl
-joined_front (field ∷ fields) last =
-    let rest : List ℕ = flat_map with_comma fields ++ quoted last in
-    joined_first field.now (map (λ (f : Bor (List ℕ)). f.now) fields) last
-    ∙ (ap (λ (l : List ℕ). quoted field.now ++ 44 ∷ l) (joined_front fields last)
-    ∙ (sym (append_assoc (quoted field.now) (44 ∷ []) rest)
-    ∙ sym (append_assoc (with_comma field) (flat_map with_comma fields) (quoted last))))
+joined_front row [] last = refl
+joined_front row (column ∷ columns) last =
+    let rest : List ℕ = flat_map (comma_behind row) columns ++ quoted (row last) in
+    joined_first (row column) row columns last
+    ∙ (ap (λ (l : List ℕ). quoted (row column) ++ 44 ∷ l) (joined_front row columns last)
+    ∙ (sym (append_assoc (quoted (row column)) (44 ∷ []) rest)
+    ∙ sym (append_assoc (comma_behind row column) (flat_map (comma_behind row) columns) (quoted (row last)))))
 
--- all fields but the last were written, each with its comma, and then the last one with a line feed
-pub line_ended : (old now after : List ℕ) (fields : List (Bor (List ℕ))) (last : List ℕ) → now ≡ old ++ flat_map with_comma fields → after ≡ now ++ (quoted last ++ 10 ∷ [])
-    → after ≡ old ++ line (map (λ field. field.now) fields ++ last ∷ [])
+-- all fields but the last, each with its comma, and then the last one with a line feed
+line_of : (row : Row) (columns : List Column) (last : Column) → flat_map (comma_behind row) columns ++ (quoted (row last) ++ 10 ∷ []) ≡ line (map row (columns ++ last ∷ []))
 unfolding line
-line_ended old now after fields last front end =
-    let commas : List ℕ = flat_map with_comma fields in
-    end ∙ (ap (λ (l : List ℕ). l ++ (quoted last ++ 10 ∷ [])) front
-    ∙ (append_assoc old commas (quoted last ++ 10 ∷ [])
-    ∙ (ap (λ (l : List ℕ). old ++ l) (sym (append_assoc commas (quoted last) (10 ∷ [])))
-    ∙ ap (λ (l : List ℕ). old ++ (l ++ 10 ∷ [])) (sym (joined_front fields last)))))
+line_of row columns last =
+    sym (append_assoc (flat_map (comma_behind row) columns) (quoted (row last)) (10 ∷ []))
+    ∙ ap (λ (l : List ℕ). l ++ 10 ∷ []) (sym (joined_front row columns last))
+
+-- the columns before the last
+abbrev first_columns : List Column
+first_columns = take (place_of FormatVersion) columns
+
+-- all columns of a row are its line
+pub all_pieces : (row : Row) → flat_map (piece row) columns ≡ row_text row
+all_pieces row =
+    flat_map-append (piece row) first_columns (FormatVersion ∷ [])
+    ∙ (ap (λ (l : List ℕ). flat_map (piece row) first_columns ++ l) (append-nil (piece row FormatVersion))
+    ∙ line_of row first_columns FormatVersion)
 
 -- a byte that is no double quote is written once
 one_plain : (b : ℕ) (t : Bool) → (b == 34) ≡ t → ((b == 34) ≡ true → ⊥) → doubled b ≡ b ∷ []

@@ -7,5 +7,6 @@ pub mod Filters
 pub mod Index
 pub mod Moments
 pub mod Rows
+pub mod Table
 pub mod Text
 pub mod Uris

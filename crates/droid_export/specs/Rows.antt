@@ -6,8 +6,7 @@ use Rattle.std.specs.Fmt.{decimal}
 use Rattle.hex.specs.Hex.{encode_lower}
 use Rattle.droid_frame.specs.Hashes.{hash_bytes}
 use Rattle.droid_frame.specs.declared.hash_kind.HashKind.{HashKind}
-use Rattle.droid_frame.specs.declared.hash_kind.HashKind.TheVariants as hashes
-use Rattle.droid_frame.specs.declared.method.Method.{Method}
+use Rattle.droid_frame.specs.declared.method.Method as methods
 use Rattle.droid_frame.specs.declared.method.Method.TheVariants.{Unidentified, Signature, Extension}
 use Rattle.droid_frame.specs.declared.node_kind.NodeKind.{NodeKind}
 use Rattle.droid_frame.specs.declared.record.Record.{Record}
@@ -16,64 +15,25 @@ use Rattle.droid_pronom.specs.declared.format.Format.{Format}
 use Rattle.droid_export.specs.Filters.{extension, found_by, mismatch}
 use Rattle.droid_frame.specs.Filters.{is_file}
 use Rattle.droid_export.specs.Moments.{moment_text}
+use Rattle.droid_export.specs.Table.{columns, name_of}
 use Rattle.droid_export.specs.Uris.{uri}
+use Rattle.droid_export.specs.declared.column.Column.{Column}
+use Rattle.droid_export.specs.declared.column.Column.TheVariants.{Id, ParentId, Uri, FilePath, Name, Method, Status}
+use Rattle.droid_export.specs.declared.column.Column.TheVariants.{Size, Kind, Ext, LastModified, ExtensionMismatch}
+use Rattle.droid_export.specs.declared.column.Column.TheVariants.{Hash, FormatCount, Puid, MimeType, FormatName}
+use Rattle.droid_export.specs.declared.column.Column.TheVariants.{FormatVersion}
 
--- the columns of the export: those of DROID and the hash (their names and order are this project's own)
-pub record Row : Type 0 where
-  pub id : List ℕ
-  pub parent_id : List ℕ
-  pub uri : List ℕ
-  pub file_path : List ℕ
-  pub name : List ℕ
-  pub method : List ℕ
-  pub status : List ℕ
-  pub size : List ℕ
-  pub kind : List ℕ
-  pub ext : List ℕ
-  pub last_modified : List ℕ
-  pub extension_mismatch : List ℕ
-  pub hash : List ℕ
-  pub format_count : List ℕ
-  pub puid : List ℕ
-  pub mime_type : List ℕ
-  pub format_name : List ℕ
-  pub format_version : List ℕ
+-- a row: what each column says
+abbrev pub Row : Type 0
+Row = Column → List ℕ
 
 -- the fields of a row in the order of the columns
 abbrev pub fields : Row → List (List ℕ)
-fields row =
-    row.id ∷ row.parent_id ∷ row.uri ∷ row.file_path ∷ row.name ∷ row.method ∷ row.status ∷ row.size ∷ row.kind
-    ∷ row.ext ∷ row.last_modified ∷ row.extension_mismatch ∷ row.hash ∷ row.format_count
-    ∷ row.puid ∷ row.mime_type ∷ row.format_name ∷ row.format_version ∷ []
-
--- the name of the hash column
-abbrev pub hash_column : HashKind → List ℕ
-hash_column hashes.Nothing = codes "HASH"
-hash_column hashes.Md5 = codes "MD5_HASH"
-hash_column hashes.Sha256 = codes "SHA256_HASH"
+fields row = map row columns
 
 -- the names of the columns
 abbrev pub header : HashKind → Row
-header kind = record {
-  id = codes "ID";
-  parent_id = codes "PARENT_ID";
-  uri = codes "URI";
-  file_path = codes "FILE_PATH";
-  name = codes "NAME";
-  method = codes "METHOD";
-  status = codes "STATUS";
-  size = codes "SIZE";
-  kind = codes "TYPE";
-  ext = codes "EXT";
-  last_modified = codes "LAST_MODIFIED";
-  extension_mismatch = codes "EXTENSION_MISMATCH";
-  hash = hash_column kind;
-  format_count = codes "FORMAT_COUNT";
-  puid = codes "PUID";
-  mime_type = codes "MIME_TYPE";
-  format_name = codes "FORMAT_NAME";
-  format_version = codes "FORMAT_VERSION";
-}
+header hash = name_of hash
 
 -- the four columns of a format
 pub record Shown : Type 0 where
@@ -108,7 +68,7 @@ abbrev pub shown : Contents → List ℕ → Shown
 shown registry puid = shown_by puid (format_of registry puid)
 
 -- the name of a method
-abbrev pub method_name : Method → List ℕ
+abbrev pub method_name : methods.Method → List ℕ
 method_name Unidentified = []
 method_name Signature = codes "Signature"
 method_name Extension = codes "Extension"
@@ -131,26 +91,24 @@ of_file node text = if is_file node.kind then text else []
 
 -- a row of a record
 unfoldable pub row : Record → Shown → Row
-row node format = record {
-  id = decimal node.id;
-  parent_id = parent_text node.parent;
-  uri = uri node.path node.kind;
-  file_path = node.path;
-  name = node.name;
-  method = method_name (found_by node);
-  status = codes "Done";
-  size = of_file node (decimal node.size);
-  kind = kind_name node.kind;
-  ext = extension node;
-  last_modified = moment_text node.modified;
-  extension_mismatch = truth (mismatch node);
-  hash = of_file node (encode_lower (hash_bytes node.hash));
-  format_count = of_file node (decimal (length node.puids));
-  puid = format.puid;
-  mime_type = format.mime_type;
-  format_name = format.name;
-  format_version = format.version;
-}
+row node format Id = decimal node.id
+row node format ParentId = parent_text node.parent
+row node format Uri = uri node.path node.kind
+row node format FilePath = node.path
+row node format Name = node.name
+row node format Method = method_name (found_by node)
+row node format Status = codes "Done"
+row node format Size = of_file node (decimal node.size)
+row node format Kind = kind_name node.kind
+row node format Ext = extension node
+row node format LastModified = moment_text node.modified
+row node format ExtensionMismatch = truth (mismatch node)
+row node format Hash = of_file node (encode_lower (hash_bytes node.hash))
+row node format FormatCount = of_file node (decimal (length node.puids))
+row node format Puid = format.puid
+row node format MimeType = format.mime_type
+row node format FormatName = format.name
+row node format FormatVersion = format.version
 
 -- the rows of a record: one for each format, in order, or one without a format
 abbrev pub rows_by : Contents → Record → List (List ℕ) → List Row

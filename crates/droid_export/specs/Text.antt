@@ -1,14 +1,20 @@
 -- The text of an export.
-use Rattle.std.specs.Prelude.{ℕ, List, ◌∷◌, filter}
+use Rattle.std.specs.Prelude.{ℕ, List, [], ◌∷◌, ◌++◌, filter}
 use Rattle.std.specs.List.{flat_map, AllByRecursion}
 use Rattle.droid_frame.specs.declared.filter.Filter.{Filter}
 use Rattle.droid_frame.specs.declared.hash_kind.HashKind.{HashKind}
 use Rattle.droid_frame.specs.declared.record.Record.{Record}
 use Rattle.droid_pronom.specs.Registry.{Contents}
-use Rattle.droid_export.specs.Csv.{line}
+use Rattle.droid_export.specs.Csv.{line, quoted}
 use Rattle.droid_export.specs.Filters.{meets}
 use Rattle.droid_export.specs.Moments.{IsMoment}
 use Rattle.droid_export.specs.Rows.{Row, fields, header, rows}
+use Rattle.droid_export.specs.Table.{mark_of}
+use Rattle.droid_export.specs.declared.column.Column.{Column}
+
+-- what a column of a row says, with the mark behind it
+abbrev pub piece : Row → Column → List ℕ
+piece row column = quoted (row column) ++ mark_of column ∷ []
 
 -- a row as a record of CSV
 abbrev pub row_text : Row → List ℕ

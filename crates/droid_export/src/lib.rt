@@ -1,6 +1,7 @@
 //! The export: writes the records of a profile as CSV, with DROID's columns, filtered by criteria.
 #![tactic(auto)]
 
+mod column;
 mod extension;
 mod fault;
 mod filter;
@@ -19,6 +20,7 @@ mod table;
 mod text;
 mod writer;
 
+pub use column::{COLUMNS, Column};
 pub use fault::ExportFault;
 pub use filter::meets;
 pub use hash_text::HashText;
@@ -27,5 +29,6 @@ pub use moment::{moment_bytes, moment_text};
 pub use node_uri::uri;
 pub use pending_text::PendingText;
 pub use row_text::RowText;
+pub use rows::{kind_name, method_name, truth};
 pub use text::export_text;
 pub use writer::export;

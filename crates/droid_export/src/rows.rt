@@ -3,59 +3,59 @@
 ghost use Rattle.std.specs.Prelude.{◌≡◌, ◌++◌, OnOk, codes, map};
 ghost use Rattle.std.specs.List.{flat_map};
 ghost use Rattle.std.specs.Option.{option_copied};
-ghost use Rattle.droid_export.specs.Filters.{found_by, mismatch};
+ghost use Rattle.droid_export.specs.Filters.{found_by};
 ghost use Rattle.droid_export.specs.Moments.{IsMoment};
 ghost use Rattle.droid_export.specs.Rows.{header, of_format, row, rows, shown, shown_by};
 ghost use Rattle.droid_export.specs.Rows as spec;
-ghost use Rattle.droid_export.specs.Columns.{IsCommon};
-ghost use Rattle.droid_export.specs.Text.{record_text, row_text};
+ghost use Rattle.droid_export.specs.Columns.{IsCommon, row_of};
+ghost use Rattle.droid_export.specs.Text.{piece, record_text, row_text};
 
+use crate::column::{COLUMNS, Column};
 use crate::extension::extension;
 use crate::filter::{found_by, mismatch};
 use crate::moment::moment_bytes;
 use crate::node_uri::add_uri;
 use crate::shared_columns::{Common, count_text, hash_text, parent_text, size_text};
-use crate::table::add_line;
+use crate::table::add_field;
 use droid_frame::{HashKind, Method, NodeKind, Record};
 use droid_pronom::{Format, Registry};
 use itoa::Buffer;
 use std::alloc::AllocError;
 
+/// What a row shows: a record, and one of its formats, if it has any.
+#[derive(Clone, Copy)]
+pub(crate) struct RowParts<'a> {
+    node: &'a Record,
+    /// What was computed from the record.
+    common: &'a Common<'a>,
+    /// The format's identifier, or no bytes.
+    puid: &'a str,
+    /// The format, if the registry has it.
+    format: Option<&'a Format>,
+}
+
 /// Appends the names of the columns. One of them depends on the kind of hash.
 pub(crate) fn add_header(text: &mut Vec<u8>, hash: HashKind) -> Result<(), AllocError>
     ensures { OnOk result (text.new.items ≡ text.old.items ++ row_text (header hash)) }
 {
-    let names: [&[u8]; 17] = [
-        b"ID",
-        b"PARENT_ID",
-        b"URI",
-        b"FILE_PATH",
-        b"NAME",
-        b"METHOD",
-        b"STATUS",
-        b"SIZE",
-        b"TYPE",
-        b"EXT",
-        b"LAST_MODIFIED",
-        b"EXTENSION_MISMATCH",
-        hash_column(hash).as_bytes(),
-        b"FORMAT_COUNT",
-        b"PUID",
-        b"MIME_TYPE",
-        b"FORMAT_NAME",
-    ];
-    add_line(text, &names, b"FORMAT_VERSION")
+    add_names(text, &COLUMNS, hash)
 }
 
-/// Returns the name of the hash column.
-fn hash_column(hash: HashKind) -> &'static str
-    ensures { result.now ≡ spec.hash_column hash }
+/// Appends the names of these columns.
+fn add_names(text: &mut Vec<u8>, columns: &[Column], hash: HashKind) -> Result<(), AllocError>
+    ensures { OnOk result (text.new.items ≡ text.old.items ++ flat_map (piece (header hash)) columns.now) }
 {
-    match hash {
-        HashKind::Nothing => "HASH",
-        HashKind::Md5 => "MD5_HASH",
-        HashKind::Sha256 => "SHA256_HASH",
+    for column in columns {
+        add_name(text, *column, hash)?;
     }
+    Ok(())
+}
+
+/// Appends the name of a column.
+fn add_name(text: &mut Vec<u8>, column: Column, hash: HashKind) -> Result<(), AllocError>
+    ensures { OnOk result (text.new.items ≡ text.old.items ++ piece (header hash) column) }
+{
+    add_field(text, column.name(hash).as_bytes(), column.mark())
 }
 
 /// Appends the rows of a record: one for each of its formats, in order, or one row without a format. `uri` is a place
@@ -135,7 +135,6 @@ fn format_of<'a>(registry: &'a Registry, puid: &str) -> Option<&'a Format>
 }
 
 /// Appends a row of a record.
-#[tactic(auto, unfolding(crate::specs::Rows::row))]
 fn add_row<'a>(
     text: &mut Vec<u8>,
     node: &'a Record,
@@ -147,26 +146,62 @@ fn add_row<'a>(
     ensures { OnOk result
         (text.new.items ≡ text.old.items ++ row_text (row node.now (shown_by puid.now (option_copied format.entry)))) }
 {
-    let row: [&[u8]; 17] = [
-        common.id.as_bytes(),
-        common.parent_id.as_bytes(),
-        common.uri.as_bytes(),
-        node.path.as_str().as_bytes(),
-        node.name.as_str().as_bytes(),
-        method_name(node).as_bytes(),
-        status(node).as_bytes(),
-        common.size.as_bytes(),
-        kind_name(node).as_bytes(),
-        extension(node).as_bytes(),
-        common.last_modified.as_slice(),
-        mismatch_text(node).as_bytes(),
-        common.hash,
-        common.format_count.as_bytes(),
-        puid.as_bytes(),
-        mime_type(format).as_bytes(),
-        format_name(format).as_bytes(),
-    ];
-    add_line(text, &row, format_version(format).as_bytes())
+    let parts = RowParts {
+        node,
+        common,
+        puid,
+        format,
+    };
+    add_texts(text, &COLUMNS, &parts)
+}
+
+/// Appends what these columns of a row say.
+fn add_texts(text: &mut Vec<u8>, columns: &[Column], parts: &RowParts<'_>) -> Result<(), AllocError>
+    requires { IsCommon parts.now.node.now parts.now.common.now }
+    ensures { OnOk result (text.new.items ≡ text.old.items ++ flat_map (piece (row_of parts.now)) columns.now) }
+{
+    for column in columns {
+        add_text(text, *column, parts)?;
+    }
+    Ok(())
+}
+
+/// Appends what a column of a row says.
+fn add_text(text: &mut Vec<u8>, column: Column, parts: &RowParts<'_>) -> Result<(), AllocError>
+    requires { IsCommon parts.now.node.now parts.now.common.now }
+    ensures { OnOk result (text.new.items ≡ text.old.items ++ piece (row_of parts.now) column) }
+{
+    add_field(text, text_of(column, parts), column.mark())
+}
+
+/// Returns what a column of a row says.
+#[tactic(auto, unfolding(crate::specs::Rows::row))]
+fn text_of<'a>(column: Column, parts: &RowParts<'a>) -> &'a [u8]
+    requires { IsCommon parts.now.node.now parts.now.common.now }
+    ensures { result.now ≡ row_of parts.now column }
+{
+    let node = parts.node;
+    let common = parts.common;
+    match column {
+        Column::Id => common.id.as_bytes(),
+        Column::ParentId => common.parent_id.as_bytes(),
+        Column::Uri => common.uri.as_bytes(),
+        Column::FilePath => node.path.as_str().as_bytes(),
+        Column::Name => node.name.as_str().as_bytes(),
+        Column::Method => method_text(node).as_bytes(),
+        Column::Status => status(node).as_bytes(),
+        Column::Size => common.size.as_bytes(),
+        Column::Kind => kind_name(node.kind).as_bytes(),
+        Column::Ext => extension(node).as_bytes(),
+        Column::LastModified => common.last_modified.as_slice(),
+        Column::ExtensionMismatch => truth(mismatch(node)).as_bytes(),
+        Column::Hash => common.hash,
+        Column::FormatCount => common.format_count.as_bytes(),
+        Column::Puid => parts.puid.as_bytes(),
+        Column::MimeType => mime_type(parts.format).as_bytes(),
+        Column::FormatName => format_name(parts.format).as_bytes(),
+        Column::FormatVersion => format_version(parts.format).as_bytes(),
+    }
 }
 
 /// Returns the field MIME_TYPE, which is empty without a format.
@@ -200,10 +235,17 @@ fn format_version(format: Option<&Format>) -> &str
 }
 
 /// Returns the field METHOD.
-fn method_name(node: &Record) -> &str
+fn method_text(node: &Record) -> &'static str
     ensures { result.now ≡ spec.method_name (found_by node.now) }
 {
-    match found_by(node) {
+    method_name(found_by(node))
+}
+
+/// Returns what METHOD says of a method.
+pub fn method_name(method: Method) -> &'static str
+    ensures { result.now ≡ spec.method_name method }
+{
+    match method {
         Method::Unidentified => "",
         Method::Signature => "Signature",
         Method::Extension => "Extension",
@@ -218,19 +260,19 @@ fn status(_node: &Record) -> &str
     "Done"
 }
 
-/// Returns the field TYPE.
-fn kind_name(node: &Record) -> &str
-    ensures { result.now ≡ spec.kind_name node.now.kind }
+/// Returns what TYPE says of a kind.
+pub fn kind_name(kind: NodeKind) -> &'static str
+    ensures { result.now ≡ spec.kind_name kind }
 {
-    match node.kind {
+    match kind {
         NodeKind::File => "File",
         NodeKind::Folder => "Folder",
     }
 }
 
-/// Returns the field EXTENSION_MISMATCH.
-fn mismatch_text(node: &Record) -> &str
-    ensures { result.now ≡ spec.truth (mismatch node.now) }
+/// Returns what EXTENSION_MISMATCH says of a truth value.
+pub fn truth(value: bool) -> &'static str
+    ensures { result.now ≡ spec.truth value }
 {
-    if mismatch(node) { "true" } else { "false" }
+    if value { "true" } else { "false" }
 }

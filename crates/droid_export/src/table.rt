@@ -1,26 +1,15 @@
-//! Appends records of CSV to a buffer, with each field between double quotes.
+//! Appends fields of CSV to a buffer, between double quotes.
 
-ghost use Rattle.std.specs.Prelude.{◌≡◌, ◌++◌, ◌∷◌, [], IsTrue, OnOk, map};
+ghost use Rattle.std.specs.Prelude.{◌≡◌, ◌++◌, ◌∷◌, [], IsTrue, OnOk};
 ghost use Rattle.std.specs.List.{flat_map};
-ghost use Rattle.droid_export.specs.Csv.{doubled, line, quoted};
+ghost use Rattle.droid_export.specs.Csv.{doubled, quoted};
 
 use memchr::memchr;
 use std::alloc::AllocError;
 
-/// Appends a record of these fields, and of one more. Fails only if the buffer can't grow.
-pub(crate) fn add_line(text: &mut Vec<u8>, fields: &[&[u8]], last: &[u8]) -> Result<(), AllocError>
-    ensures { OnOk result
-        (text.new.items ≡ text.old.items ++ line (map (λ field. field.now) fields.now ++ last.now ∷ [])) }
-{
-    for field in fields {
-        add_field(text, *field, b',')?;
-    }
-    add_field(text, last, b'\n')
-}
-
 /// Appends a field between double quotes, and the byte behind it.
 #[tactic(auto, unfolding(crate::specs::Csv::quoted))]
-fn add_field(text: &mut Vec<u8>, field: &[u8], end: u8) -> Result<(), AllocError>
+pub(crate) fn add_field(text: &mut Vec<u8>, field: &[u8], end: u8) -> Result<(), AllocError>
     ensures { OnOk result (text.new.items ≡ text.old.items ++ (quoted field.now ++ end ∷ [])) }
 {
     text.push(b'"')?;
