@@ -1,5 +1,5 @@
 -- How the command ends (this project's own).
-use Rattle.std.specs.Prelude.{ℕ, List, [], Option, Some, None, codes}
+use Rattle.std.specs.Prelude.{ℕ, List, [], Some, None, codes}
 use Rattle.std.specs.declared.io.ErrorKind.TheVariants as kinds
 use Rattle.droid_signature_file.specs.declared.fault.FileFault.{FileFault}
 use Rattle.droid_signature_file.specs.declared.fault.FileFault.TheVariants as files
@@ -58,11 +58,6 @@ abbrev pub told_of_file : FileFault → List ℕ → Told
 told_of_file files.Memory file = by table.memory []
 told_of_file (files.Document problem line) file = numbered (problem_row problem) (of_path file) line
 told_of_file (files.NotASignatureFile wrong) file = by (wrong_row wrong) (of_path file)
-
--- what a sentence calls the registry
-abbrev pub output_name : Option (List ℕ) → List ℕ
-output_name (Some path) = path
-output_name None = codes "standard output"
 
 -- the ending by the table
 abbrev pub told_by : RegistryEnding → List ℕ → List ℕ → Told

@@ -2,7 +2,7 @@
 
 ghost use Rattle.std.specs.Prelude.{◌≡◌, option_map};
 ghost use Rattle.droid_cmd_registry.specs.Endings.{problem_row, told_of_file, told_unread, unput_row, wrong_row};
-ghost use Rattle.droid_terminal.specs.Endings.{said, told};
+ghost use Rattle.droid_terminal.specs.Endings.{output_name, said, told};
 
 use crate::registry_places::{Unput, Unread};
 use droid_signature_file::{FileFault, Wrong};
@@ -32,7 +32,7 @@ pub enum RegistryEnding {
 }
 
 impl RegistryEnding {
-    ghost use Rattle.droid_cmd_registry.specs.Endings.{output_name, told_by, unconverted};
+    ghost use Rattle.droid_cmd_registry.specs.Endings.{told_by, unconverted};
 
     /// Returns the ending where a file is no signature file.
     pub(crate) fn unconverted(fault: FileFault) -> RegistryEnding

@@ -1,5 +1,5 @@
 -- How the comparison of a folder ends (this project's own).
-use Rattle.std.specs.Prelude.{◌≡◌, ℕ, List, [], ◌++◌, Option, Some, None, codes, decimal}
+use Rattle.std.specs.Prelude.{◌≡◌, ℕ, List, [], ◌++◌, Some, None, codes, decimal}
 use Rattle.std.specs.declared.io.ErrorKind.{ErrorKind}
 use Rattle.std.specs.declared.io.ErrorKind.TheVariants as kinds
 use Rattle.droid_fixity.specs.declared.checksum_lists.list_fault.ManifestFault.{ManifestFault}
@@ -9,9 +9,10 @@ use Rattle.droid_lists.specs.declared.csv_items.column.Column.{Column}
 use Rattle.droid_lists.specs.declared.csv_items.fault.ListFault.{ListFault}
 use Rattle.droid_lists.specs.declared.csv_items.fault.ListFault.TheVariants as profiles
 use Rattle.droid_terminal.specs.Endings as endings
-use Rattle.droid_terminal.specs.Endings.{IsNoFolder, Said, Told, by, detailed, of_path}
+use Rattle.droid_terminal.specs.Endings.{Said, Told, by, detailed, of_path}
 use Rattle.droid_terminal.specs.FaultTable as table
 use Rattle.droid_terminal.specs.Paths.{shown_text}
+use Rattle.droid_terminal.specs.SeenAgain.{IsNoFolder}
 use Rattle.droid_lists.specs.declared.list_content.UnreadList.{UnreadList}
 use Rattle.droid_lists.specs.declared.list_content.UnreadList.TheVariants as lists
 use Rattle.droid_cmd_verify.specs.declared.tree_check.CheckFault.{CheckFault}

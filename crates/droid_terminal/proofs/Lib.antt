@@ -8,3 +8,4 @@ pub mod Quotients
 pub mod Seconds
 pub mod SkippedPaths
 pub mod SkippedTexts
+pub mod Statuses

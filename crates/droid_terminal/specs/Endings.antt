@@ -1,5 +1,5 @@
 -- How a command ends, and what it prints then (this project's own).
-use Rattle.std.specs.Prelude.{◌≡◌, ℕ, List, [], ◌∷◌, ◌++◌, Option, Some, None, codes, decimal}
+use Rattle.std.specs.Prelude.{ℕ, List, [], ◌∷◌, ◌++◌, Option, Some, None, codes, decimal}
 use Rattle.droid_terminal.specs.Paths.{shown_text}
 use Rattle.droid_terminal.specs.declared.ending.about.About.{About}
 use Rattle.droid_terminal.specs.declared.ending.about.About.TheVariants as abouts
@@ -8,10 +8,12 @@ use Rattle.droid_terminal.specs.declared.ending.command_ending.Ending.TheVariant
 use Rattle.droid_terminal.specs.declared.ending.detail.Detail.{Detail}
 use Rattle.droid_terminal.specs.declared.ending.detail.Detail.TheVariants as details
 use Rattle.droid_terminal.specs.declared.ending.row.Row.{Row}
+use Rattle.droid_terminal.specs.declared.ending.status.Status.{Status}
+use Rattle.droid_terminal.specs.declared.ending.status.Status.TheVariants.{Unread, Failed}
 
 -- a row as it is read: the status, the name, and what is said before and behind the detail
 pub record Said : Type 0 where
-  pub status : ℕ
+  pub status : Status
   pub name : List ℕ
   pub text : List ℕ
   pub rest : List ℕ
@@ -41,6 +43,11 @@ about_text (abouts.Path path) = of_path path.now
 about_text (abouts.Beside path ending) = of_beside path.now ending.now
 about_text (abouts.Port port) = of_port port
 about_text (abouts.Unheard port) = of_unheard port
+
+-- what a sentence calls an output
+abbrev pub output_name : Option (List ℕ) → List ℕ
+output_name (Some path) = path
+output_name None = codes "standard output"
 
 -- what it names; how the system's reasons are printed is not known
 abbrev pub detail_text : Detail → Option (List ℕ)
@@ -75,10 +82,14 @@ abbrev pub numbered : Said → List ℕ → ℕ → Told
 numbered row about number = Fault row (Some number) about (Some (decimal number))
 
 -- the exit status
+abbrev pub number_of : Status → ℕ
+number_of Unread = 3
+number_of Failed = 4
+
 abbrev pub status_of : Told → ℕ
 status_of Whole = 0
 status_of Partly = 5
-status_of (Fault row at about detail) = row.status
+status_of (Fault row at about detail) = number_of row.status
 
 -- the line with the name of a fault, and the number of the line or record at fault
 abbrev pub fault_line : List ℕ → Option ℕ → List ℕ
@@ -89,8 +100,3 @@ fault_line name None = codes "fault: " ++ (name ++ 10 ∷ [])
 abbrev pub sentence_text : Said → List ℕ → Option (List ℕ) → Option (List ℕ)
 sentence_text row about (Some detail) = Some (about ++ (row.text ++ (detail ++ (row.rest ++ 10 ∷ []))))
 sentence_text row about None = None
-
--- a folder cannot be listed; what a file system says of it is not known
-abbrev pub IsNoFolder : List ℕ → Told → Type 0
-IsNoFolder path (Fault row at about detail) = (row.status ≡ 4) × (row.name ≡ codes "Folder") × (about ≡ of_path path)
-IsNoFolder path other = ⊥

@@ -1,240 +1,375 @@
 -- The table of faults: by which name, with which status and with which sentence a command ends (this project's own).
-use Rattle.std.specs.Prelude.{[], codes}
+use Rattle.std.specs.Prelude.{ℕ, List, [], codes}
 use Rattle.droid_terminal.specs.Endings.{Said}
+use Rattle.droid_terminal.specs.declared.ending.status.Status.{Status}
+use Rattle.droid_terminal.specs.declared.ending.status.Status.TheVariants.{Unread, Failed}
+
+-- a row whose sentence names something within, and one whose sentence ends before
+abbrev pub gapped : Status → List ℕ → List ℕ → List ℕ → Said
+gapped status name text rest = record { status = status; name = name; text = text; rest = rest }
+
+abbrev pub row : Status → List ℕ → List ℕ → Said
+row status name text = gapped status name text []
+
+abbrev lost : List ℕ
+lost = codes "the service no longer has what was sent: run the same command again"
+
+abbrev lost_pieces : List ℕ
+lost_pieces = codes "the service no longer has pieces that it took, so it was restarted: run the same command again"
+
+abbrev must_take : List ℕ
+must_take = codes "the service refused a request that it must take: this is a mistake in droid_desk or in the service"
+
+-- ---- faults of several commands
 
 abbrev pub memory : Said
-memory = record {
-  status = 4;
-  name = codes "Memory";
-  text = codes "out of memory: close other programs, or allow this one more, and try again";
-  rest = [];
-}
+memory =
+    row Failed (codes "Memory") (codes "out of memory: close other programs, or allow this one more, and try again")
 
 abbrev pub unwritten : Said
-unwritten = record {
-  status = 4;
-  name = codes "Write";
-  text = codes "could not be written: is the disk full, or its reader gone?";
-  rest = [];
-}
+unwritten = row Failed (codes "Write") (codes "could not be written: is the disk full, or its reader gone?")
+
+abbrev pub same_output : Said
+same_output = row Failed (codes "Output") (codes "another FILE has this path: choose another place")
 
 abbrev pub folder_unlisted : Said
-folder_unlisted = record { status = 4; name = codes "Folder"; text = codes "cannot be listed: "; rest = [] }
+folder_unlisted = row Failed (codes "Folder") (codes "cannot be listed: ")
 
 abbrev pub folder_unlisted_once : Said
-folder_unlisted_once =
-    record { status = 4; name = codes "Folder"; text = codes "could not be listed: try again"; rest = [] }
+folder_unlisted_once = row Failed (codes "Folder") (codes "could not be listed: try again")
 
 abbrev pub not_a_folder : Said
-not_a_folder = record {
-  status = 4;
-  name = codes "Folder";
-  text = codes "not a folder: name the folder that has the files";
-  rest = [];
-}
+not_a_folder = row Failed (codes "Folder") (codes "not a folder: name the folder that has the files")
 
 abbrev pub no_folder : Said
-no_folder = record { status = 4; name = codes "Folder"; text = codes "no such folder: check the path"; rest = [] }
+no_folder = row Failed (codes "Folder") (codes "no such folder: check the path")
 
 abbrev pub folder_unseen : Said
-folder_unseen = record { status = 4; name = codes "Folder"; text = []; rest = [] }
+folder_unseen = row Failed (codes "Folder") []
+
+abbrev pub output_unnamed : Said
+output_unnamed = row Failed (codes "Output") (codes "the name of an output file is empty: name a file")
+
+abbrev pub output_is_no_file : Said
+output_is_no_file = row Failed (codes "Output") (codes "something else than a file has this name: choose another")
+
+abbrev pub output_without_folder : Said
+output_without_folder =
+    row Failed (codes "Output") (codes "cannot be created: its folder does not exist: create it first")
+
+abbrev pub output_below_a_file : Said
+output_below_a_file =
+    row Failed (codes "Output") (codes "cannot be created: a file stands in the place of its folder: choose another")
+
+abbrev pub output_denied : Said
+output_denied = row Failed (codes "Output") (codes "cannot be created: permission denied: choose another folder")
+
+abbrev pub output_folder_unusable : Said
+output_folder_unusable =
+    row Failed (codes "Output") (codes "cannot be created: its folder cannot be used: choose another")
+
+abbrev pub output_refused : Said
+output_refused =
+    row Failed (codes "Output") (codes "cannot be created: is its folder yours to write, and the disk not full?")
 
 abbrev pub too_many : Said
-too_many =
-    record { status = 4; name = codes "Numbers"; text = codes "too large: take its subfolders one by one"; rest = [] }
+too_many = row Failed (codes "Numbers") (codes "too large: take its subfolders one by one")
+
+abbrev pub own_csv_no_profile : Said
+own_csv_no_profile =
+    row Failed (codes "Profile")
+    (codes "does not begin with the column names of a profile: name a CSV of `profile` or of an export")
+
+abbrev pub own_csv_malformed : Said
+own_csv_malformed =
+    gapped Failed (codes "Profile") (codes "record ")
+    (codes " is malformed (the column names are record 1): was the file changed?")
+
+-- ---- faults of report
+
+abbrev pub profile_missing : Said
+profile_missing = row Unread (codes "Profile") (codes "no such file: check the path")
+
+abbrev pub profile_unread : Said
+profile_unread = row Unread (codes "Profile") []
+
+abbrev pub csv_itself : Said
+csv_itself = row Failed (codes "Output") (codes "this is the CSV itself: choose another place")
+
+abbrev pub no_profile : Said
+no_profile =
+    row Unread (codes "Profile")
+    (codes "does not begin with the column names of a profile: name a CSV of `profile` or of an export")
+
+abbrev pub profile_malformed : Said
+profile_malformed =
+    gapped Unread (codes "Profile") (codes "record ")
+    (codes " is malformed (the column names are record 1): was the file changed?")
+
+-- ---- faults of registry
 
 abbrev pub unopened_missing : Said
-unopened_missing = record { status = 3; name = codes "Read"; text = codes "no such file: check the path"; rest = [] }
+unopened_missing = row Unread (codes "Read") (codes "no such file: check the path")
 
 abbrev pub unopened_folder : Said
-unopened_folder =
-    record { status = 3; name = codes "Read"; text = codes "a folder: name the signature file in it"; rest = [] }
+unopened_folder = row Unread (codes "Read") (codes "a folder: name the signature file in it")
 
 abbrev pub unopened : Said
-unopened = record { status = 3; name = codes "Read"; text = []; rest = [] }
+unopened = row Unread (codes "Read") []
 
 abbrev pub reading_failed : Said
-reading_failed = record {
-  status = 3;
-  name = codes "Read";
-  text = codes "reading failed: try again with a copy of the file";
-  rest = [];
-}
+reading_failed = row Unread (codes "Read") (codes "reading failed: try again with a copy of the file")
 
 abbrev pub long_signature_file : Said
-long_signature_file = record {
-  status = 3;
-  name = codes "TooLong";
-  text = codes "more than 67,108,864 bytes: is it a signature file?";
-  rest = [];
-}
+long_signature_file = row Unread (codes "TooLong") (codes "more than 67,108,864 bytes: is it a signature file?")
 
 abbrev pub not_well_formed : Said
-not_well_formed = record {
-  status = 3;
-  name = codes "NotWellFormed";
-  text = codes "line ";
-  rest = codes ": not XML: is it a signature file, and whole?";
-}
+not_well_formed =
+    gapped Unread (codes "NotWellFormed") (codes "line ") (codes ": not XML: is it a signature file, and whole?")
 
 abbrev pub doctype : Said
-doctype = record {
-  status = 3;
-  name = codes "Doctype";
-  text = codes "line ";
-  rest = codes ": a document type declaration, which no signature file has";
-}
+doctype =
+    gapped Unread (codes "Doctype") (codes "line ") (codes ": a document type declaration, which no signature file has")
 
 abbrev pub too_deep : Said
-too_deep = record {
-  status = 3;
-  name = codes "TooDeep";
-  text = codes "line ";
-  rest = codes ": more than 16 elements inside one another: is it a signature file?";
-}
+too_deep =
+    gapped Unread (codes "TooDeep") (codes "line ")
+    (codes ": more than 16 elements inside one another: is it a signature file?")
 
 abbrev pub too_many_attributes : Said
-too_many_attributes = record {
-  status = 3;
-  name = codes "TooManyAttributes";
-  text = codes "line ";
-  rest = codes ": an element with more than 64 attributes: is it a signature file?";
-}
+too_many_attributes =
+    gapped Unread (codes "TooManyAttributes") (codes "line ")
+    (codes ": an element with more than 64 attributes: is it a signature file?")
 
 abbrev pub encoding : Said
-encoding = record {
-  status = 3;
-  name = codes "Encoding";
-  text = codes "line ";
-  rest = codes ": an encoding other than UTF-8: save the file as UTF-8";
-}
+encoding =
+    gapped Unread (codes "Encoding") (codes "line ") (codes ": an encoding other than UTF-8: save the file as UTF-8")
 
 abbrev pub other_root : Said
-other_root = record {
-  status = 3;
-  name = codes "NotASignatureFile";
-  text = codes "the outermost element is not FFSignatureFile: is it a signature file?";
-  rest = [];
-}
+other_root =
+    row Unread (codes "NotASignatureFile")
+    (codes "the outermost element is not FFSignatureFile: is it a signature file?")
 
 abbrev pub wrong_number : Said
-wrong_number = record {
-  status = 3;
-  name = codes "NotASignatureFile";
-  text = codes "an ID, a Position or an offset is missing or is not a number";
-  rest = [];
-}
+wrong_number =
+    row Unread (codes "NotASignatureFile") (codes "an ID, a Position or an offset is missing or is not a number")
 
 abbrev pub wrong_sequence : Said
-wrong_sequence = record {
-  status = 3;
-  name = codes "NotASignatureFile";
-  text = codes "a SubSequence has no Sequence or several";
-  rest = [];
-}
+wrong_sequence = row Unread (codes "NotASignatureFile") (codes "a SubSequence has no Sequence or several")
 
 abbrev pub long_registry : Said
-long_registry = record {
-  status = 3;
-  name = codes "LongRegistry";
-  text = codes "the registry would have more than 16,777,216 bytes";
-  rest = [];
-}
+long_registry = row Unread (codes "LongRegistry") (codes "the registry would have more than 16,777,216 bytes")
 
 abbrev pub signature_file_itself : Said
-signature_file_itself = record {
-  status = 4;
-  name = codes "Output";
-  text = codes "this is the signature file itself: choose another place";
-  rest = [];
-}
+signature_file_itself = row Failed (codes "Output") (codes "this is the signature file itself: choose another place")
 
 abbrev pub registry_refused : Said
-registry_refused = record {
-  status = 4;
-  name = codes "Output";
-  text = codes "cannot be created: is its folder there and yours to write, and the disk not full?";
-  rest = [];
-}
+registry_refused =
+    row Failed (codes "Output")
+    (codes "cannot be created: is its folder there and yours to write, and the disk not full?")
+
+-- ---- faults of verify
 
 abbrev pub list_missing : Said
-list_missing =
-    record { status = 3; name = codes "Open"; text = codes "no such file: check the path after --against"; rest = [] }
+list_missing = row Unread (codes "Open") (codes "no such file: check the path after --against")
 
 abbrev pub list_unopened : Said
-list_unopened = record { status = 3; name = codes "Open"; text = []; rest = [] }
+list_unopened = row Unread (codes "Open") []
 
 abbrev pub list_other : Said
-list_other =
-    record { status = 3; name = codes "List"; text = codes "the first record is not that of a profile"; rest = [] }
+list_other = row Unread (codes "List") (codes "the first record is not that of a profile")
 
 abbrev pub list_fields : Said
-list_fields =
-    record { status = 3; name = codes "List"; text = codes "record "; rest = codes " does not have 18 fields" }
+list_fields = gapped Unread (codes "List") (codes "record ") (codes " does not have 18 fields")
 
 abbrev pub list_wrong : Said
-list_wrong = record { status = 3; name = codes "List"; text = codes "record "; rest = codes " is wrong" }
+list_wrong = gapped Unread (codes "List") (codes "record ") (codes " is wrong")
 
 abbrev pub list_contradicts : Said
-list_contradicts =
-    record { status = 3; name = codes "List"; text = codes "record "; rest = codes " contradicts another record" }
+list_contradicts = gapped Unread (codes "List") (codes "record ") (codes " contradicts another record")
 
 abbrev pub list_of_nothing : Said
-list_of_nothing = record {
-  status = 3;
-  name = codes "List";
-  text = codes "it names no file: name the CSV of a profile, or a list of checksums";
-  rest = [];
-}
+list_of_nothing =
+    row Unread (codes "List") (codes "it names no file: name the CSV of a profile, or a list of checksums")
 
 abbrev pub list_line : Said
-list_line = record {
-  status = 3;
-  name = codes "List";
-  text = codes "line ";
-  rest = codes " is malformed: name the CSV of a profile, or a list of checksums";
-}
+list_line =
+    gapped Unread (codes "List") (codes "line ")
+    (codes " is malformed: name the CSV of a profile, or a list of checksums")
 
 abbrev pub list_outside : Said
-list_outside = record {
-  status = 3;
-  name = codes "List";
-  text = codes "line ";
-  rest = codes " names no file below the folder: name the CSV of a profile, or a list of checksums";
-}
+list_outside =
+    gapped Unread (codes "List") (codes "line ")
+    (codes " names no file below the folder: name the CSV of a profile, or a list of checksums")
 
 abbrev pub list_digest : Said
-list_digest = record {
-  status = 3;
-  name = codes "List";
-  text = codes "line ";
-  rest =
-      codes " has a digest of another kind than the lines before it: name the CSV of a profile, or a list of checksums";
-}
+list_digest =
+    gapped Unread (codes "List") (codes "line ")
+    (codes " has a digest of another kind than the lines before it: name the CSV of a profile, or a list of checksums")
 
 abbrev pub list_twice : Said
-list_twice = record { status = 3; name = codes "List"; text = codes "has a path twice: "; rest = [] }
+list_twice = row Unread (codes "List") (codes "has a path twice: ")
 
 abbrev pub has_hashes : Said
-has_hashes = record {
-  status = 3;
-  name = codes "Hashes";
-  text = codes "has hashes: leave out --sizes-only, and they are compared";
-  rest = [];
-}
+has_hashes = row Unread (codes "Hashes") (codes "has hashes: leave out --sizes-only, and they are compared")
 
 abbrev pub no_formats : Said
-no_formats = record {
-  status = 3;
-  name = codes "Formats";
-  text = codes "a list of checksums has no formats: name the CSV of a profile, or leave out --identify";
-  rest = [];
-}
+no_formats =
+    row Unread (codes "Formats")
+    (codes "a list of checksums has no formats: name the CSV of a profile, or leave out --identify")
 
 abbrev pub listed_twice : Said
-listed_twice = record {
-  status = 4;
-  name = codes "Twice";
-  text = codes "a name is listed twice: did it change meanwhile? Try again";
-  rest = [];
-}
+listed_twice = row Failed (codes "Twice") (codes "a name is listed twice: did it change meanwhile? Try again")
+
+-- ---- faults of submit
+
+abbrev pub lies_in_the_folder : Said
+lies_in_the_folder =
+    row Failed (codes "Output")
+    (codes "lies in the folder that is submitted, and would change it: choose another place")
+
+abbrev pub output_unwritten : Said
+output_unwritten = row Failed (codes "Write") (codes "could not be written: is the disk full?")
+
+abbrev pub nobody_listens : Said
+nobody_listens = row Failed (codes "Socket") (codes ", or wait longer by --wait")
+
+abbrev pub unconnected : Said
+unconnected = row Failed (codes "Socket") (codes "cannot be connected to: ")
+
+abbrev pub walk_mistake : Said
+walk_mistake = row Failed (codes "Reply") (codes "this is a mistake in droid_desk")
+
+abbrev pub new_folders : Said
+new_folders = row Failed (codes "Folders") (codes "new folders appeared while it was read: run the same command again")
+
+abbrev pub entries : Said
+entries =
+    row Failed (codes "Entries: there are more than 100,000 folders and files")
+    (codes "more than 100,000 folders and files: submit its subfolders one by one")
+
+abbrev pub bytes : Said
+bytes =
+    row Failed (codes "Bytes")
+    (codes "the total size of its files is too large a number: submit its subfolders one by one")
+
+abbrev pub long_request : Said
+long_request = row Failed (codes "TooLong") (codes "a request is too long: this is a mistake in droid_desk")
+
+abbrev pub strange_reply : Said
+strange_reply =
+    row Failed (codes "Reply")
+    (codes "a reply came that does not fit its request: this is a mistake in droid_desk or in the service")
+
+abbrev pub memory_somewhere : Said
+memory_somewhere =
+    row Failed (codes "Memory") (codes "out of memory, here or in the service: run the same command again to resume")
+
+abbrev pub broken : Said
+broken =
+    gapped Failed (codes "Broken") (codes "the connection broke and could not be made again within ")
+    (codes " seconds: run the same command again to resume")
+
+abbrev pub stranger : Said
+stranger =
+    row Failed (codes "Stranger")
+    (codes "what came is not a reply to the request: is droid_desk serve listening there?")
+
+abbrev pub restarted : Said
+restarted =
+    row Failed (codes "Restarted")
+    (codes "the service has lost what was sent, so it was restarted: run the same command again, it starts anew")
+
+abbrev pub busy : Said
+busy =
+    gapped Failed (codes "Busy") (codes "64 files are unfinished there, and no place came free within ")
+    (codes " seconds: finish or abandon some, or wait longer by --wait")
+
+abbrev pub other_options : Said
+other_options =
+    gapped Failed (codes "Options") (codes "this submission was begun ") (codes ": give the same, or another --name")
+
+abbrev pub long_export : Said
+long_export =
+    gapped Failed (codes "TooLong") (codes "the profile's CSV has ")
+    (codes " bytes, more than the 1073741824 that submit reads: submit its subfolders one by one")
+
+abbrev pub disturbed : Said
+disturbed =
+    row Failed (codes "Disturbed") (codes
+    "other clients sent requests between the parts of the CSV, a hundred times: run the same command again later")
+
+abbrev pub wrong_export : Said
+wrong_export =
+    gapped Failed (codes "Reply") (codes "the CSV that came is not that of a profile: record ")
+    (codes ": this is a mistake in droid_desk or in the service")
+
+abbrev pub full_service : Said
+full_service =
+    row Failed (codes "Profiles")
+    (codes "the service has 64 profiles and takes no more: start another service on another port")
+
+abbrev pub number_reused : Said
+number_reused =
+    row Failed (codes "NumberReused")
+    (codes "this client has used the number of a request for another one: give another --client")
+
+abbrev pub no_such_profile : Said
+no_such_profile = row Failed (codes "NoSuchProfile") lost
+
+abbrev pub no_such_node : Said
+no_such_node = row Failed (codes "NoSuchNode") lost
+
+abbrev pub not_a_folder_there : Said
+not_a_folder_there = row Failed (codes "NotAFolder") lost
+
+abbrev pub not_a_file_there : Said
+not_a_file_there = row Failed (codes "NotAFile") lost
+
+abbrev pub incomplete : Said
+incomplete = row Failed (codes "Incomplete") lost_pieces
+
+abbrev pub too_far_ahead : Said
+too_far_ahead = row Failed (codes "TooFarAhead") lost_pieces
+
+abbrev pub store_failed : Said
+store_failed =
+    row Failed (codes "Store")
+    (codes "the service's store failed: run the same command again, or start the service anew")
+
+abbrev pub service_memory : Said
+service_memory =
+    row Failed (codes "Memory") (codes "the service is out of memory: run the same command again to resume")
+
+abbrev pub malformed : Said
+malformed = row Failed (codes "Malformed") must_take
+
+abbrev pub bad_name : Said
+bad_name = row Failed (codes "BadName") must_take
+
+abbrev pub path_too_long : Said
+path_too_long = row Failed (codes "PathTooLong") must_take
+
+abbrev pub name_taken : Said
+name_taken = row Failed (codes "NameTaken") must_take
+
+abbrev pub bad_option : Said
+bad_option = row Failed (codes "BadOption") must_take
+
+abbrev pub too_large : Said
+too_large = row Failed (codes "TooLarge") must_take
+
+abbrev pub already_finished : Said
+already_finished = row Failed (codes "AlreadyFinished") must_take
+
+abbrev pub bad_piece : Said
+bad_piece = row Failed (codes "BadPiece") must_take
+
+abbrev pub piece_held : Said
+piece_held = row Failed (codes "PieceHeld") must_take
+
+abbrev pub nodes : Said
+nodes = row Failed (codes "Nodes") must_take
+
+abbrev pub unfinished : Said
+unfinished = row Failed (codes "Busy") must_take

@@ -9,6 +9,7 @@ pub mod Paths
 pub mod Places
 pub mod Reporters
 pub mod Rhythms
+pub mod SeenAgain
 pub mod SkippedPaths
 pub mod SkippedTexts
 pub mod Tables

@@ -59,7 +59,7 @@ impl<'a> Ending<'a> {
         match self {
             Ending::Whole => 0,
             Ending::Partly => 5,
-            Ending::Fault(fault) => fault.row.status,
+            Ending::Fault(fault) => fault.row.status.number(),
         }
     }
 

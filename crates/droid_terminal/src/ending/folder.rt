@@ -1,6 +1,7 @@
 //! The ending where a folder cannot be listed.
 
-ghost use Rattle.droid_terminal.specs.Endings.{IsNoFolder, told};
+ghost use Rattle.droid_terminal.specs.Endings.{told};
+ghost use Rattle.droid_terminal.specs.SeenAgain.{IsNoFolder};
 
 use crate::ending::about::About;
 use crate::ending::command_ending::Ending;

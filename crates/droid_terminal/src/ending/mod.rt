@@ -6,4 +6,6 @@ pub mod detail;
 pub mod fault;
 pub mod faults;
 pub mod folder;
+pub mod output;
 pub mod row;
+pub mod status;

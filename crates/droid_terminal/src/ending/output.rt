@@ -1,0 +1,59 @@
+//! The ending where a file cannot be created or replaced.
+
+ghost use Rattle.std.specs.Prelude.{◌≡◌};
+ghost use Rattle.droid_terminal.specs.Endings.{said, told};
+ghost use Rattle.droid_terminal.specs.SeenAgain.{IsNoOutput, IsOutputRow, folder_row};
+
+use crate::ending::about::About;
+use crate::ending::command_ending::Ending;
+use crate::ending::faults;
+use crate::ending::row::Row;
+use crate::places::folder_of;
+use std::fs;
+use std::fs::Files;
+use std::io::ErrorKind;
+
+/// Looks again at a path at which no file can be created or replaced, and returns the ending that says why.
+pub fn told_no_output<'a, R: Files>(rt: &R, path: &'a str) -> Ending<'a>
+    ensures { IsNoOutput path.now (told result) }
+{
+    if path.is_empty() {
+        return Ending::by(faults::OUTPUT_UNNAMED, About::Nothing);
+    }
+    Ending::by(output_row(rt, path), About::Path(path))
+}
+
+/// Returns the row for what is at this path.
+fn output_row<R: Files>(rt: &R, path: &str) -> Row
+    ensures { IsOutputRow (said result) }
+{
+    if let Ok(found) = fs::metadata(rt, path)
+        && !found.is_file()
+    {
+        return faults::OUTPUT_IS_NO_FILE;
+    }
+    folder_row(folder_fault(rt, folder_of(path)))
+}
+
+/// Returns why a folder cannot be used, or `None` if it is there.
+fn folder_fault<R: Files>(rt: &R, path: &str) -> Option<ErrorKind> {
+    match fs::metadata(rt, path) {
+        Ok(found) if found.is_dir() => None,
+        Ok(_) => Some(ErrorKind::NotADirectory),
+        Err(error) => Some(error.kind()),
+    }
+}
+
+/// Returns the row for the fault of an output's folder, if it has one.
+fn folder_row(fault: Option<ErrorKind>) -> Row
+    ensures row { said result ≡ folder_row fault }
+    ensures output { IsOutputRow (said result) }
+{
+    match fault {
+        None => faults::OUTPUT_REFUSED,
+        Some(ErrorKind::NotFound) => faults::OUTPUT_WITHOUT_FOLDER,
+        Some(ErrorKind::NotADirectory) => faults::OUTPUT_BELOW_A_FILE,
+        Some(ErrorKind::PermissionDenied) => faults::OUTPUT_DENIED,
+        Some(_) => faults::OUTPUT_FOLDER_UNUSABLE,
+    }
+}
