@@ -1,12 +1,19 @@
 -- How the profile of a folder ends (this project's own).
-use Rattle.std.specs.Prelude.{ℕ, Bool, true, false, List, Option, Some, None, Result, Ok, Err, codes}
+use Rattle.std.specs.Prelude.{◌≡◌, ℕ, Bool, true, false, List, [], Option, Some, None, option_map, Result, Ok, Err}
+use Rattle.droid_arguments.specs.declared.profile.ProfileOptions.{ProfileOptions}
 use Rattle.droid_profile.specs.declared.csv_fault.CsvFault.{CsvFault}
 use Rattle.droid_profile.specs.declared.csv_fault.CsvFault.TheVariants as faults
-use Rattle.droid_cmd_profile.specs.Endings.{output_fault_text, page_fault_text}
+use Rattle.droid_terminal.specs.Endings as endings
+use Rattle.droid_terminal.specs.Endings.{Told, by, of_path, output_name}
+use Rattle.droid_terminal.specs.FaultTable as table
+use Rattle.droid_terminal.specs.SeenAgain.{IsNoFolder}
+use Rattle.droid_cmd_profile.specs.Endings.{TellsOutput, TellsPage}
 use Rattle.droid_cmd_profile.specs.declared.pages.page_fault.PageFault.{PageFault}
 use Rattle.droid_cmd_profile.specs.declared.profile_ending.ProfileEnding.{ProfileEnding}
 use Rattle.droid_cmd_profile.specs.declared.profile_ending.ProfileEnding.TheVariants.{Whole, Partly, NoFolder, SameFile}
 use Rattle.droid_cmd_profile.specs.declared.profile_ending.ProfileEnding.TheVariants.{NoOutput, Fault, Unlisted, NoPage}
+use Rattle.droid_cmd_profile.specs.declared.profile_outputs.OutputFile.{OutputFile}
+use Rattle.droid_cmd_profile.specs.declared.profile_outputs.OutputFile.TheVariants as files
 use Rattle.droid_cmd_profile.specs.declared.skipped_file.SkippedFault.{SkippedFault}
 use Rattle.droid_cmd_profile.specs.declared.skipped_file.SkippedFault.TheVariants as skipping
 
@@ -27,17 +34,6 @@ abbrev pub with_page : {V : Type 0} → ProfileEnding → Result V PageFault →
 with_page ending (Ok value) = ending
 with_page ending (Err fault) = NoPage fault
 
--- the exit status
-abbrev pub status_of : ProfileEnding → ℕ
-status_of Whole = 0
-status_of Partly = 5
-status_of NoFolder = 4
-status_of (SameFile file) = 4
-status_of (NoOutput file fault) = 4
-status_of (Fault fault) = 4
-status_of (Unlisted fault) = 4
-status_of (NoPage fault) = 4
-
 -- everything was written
 abbrev pub is_written : ProfileEnding → Bool
 is_written Whole = true
@@ -49,24 +45,35 @@ is_written (Fault fault) = false
 is_written (Unlisted fault) = false
 is_written (NoPage fault) = false
 
--- the name of a fault of the walk, or of writing the profile; of writing what was skipped
-abbrev pub csv_fault_text : CsvFault → List ℕ
-csv_fault_text faults.Memory = codes "Memory"
-csv_fault_text faults.Numbers = codes "Numbers"
-csv_fault_text faults.Csv = codes "Write"
-csv_fault_text faults.Manifest = codes "Write"
+-- the path of a file that a profile writes
+abbrev pub path_of : ProfileOptions → OutputFile → List ℕ
+path_of options files.Csv = output_name (option_map (λ path. path.now) options.output)
+path_of options files.Manifest = output_name (option_map (λ path. path.now) options.manifest)
+path_of options files.Skipped = output_name (option_map (λ path. path.now) options.skipped)
+path_of options files.Page = output_name (option_map (λ path. path.now) options.report)
 
-abbrev pub skipped_fault_text : SkippedFault → List ℕ
-skipped_fault_text skipping.Memory = codes "Memory"
-skipped_fault_text (skipping.Write why) = codes "Write"
+-- where a file could not be written
+abbrev pub told_unwritten : ProfileOptions → OutputFile → Told
+told_unwritten options file = by table.unwritten (of_path (path_of options file))
 
--- the name of the fault, if the ending is one
-abbrev pub fault_text : ProfileEnding → Option (List ℕ)
-fault_text Whole = None
-fault_text Partly = None
-fault_text NoFolder = Some (codes "Folder")
-fault_text (SameFile file) = Some (codes "Output")
-fault_text (NoOutput file fault) = Some (output_fault_text fault)
-fault_text (Fault fault) = Some (csv_fault_text fault)
-fault_text (Unlisted fault) = Some (skipped_fault_text fault)
-fault_text (NoPage fault) = Some (page_fault_text fault)
+-- where the walk ended early, or the profile could not be written; where what was skipped could not be written
+abbrev pub told_unprofiled : CsvFault → ProfileOptions → Told
+told_unprofiled faults.Memory options = by table.memory []
+told_unprofiled faults.Numbers options = by table.too_many (of_path options.folder.now)
+told_unprofiled faults.Csv options = told_unwritten options files.Csv
+told_unprofiled faults.Manifest options = told_unwritten options files.Manifest
+
+abbrev pub told_unlisted : SkippedFault → ProfileOptions → Told
+told_unlisted skipping.Memory options = by table.memory []
+told_unlisted (skipping.Write why) options = told_unwritten options files.Skipped
+
+-- the ending by the table
+abbrev pub Tells : ProfileEnding → ProfileOptions → Told → Type 0
+Tells Whole options it = it ≡ endings.Whole
+Tells Partly options it = it ≡ endings.Partly
+Tells NoFolder options it = IsNoFolder options.folder.now it
+Tells (SameFile file) options it = it ≡ by table.same_output (of_path (path_of options file))
+Tells (NoOutput file fault) options it = TellsOutput fault (path_of options file) it
+Tells (Fault fault) options it = it ≡ told_unprofiled fault options
+Tells (Unlisted fault) options it = it ≡ told_unlisted fault options
+Tells (NoPage fault) options it = TellsPage fault (path_of options files.Csv) (path_of options files.Page) it

@@ -1,14 +1,18 @@
 //! How the profile of a folder ends.
 
-ghost use Rattle.std.specs.Prelude.{◌≡◌, option_map};
-ghost use Rattle.droid_cmd_profile.specs.ProfileEndings.{csv_fault_text, ending_of, fault_text, is_written};
-ghost use Rattle.droid_cmd_profile.specs.ProfileEndings.{lacking_memory, skipped_fault_text, status_of, with_page};
+ghost use Rattle.std.specs.Prelude.{◌≡◌};
+ghost use Rattle.droid_cmd_profile.specs.ProfileEndings.{Tells, ending_of, is_written, lacking_memory, path_of};
+ghost use Rattle.droid_cmd_profile.specs.ProfileEndings.{told_unlisted, told_unprofiled, told_unwritten, with_page};
+ghost use Rattle.droid_terminal.specs.Endings.{told};
 
-use crate::pages::page_fault::{PageFault, output_fault_name};
+use crate::pages::page_fault::{PageFault, told_output};
 use crate::profile_outputs::OutputFile;
 use crate::skipped_file::SkippedFault;
+use droid_arguments::ProfileOptions;
 use droid_disk::OutputFault;
 use droid_profile::CsvFault;
+use droid_terminal::{About, Ending, faults, told_no_folder};
+use std::fs::Files;
 
 /// How the profile of a folder ends.
 #[derive(Clone, Copy)]
@@ -65,37 +69,6 @@ impl ProfileEnding {
         }
     }
 
-    /// Returns the exit status.
-    pub fn status(self) -> u8
-        ensures { result ≡ status_of self }
-    {
-        match self {
-            ProfileEnding::Whole => 0,
-            ProfileEnding::Partly => 5,
-            ProfileEnding::NoFolder
-            | ProfileEnding::SameFile(_)
-            | ProfileEnding::NoOutput(_, _)
-            | ProfileEnding::Fault(_)
-            | ProfileEnding::Unlisted(_)
-            | ProfileEnding::NoPage(_) => 4,
-        }
-    }
-
-    /// Names the fault, if the command ended with one.
-    pub(crate) fn fault_name(self) -> Option<&'static str>
-        ensures { option_map (λ name. name.now) result ≡ fault_text self }
-    {
-        match self {
-            ProfileEnding::Whole | ProfileEnding::Partly => None,
-            ProfileEnding::NoFolder => Some("Folder"),
-            ProfileEnding::SameFile(_) => Some("Output"),
-            ProfileEnding::NoOutput(_, fault) => Some(output_fault_name(fault)),
-            ProfileEnding::Fault(fault) => Some(csv_fault_name(fault)),
-            ProfileEnding::Unlisted(fault) => Some(skipped_fault_name(fault)),
-            ProfileEnding::NoPage(fault) => Some(fault.name()),
-        }
-    }
-
     /// Returns whether everything was written.
     pub(crate) fn is_written(self) -> bool
         ensures { result ≡ is_written self }
@@ -110,25 +83,69 @@ impl ProfileEnding {
             | ProfileEnding::NoPage(_) => false,
         }
     }
-}
-
-/// Names a fault of the walk, or of writing the profile.
-fn csv_fault_name(fault: CsvFault) -> &'static str
-    ensures { result.now ≡ csv_fault_text fault }
-{
-    match fault {
-        CsvFault::Memory => "Memory",
-        CsvFault::Numbers => "Numbers",
-        CsvFault::Csv | CsvFault::Manifest => "Write",
+    /// Returns the ending by the table, given the options of the command.
+    pub fn told<'a, R: Files + AllocGlobal>(self, rt: &R, options: ProfileOptions<'a>) -> Ending<'a>
+        ensures { Tells self options.entry (told result) }
+    {
+        match self {
+            ProfileEnding::Whole => Ending::Whole,
+            ProfileEnding::Partly => Ending::Partly,
+            ProfileEnding::NoFolder => told_no_folder(rt, options.folder),
+            ProfileEnding::SameFile(file) => {
+                Ending::by(faults::SAME_OUTPUT, About::Path(path_of(options, file)))
+            }
+            ProfileEnding::NoOutput(file, fault) => {
+                told_output(rt, fault, path_of(options, file))
+            }
+            ProfileEnding::Fault(fault) => told_unprofiled(fault, options),
+            ProfileEnding::Unlisted(fault) => told_unlisted(fault, options),
+            ProfileEnding::NoPage(fault) => fault.told(
+                rt,
+                path_of(options, OutputFile::Csv),
+                path_of(options, OutputFile::Page),
+            ),
+        }
     }
 }
 
-/// Names a fault of writing what was skipped.
-fn skipped_fault_name(fault: SkippedFault) -> &'static str
-    ensures { result.now ≡ skipped_fault_text fault }
+/// Returns the ending where the walk ended early, or the profile could not be written.
+fn told_unprofiled<'a>(fault: CsvFault, options: ProfileOptions<'a>) -> Ending<'a>
+    ensures { told result ≡ told_unprofiled fault options.entry }
 {
     match fault {
-        SkippedFault::Memory => "Memory",
-        SkippedFault::Write(_) => "Write",
+        CsvFault::Memory => Ending::by(faults::MEMORY, About::Nothing),
+        CsvFault::Numbers => Ending::by(faults::TOO_MANY, About::Path(options.folder)),
+        CsvFault::Csv => told_unwritten(options, OutputFile::Csv),
+        CsvFault::Manifest => told_unwritten(options, OutputFile::Manifest),
     }
+}
+
+/// Returns the ending where what was skipped could not be written.
+fn told_unlisted<'a>(fault: SkippedFault, options: ProfileOptions<'a>) -> Ending<'a>
+    ensures { told result ≡ told_unlisted fault options.entry }
+{
+    match fault {
+        SkippedFault::Memory => Ending::by(faults::MEMORY, About::Nothing),
+        SkippedFault::Write(_) => told_unwritten(options, OutputFile::Skipped),
+    }
+}
+
+/// Returns the ending where a file could not be written.
+fn told_unwritten<'a>(options: ProfileOptions<'a>, file: OutputFile) -> Ending<'a>
+    ensures { told result ≡ told_unwritten options.entry file }
+{
+    Ending::by(faults::UNWRITTEN, About::Path(path_of(options, file)))
+}
+
+/// Returns the path of a file that a profile writes.
+fn path_of<'a>(options: ProfileOptions<'a>, file: OutputFile) -> &'a str
+    ensures { result.now ≡ path_of options.entry file }
+{
+    let path = match file {
+        OutputFile::Csv => options.output,
+        OutputFile::Manifest => options.manifest,
+        OutputFile::Skipped => options.skipped,
+        OutputFile::Page => options.report,
+    };
+    path.unwrap_or("standard output")
 }

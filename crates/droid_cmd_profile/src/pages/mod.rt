@@ -7,4 +7,3 @@ pub mod page_fault;
 pub mod page_writer;
 pub mod profile_report;
 pub mod report_ending;
-pub mod report_sentences;

@@ -1,12 +1,15 @@
 //! Why the page of a CSV was not written.
 
 ghost use Rattle.std.specs.Prelude.{◌≡◌};
-ghost use Rattle.droid_cmd_profile.specs.Endings.{output_fault_text, page_fault_text, profile_fault_text};
+ghost use Rattle.droid_cmd_profile.specs.Endings.{TellsOutput, TellsPage, told_unmade};
+ghost use Rattle.droid_terminal.specs.Endings.{told};
 
 use droid_disk::OutputFault;
 use droid_frame::WriteFault;
 use droid_report::ProfileFault;
+use droid_terminal::{About, Detail, Ending, faults, told_no_output};
 use std::alloc::AllocError;
+use std::fs::Files;
 
 /// Why the page of a CSV was not written.
 #[derive(Clone, Copy)]
@@ -31,34 +34,38 @@ impl From<AllocError> for PageFault {
 }
 
 impl PageFault {
-    /// Names the fault.
-    pub fn name(self) -> &'static str
-        ensures { result.now ≡ page_fault_text self }
+    /// Returns the ending by the table, given the paths of the CSV and of the page. The command itself made the CSV.
+    pub fn told<'a, R: Files>(self, rt: &R, csv: &'a str, page: &'a str) -> Ending<'a>
+        ensures { TellsPage self csv.now page.now (told result) }
     {
         match self {
-            PageFault::NoOutput(fault) => output_fault_name(fault),
-            PageFault::Unmade(fault) => profile_fault_name(fault),
-            PageFault::Unwritten(_) => "Write",
+            PageFault::NoOutput(fault) => told_output(rt, fault, page),
+            PageFault::Unmade(fault) => told_unmade(fault, csv),
+            PageFault::Unwritten(_) => Ending::by(faults::UNWRITTEN, About::Path(page)),
         }
     }
 }
 
-/// Names a fault of a file.
-pub fn output_fault_name(fault: OutputFault) -> &'static str
-    ensures { result.now ≡ output_fault_text fault }
+/// Returns the ending where a file could not be created or replaced.
+pub fn told_output<'a, R: Files>(rt: &R, fault: OutputFault, path: &'a str) -> Ending<'a>
+    ensures { TellsOutput fault path.now (told result) }
 {
     match fault {
-        OutputFault::Memory => "Memory",
-        OutputFault::Refused => "Output",
+        OutputFault::Memory => Ending::by(faults::MEMORY, About::Nothing),
+        OutputFault::Refused => told_no_output(rt, path),
     }
 }
 
-/// Names a fault of a CSV.
-fn profile_fault_name(fault: ProfileFault) -> &'static str
-    ensures { result.now ≡ profile_fault_text fault }
+/// Returns the ending where no page could be made of a CSV of the command's own.
+fn told_unmade<'a>(fault: ProfileFault, csv: &'a str) -> Ending<'a>
+    ensures { told result ≡ told_unmade fault csv.now }
 {
+    let about = About::Path(csv);
     match fault {
-        ProfileFault::Memory => "Memory",
-        ProfileFault::Header | ProfileFault::Record { .. } => "Profile",
+        ProfileFault::Memory => Ending::by(faults::MEMORY, About::Nothing),
+        ProfileFault::Header => Ending::by(faults::OWN_CSV_NO_PROFILE, about),
+        ProfileFault::Record { record } => {
+            Ending::detailed(faults::OWN_CSV_MALFORMED, about, Detail::Number(record))
+        }
     }
 }

@@ -1,10 +1,13 @@
 //! How a report ended.
 
 ghost use Rattle.std.specs.Prelude.{◌≡◌, option_map};
-ghost use Rattle.droid_cmd_profile.specs.Endings.{fault_text};
+ghost use Rattle.droid_cmd_profile.specs.Endings.{told_no_profile, told_unread};
+ghost use Rattle.droid_terminal.specs.Endings.{output_name, told};
 
-use crate::pages::page_fault::PageFault;
+use crate::pages::page_fault::{PageFault, told_output};
 use droid_report::ProfileFault;
+use droid_terminal::{About, Detail, Ending, faults};
+use std::fs::Files;
 use std::io::ErrorKind;
 
 /// How a report ended.
@@ -21,33 +24,47 @@ pub enum ReportEnding {
 }
 
 impl ReportEnding {
-    ghost use Rattle.droid_cmd_profile.specs.Endings.{status_of};
+    ghost use Rattle.droid_cmd_profile.specs.Endings.{Tells};
 
-    /// Returns the exit status.
-    pub fn status(self) -> u8
-        ensures { result ≡ status_of self }
+    /// Returns the ending by the table, given the paths of the CSV and of the page.
+    pub fn told<'a, R: Files>(self, rt: &R, profile: &'a str, output: Option<&'a str>) -> Ending<'a>
+        ensures { Tells self profile.now (output_name (option_map (λ text. text.now) output.entry)) (told result) }
     {
+        let output = output.unwrap_or("standard output");
         match self {
-            ReportEnding::Whole => 0,
-            ReportEnding::Unread(_)
-            | ReportEnding::NoPage(PageFault::Unmade(ProfileFault::Header))
-            | ReportEnding::NoPage(PageFault::Unmade(ProfileFault::Record { .. })) => 3,
-            ReportEnding::SameFile
-            | ReportEnding::NoPage(PageFault::Unmade(ProfileFault::Memory))
-            | ReportEnding::NoPage(PageFault::NoOutput(_))
-            | ReportEnding::NoPage(PageFault::Unwritten(_)) => 4,
+            ReportEnding::Whole => Ending::Whole,
+            ReportEnding::Unread(kind) => told_unread(kind, profile),
+            ReportEnding::SameFile => Ending::by(faults::CSV_ITSELF, About::Path(output)),
+            ReportEnding::NoPage(PageFault::NoOutput(fault)) => told_output(rt, fault, output),
+            ReportEnding::NoPage(PageFault::Unmade(fault)) => told_no_profile(fault, profile),
+            ReportEnding::NoPage(PageFault::Unwritten(_)) => {
+                Ending::by(faults::UNWRITTEN, About::Path(output))
+            }
         }
     }
+}
 
-    /// Names the fault, if the command ended with one.
-    pub(crate) fn fault_name(self) -> Option<&'static str>
-        ensures { option_map (λ name. name.now) result ≡ fault_text self }
-    {
-        match self {
-            ReportEnding::Whole => None,
-            ReportEnding::Unread(_) => Some("Profile"),
-            ReportEnding::SameFile => Some("Output"),
-            ReportEnding::NoPage(fault) => Some(fault.name()),
+/// Returns the ending where the CSV could not be read.
+fn told_unread<'a>(kind: ErrorKind, profile: &'a str) -> Ending<'a>
+    ensures { told result ≡ told_unread kind profile.now }
+{
+    let about = About::Path(profile);
+    match kind {
+        ErrorKind::NotFound => Ending::by(faults::PROFILE_MISSING, about),
+        kind => Ending::detailed(faults::PROFILE_UNREAD, about, Detail::Cause(kind)),
+    }
+}
+
+/// Returns the ending where no page could be made of the CSV.
+fn told_no_profile<'a>(fault: ProfileFault, profile: &'a str) -> Ending<'a>
+    ensures { told result ≡ told_no_profile fault profile.now }
+{
+    let about = About::Path(profile);
+    match fault {
+        ProfileFault::Memory => Ending::by(faults::MEMORY, About::Nothing),
+        ProfileFault::Header => Ending::by(faults::NO_PROFILE, about),
+        ProfileFault::Record { record } => {
+            Ending::detailed(faults::PROFILE_MALFORMED, about, Detail::Number(record))
         }
     }
 }
