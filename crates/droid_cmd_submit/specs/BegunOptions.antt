@@ -42,9 +42,14 @@ abbrev pub matching_words : Bool → List ℕ
 matching_words true = codes "with --match-all"
 matching_words false = codes "without --match-all"
 
+abbrev pub with_hash : HashKind → List ℕ
+with_hash hash = codes "with " ++ hash_words hash
+
+abbrev pub both_words : HashKind → Bool → List ℕ
+both_words hash match_all = with_hash hash ++ (codes " and " ++ matching_words match_all)
+
 abbrev pub begun_words : BegunOptions → List ℕ
-begun_words (OtherHash hash) = codes "with " ++ hash_words hash
+begun_words (OtherHash hash) = with_hash hash
 begun_words (OtherMatching match_all) = matching_words match_all
-begun_words (OtherHashAndMatching hash match_all) =
-    codes "with " ++ (hash_words hash ++ (codes " and " ++ matching_words match_all))
+begun_words (OtherHashAndMatching hash match_all) = both_words hash match_all
 begun_words OtherLimit = codes "with another --limit"

@@ -6,4 +6,6 @@ pub mod ProfileComparisons
 pub mod SkippedEntries
 pub mod SubmissionEndings
 pub mod SubmitSettings
+pub mod ToldSubmissions
+pub mod ToldTransfers
 pub mod Waits

@@ -1,13 +1,11 @@
 //! Which options a submission was begun with.
 
-ghost use Rattle.std.specs.Prelude.{◌≡◌, Some};
-ghost use Rattle.droid_cmd_submit.specs.BegunOptions.{begun_of, begun_words, differing, hash_words, matching_words};
-ghost use Rattle.droid_cmd_submit.specs.BegunOptions.{same_hash, same_truth};
+ghost use Rattle.std.specs.Prelude.{◌≡◌, false, true};
+ghost use Rattle.droid_cmd_submit.specs.BegunOptions.{begun_of, begun_words, both_words, differing, matching_words};
+ghost use Rattle.droid_cmd_submit.specs.BegunOptions.{same_hash, same_truth, with_hash};
 
 use droid_frame::HashKind;
 use droid_upload::Options;
-use std::fmt;
-use std::fmt::{Display, Formatter, Write};
 
 /// The options that a submission was begun with, as far as they differ from those given now.
 #[derive(Clone, Copy)]
@@ -67,38 +65,33 @@ fn same_truth(given: bool, begun: bool) -> bool
     if given { begun } else { !begun }
 }
 
-impl Display for BegunOptions {
-    ghost output = { λ begun. Some (begun_words begun) };
-
-    fn fmt<W: Write>(&self, f: &mut Formatter<W>) -> fmt::Result {
-        match *self {
-            BegunOptions::OtherHash(hash) => write!(f, "with {}", hash_words(hash)),
-            BegunOptions::OtherMatching(match_all) => f.write_str(matching_words(match_all)),
-            BegunOptions::OtherHashAndMatching(hash, match_all) => {
-                write!(
-                    f,
-                    "with {} and {}",
-                    hash_words(hash),
-                    matching_words(match_all)
-                )
-            }
-            BegunOptions::OtherLimit => f.write_str("with another --limit"),
+impl BegunOptions {
+    /// Says which they are.
+    pub(crate) fn words(self) -> &'static str
+        ensures { result.now ≡ begun_words self }
+    {
+        match self {
+            BegunOptions::OtherHash(hash) => hash_words(hash),
+            BegunOptions::OtherMatching(match_all) => matching_words(match_all),
+            BegunOptions::OtherHashAndMatching(hash, true) => words_with_all(hash),
+            BegunOptions::OtherHashAndMatching(hash, false) => words_without(hash),
+            BegunOptions::OtherLimit => "with another --limit",
         }
     }
 }
 
-/// Returns the option that asks for this hash.
+/// Says which hash it is.
 fn hash_words(hash: HashKind) -> &'static str
-    ensures { result.now ≡ hash_words hash }
+    ensures { result.now ≡ with_hash hash }
 {
     match hash {
-        HashKind::Nothing => "--hash none",
-        HashKind::Md5 => "--hash md5",
-        HashKind::Sha256 => "--hash sha256",
+        HashKind::Nothing => "with --hash none",
+        HashKind::Md5 => "with --hash md5",
+        HashKind::Sha256 => "with --hash sha256",
     }
 }
 
-/// Returns how the option `--match-all` was given.
+/// Says whether extensions also count.
 fn matching_words(match_all: bool) -> &'static str
     ensures { result.now ≡ matching_words match_all }
 {
@@ -106,5 +99,27 @@ fn matching_words(match_all: bool) -> &'static str
         "with --match-all"
     } else {
         "without --match-all"
+    }
+}
+
+/// Says which hash it is, and that extensions also count.
+fn words_with_all(hash: HashKind) -> &'static str
+    ensures { result.now ≡ both_words hash true }
+{
+    match hash {
+        HashKind::Nothing => "with --hash none and with --match-all",
+        HashKind::Md5 => "with --hash md5 and with --match-all",
+        HashKind::Sha256 => "with --hash sha256 and with --match-all",
+    }
+}
+
+/// Says which hash it is, and that extensions do not count too.
+fn words_without(hash: HashKind) -> &'static str
+    ensures { result.now ≡ both_words hash false }
+{
+    match hash {
+        HashKind::Nothing => "with --hash none and without --match-all",
+        HashKind::Md5 => "with --hash md5 and without --match-all",
+        HashKind::Sha256 => "with --hash sha256 and without --match-all",
     }
 }

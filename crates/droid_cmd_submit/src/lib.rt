@@ -14,9 +14,9 @@ mod profile_comparison;
 mod reported_differences;
 mod submission;
 mod submission_ending;
-mod submission_fault_names;
-mod submission_sentences;
+mod submission_told;
 mod submit_settings;
+mod told_transfer;
 
 pub use audience::Audience;
 pub use begun_options::BegunOptions;

@@ -1,16 +1,14 @@
 //! How the submission of a folder ends.
 
-ghost use Rattle.std.specs.Prelude.{◌≡◌, option_map};
-ghost use Rattle.droid_cmd_submit.specs.SubmissionEndings.{ending_of, fault_text, status_of, uncompared, with_page};
+ghost use Rattle.std.specs.Prelude.{◌≡◌};
+ghost use Rattle.droid_cmd_submit.specs.SubmissionEndings.{ending_of, unchecked, uncompared, with_page};
 
 use crate::begun_options::BegunOptions;
 use crate::profile_comparison::ComparisonFault;
-use crate::submission_fault_names::{check_name, submitting_name, transfer_name};
-use droid_cmd_profile::{PageFault, output_fault_name};
+use droid_cmd_profile::PageFault;
 use droid_disk::OutputFault;
 use droid_lists::TextFault;
 use droid_remote::{RemoteFault, TransferFault};
-use droid_terminal::walk_fault_name;
 use droid_tree::WalkFault;
 use std::io::ErrorKind;
 
@@ -34,7 +32,7 @@ pub enum SubmissionEnding {
     Partly,
     /// There is no such folder.
     NoFolder,
-    /// There was no memory for the folder's path.
+    /// Out of memory.
     NoMemory,
     /// This file would lie in the folder.
     InFolder(OutputFile),
@@ -58,8 +56,8 @@ pub enum SubmissionEnding {
     TooLong(u64),
     /// Other requests came between the parts of the export, each time that it was begun.
     Disturbed,
-    /// The profile could not be compared with the folder.
-    Unchecked(TextFault),
+    /// No profile has the CSV that came: this record is wrong first, and this column of it, counted from 0.
+    WrongExport(u64, u8),
     /// Everything was written but the page.
     NoPage(PageFault),
 }
@@ -94,55 +92,17 @@ impl SubmissionEnding {
             ComparisonFault::NoExport(fault) => SubmissionEnding::NoExport(fault),
             ComparisonFault::TooLong(total) => SubmissionEnding::TooLong(total),
             ComparisonFault::Disturbed => SubmissionEnding::Disturbed,
-            ComparisonFault::Unchecked(fault) => SubmissionEnding::Unchecked(fault),
+            ComparisonFault::Unchecked(fault) => unchecked(fault),
         }
     }
+}
 
-    /// Returns the exit status.
-    pub fn status(self) -> u8
-        ensures { result ≡ status_of self }
-    {
-        match self {
-            SubmissionEnding::Whole => 0,
-            SubmissionEnding::Partly => 5,
-            SubmissionEnding::NoFolder
-            | SubmissionEnding::NoMemory
-            | SubmissionEnding::InFolder(_)
-            | SubmissionEnding::SameFile(_)
-            | SubmissionEnding::NoOutput(..)
-            | SubmissionEnding::Unwritten(_)
-            | SubmissionEnding::NoConnection(_)
-            | SubmissionEnding::Uncounted(_)
-            | SubmissionEnding::Unsubmitted(_)
-            | SubmissionEnding::OtherOptions(_)
-            | SubmissionEnding::NoExport(_)
-            | SubmissionEnding::TooLong(_)
-            | SubmissionEnding::Disturbed
-            | SubmissionEnding::Unchecked(_)
-            | SubmissionEnding::NoPage(_) => 4,
-        }
-    }
-
-    /// Names the fault, if the command ended with one.
-    pub(crate) fn fault_name(self) -> Option<&'static str>
-        ensures { option_map (λ name. name.now) result ≡ fault_text self }
-    {
-        match self {
-            SubmissionEnding::Whole | SubmissionEnding::Partly => None,
-            SubmissionEnding::NoFolder => Some("Folder"),
-            SubmissionEnding::NoMemory => Some("Memory"),
-            SubmissionEnding::InFolder(_) | SubmissionEnding::SameFile(_) => Some("Output"),
-            SubmissionEnding::NoOutput(_, fault) => Some(output_fault_name(fault)),
-            SubmissionEnding::Unwritten(_) => Some("Write"),
-            SubmissionEnding::NoConnection(_) => Some("Socket"),
-            SubmissionEnding::Uncounted(fault) => Some(walk_fault_name(fault)),
-            SubmissionEnding::Unsubmitted(fault) => Some(submitting_name(fault)),
-            SubmissionEnding::OtherOptions(_) => Some("Options"),
-            SubmissionEnding::NoExport(fault) => Some(transfer_name(fault)),
-            SubmissionEnding::TooLong(_) => Some("TooLong"),
-            SubmissionEnding::Disturbed => Some("Disturbed"),
-            SubmissionEnding::Unchecked(fault) => Some(check_name(fault)),
-            SubmissionEnding::NoPage(fault) => Some(fault.name()),
-        }
+/// Returns the ending of a submission whose CSV could not be compared.
+fn unchecked(fault: TextFault) -> SubmissionEnding
+    ensures { result ≡ unchecked fault }
+{
+    match fault {
+        TextFault::Memory => SubmissionEnding::NoMemory,
+        TextFault::Wrong { record, column } => SubmissionEnding::WrongExport(record, column),
     }
 }

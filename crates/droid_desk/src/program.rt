@@ -68,8 +68,7 @@ fn profile(rt: &HostRuntime, options: ProfileOptions<'_>, on_terminal: bool) -> 
     match named_registry(rt, options.registry) {
         Ok(registry) => {
             let ending = profile_folder(rt, &registry, options, on_terminal);
-            let _ = ending.print(rt, options);
-            ExitCode::from(ending.status())
+            end_by(rt, ending.told(rt, options))
         }
         Err(ended) => end(rt, &ended),
     }
@@ -121,15 +120,13 @@ fn verify_by(
 /// Runs `submit`.
 fn submit(rt: &HostRuntime, options: SubmitOptions<'_>, on_terminal: bool) -> ExitCode {
     let ending = submit_folder(rt, options, on_terminal);
-    let _ = ending.print(rt, options);
-    ExitCode::from(ending.status())
+    end_by(rt, ending.told(rt, options))
 }
 
 /// Runs `report`.
 fn report(rt: &HostRuntime, options: ReportOptions<'_>) -> ExitCode {
     let ending = report_profile(rt, options.profile, options.title, options.output);
-    let _ = ending.print(rt, options.profile, options.output);
-    ExitCode::from(ending.status())
+    end_by(rt, ending.told(rt, options.profile, options.output))
 }
 
 /// Runs `registry`.
