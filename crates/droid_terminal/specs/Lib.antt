@@ -2,7 +2,6 @@ pub mod Cuts
 pub mod Endings
 pub mod Estimates
 pub mod FaultTable
-pub mod Faults
 pub mod Frequencies
 pub mod Lines
 pub mod Paths

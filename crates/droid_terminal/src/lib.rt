@@ -1,5 +1,5 @@
-//! What the commands of a folder share: what they print on standard error (progress, skipped entries, a summary, the
-//! sentences behind a fault), where the files that they write lie, and the CSV of what was skipped.
+//! What the commands of a folder share: how they end, what they print on standard error (progress, skipped entries, a
+//! summary, a fault and its sentence), where the files that they write lie, and the CSV of what was skipped.
 //!
 //! The texts are proved. That they are printed, and when the clock is read, is tested, since the kit promises nothing
 //! about printing and about the clock.
@@ -11,8 +11,6 @@ mod csv_records;
 mod ending;
 mod escapes;
 mod estimate;
-mod fault_names;
-mod folder_advice;
 mod folder_check;
 mod format_counts;
 pub mod laws;
@@ -36,8 +34,6 @@ pub use ending::folder::told_no_folder;
 pub use ending::output::told_no_output;
 pub use ending::row::Row;
 pub use ending::status::Status;
-pub use fault_names::walk_fault_name;
-pub use folder_advice::{NO_MEMORY, print_no_folder, print_no_output};
 pub use folder_check::is_folder;
 pub use path_text::{Shown, cause};
 pub use places::{absolute_path, folder_of, is_same_place, lies_in, name_of};
