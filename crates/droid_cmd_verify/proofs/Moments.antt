@@ -1,5 +1,5 @@
 -- The moments that a recipient is given are those that can be written.
-use Rattle.std.proofs.Common.{◌≡◌, ◌&&◌, ℤ, pos, negsuc, T, not, IsTrue, refl, sym, subst}
+use Rattle.std.proofs.Common.{ℤ, pos, negsuc, T, not, IsTrue, sym, subst}
 use Rattle.std.proofs.lemmas.Bool.{and_parts}
 use Rattle.std.specs.Int.Signed.{lt_z, lt_z_no}
 use Rattle.droid_export.specs.Moments.{IsMoment}
@@ -10,7 +10,3 @@ unfolding is_moment
 moment_written seconds is =
     let parts = and_parts (not (lt_z seconds (negsuc 62135596799))) (not (lt_z (pos 253402300799) seconds)) is in
     (lt_z_no (subst T (sym parts.0) tt), lt_z_no (subst T (sym parts.1) tt))
-
-pub moment_is : (seconds : ℤ) → is_moment seconds ≡ (not (lt_z seconds (negsuc 62135596799)) && not (lt_z (pos 253402300799) seconds))
-unfolding is_moment
-moment_is seconds = refl

@@ -10,6 +10,7 @@ ghost use Rattle.droid_frame.specs.declared.hash_value.HashValue.TheVariants as 
 ghost use Rattle.droid_frame.specs.declared.node_kind.NodeKind.TheVariants as nodes;
 ghost use Rattle.droid_tree.specs.Paths.{below};
 
+use droid_core_spec::is_moment;
 use droid_fixity::Item;
 use droid_frame::{Blob, HashValue, NodeKind};
 use droid_lists::item_of_node;
@@ -191,12 +192,4 @@ fn has_text(entry: &FolderEntry) -> bool
         Some(_) => true,
         None => false,
     }
-}
-
-/// Returns whether a moment lies from 0001-01-01T00:00:00 to 9999-12-31T23:59:59.
-#[tactic(auto, using(crate::proofs::Moments::moment_is))]
-fn is_moment(seconds: i64) -> bool
-    ensures { result ≡ is_moment seconds }
-{
-    !(seconds < -62_135_596_800) && !(253_402_300_799 < seconds)
 }

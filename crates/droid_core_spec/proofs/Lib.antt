@@ -9,6 +9,7 @@ pub mod Each
 pub mod FirstVersion
 pub mod Judged
 pub mod Legal
+mod Meanings
 pub mod Meetings
 pub mod Recorded
 pub mod Replied

@@ -1,24 +1,12 @@
 -- What the conditions say, spelled out.
-use Rattle.std.proofs.Common.{◌≡◌, ◌==◌, ◌&&◌, ◌||◌, ℕ, ℤ, pos, negsuc, Bool, true, false, not, List, [], ◌∷◌, length, Some, None, refl, ap}
+use Rattle.std.proofs.Common.{◌≡◌, ℕ, Bool, true, false, not, List, [], ◌∷◌, length, Some, None, refl, ap}
 use Rattle.std.specs.Prelude.{nat_lt}
-use Rattle.std.specs.Int.Signed.{lt_z}
-use Rattle.std.specs.List.{list_any}
-use Rattle.std.specs.Str.{bytes_eq}
-use Rattle.droid_core_spec.specs.Conditions.{is_moment, is_bad_name, is_separator}
+use Rattle.droid_core_spec.specs.Conditions.{is_moment, is_bad_name}
 use Rattle.droid_core_spec.specs.Judging.{Check, refusal_of}
 use Rattle.droid_frame.specs.declared.refusal.Refusal.TheVariants.{BadName, PathTooLong, BadOption}
 use Rattle.droid_tree.specs.Paths.{below}
 use Rattle.droid_tree.specs.declared.folder_entry.FolderEntry.{FolderEntry}
 use Rattle.droid_profile.specs.Kids.{entry_refusal}
-
-pub moment_is : (seconds : ℤ) → is_moment seconds ≡ (not (lt_z seconds (negsuc 62135596799)) && not (lt_z (pos 253402300799) seconds))
-unfolding is_moment
-moment_is seconds = refl
-
-pub bad_name_is : (name : List ℕ) → is_bad_name name
-    ≡ ((length name == 0) || nat_lt 255 (length name) || bytes_eq name (46 ∷ []) || bytes_eq name (46 ∷ 46 ∷ []) || list_any is_separator name)
-unfolding is_bad_name
-bad_name_is name = refl
 
 -- ---- the first refusal
 

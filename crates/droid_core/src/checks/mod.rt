@@ -1,6 +1,5 @@
 //! The conditions under which requests are refused.
 
-pub mod names;
 pub mod options;
 pub mod paths;
 pub mod refusals;

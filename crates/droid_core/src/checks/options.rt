@@ -2,7 +2,7 @@
 
 ghost use Rattle.std.specs.Prelude.{◌≡◌, ◌<◌, IsTrue};
 ghost use Rattle.droid_core_spec.specs.Conditions.{is_scan_limit, is_piece_size, piece_size_limit, is_part_size};
-ghost use Rattle.droid_core_spec.specs.Conditions.{is_too_large, is_moment, is_md5, is_carried};
+ghost use Rattle.droid_core_spec.specs.Conditions.{is_too_large, is_md5, is_carried};
 
 use droid_frame::HashKind;
 
@@ -46,14 +46,6 @@ pub(crate) fn is_too_large(size: u64, piece_size: u32) -> bool
     ensures { result ≡ is_too_large size piece_size }
 {
     1_099_511_627_776 < size || 1_048_576 < size.div_ceil(u64::from(piece_size))
-}
-
-/// Whether the moment lies from 0001-01-01T00:00:00 to 9999-12-31T23:59:59.
-#[tactic(auto, using(crate::proofs::Meanings::moment_is))]
-pub fn is_moment(seconds: i64) -> bool
-    ensures { result ≡ is_moment seconds }
-{
-    !(seconds < -62_135_596_800) && !(253_402_300_799 < seconds)
 }
 
 /// Whether a Finished of this version can carry a hash of this kind.

@@ -9,8 +9,9 @@ ghost use Rattle.droid_core_spec.specs.Judging.{export_checks};
 ghost use Rattle.droid_core_spec.specs.Limits.{Limits};
 ghost use Rattle.droid_core_spec.specs.World.{Node, World};
 
-use crate::checks::options::{is_moment, is_part_size, is_piece_size, is_scan_limit, is_too_large};
+use crate::checks::options::{is_part_size, is_piece_size, is_scan_limit, is_too_large};
 use crate::checks::room::Room;
+use droid_core_spec::is_moment;
 use droid_frame::{Limit, Refusal};
 
 /// Returns the first refusal of a new profile, if there is one.

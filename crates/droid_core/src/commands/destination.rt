@@ -8,11 +8,11 @@ ghost use Rattle.droid_core.specs.Sound.{IsSoundWorld};
 ghost use Rattle.droid_core.specs.Places.{FindsFolder, FindsPlace, taken_in};
 ghost use Rattle.droid_store.specs.Rows.{child_at};
 
-use crate::checks::names::is_bad_name;
 use crate::checks::paths::{is_too_deep_below, new_path};
 use crate::checks::room::Room;
 use crate::file_rows::node_of;
 use crate::holdings::Holdings;
+use droid_core_spec::is_bad_name;
 use droid_frame::{Refusal, Text};
 use droid_store::{NodeRow, NodeState, ProfileRow, Store, StoreFault};
 use std::alloc::Global;

@@ -14,11 +14,11 @@ ghost use Rattle.droid_core_spec.specs.Setting.{Setting};
 ghost use Rattle.droid_core_spec.specs.World.{World};
 ghost use Rattle.droid_store.specs.Rows.{records_of};
 
-use crate::checks::options::is_moment;
 use crate::checks::refusals::export_refusal;
 use crate::holdings::Holdings;
 use crate::look_ups::profile_of;
 use crate::queries::kept_text::{KeptText, forget_text, keep_text, text_for};
+use droid_core_spec::is_moment;
 use droid_export::export_text;
 use droid_frame::{Blob, Filter, Record, Refusal, Reply};
 use droid_store::Store;

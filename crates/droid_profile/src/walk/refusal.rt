@@ -1,14 +1,13 @@
 //! Which entries no profile can have.
 
 ghost use Rattle.std.specs.Prelude.{◌≡◌, None, Some, nat_lt, length, MatchOption};
-ghost use Rattle.std.specs.List.{list_any};
-ghost use Rattle.droid_core_spec.specs.Conditions.{is_bad_name, is_moment, is_separator};
 ghost use Rattle.droid_frame.specs.declared.refusal.Refusal.{Refusal};
 ghost use Rattle.droid_tree.specs.Paths.{below};
 ghost use Rattle.droid_tree.specs.declared.skip_reason.Skipped.TheVariants.{Refused};
 ghost use Rattle.droid_profile.specs.Kids.{IsNode, entry_refusal};
 ghost use Rattle.droid_profile.specs.StepsTaken.{IsSkipped};
 
+use droid_core_spec::{is_bad_name, is_moment};
 use droid_frame::Refusal;
 use droid_tree::{EntryKind, FolderEntry, Skipped};
 
@@ -55,25 +54,6 @@ fn entry_refusal(path: &str, name: &str, entry: &FolderEntry) -> Option<Refusal>
     None
 }
 
-/// Returns whether a name is empty, over 255 bytes, `.` or `..`, or has a `/` or a zero byte.
-#[tactic(auto, using(crate::proofs::Meanings::bad_name_is))]
-fn is_bad_name(name: &str) -> bool
-    ensures { result ≡ is_bad_name name.now }
-{
-    name.is_empty()
-        || name.len() > 255
-        || name == "."
-        || name == ".."
-        || has_separator(name.as_bytes())
-}
-
-/// Returns whether there is a `/` or a zero byte.
-fn has_separator(name: &[u8]) -> bool
-    ensures { result ≡ list_any is_separator name.now }
-{
-    name.iter().any(|byte| *byte == b'/' || *byte == 0)
-}
-
 /// Returns whether the path of this name in the folder has more than 4,096 bytes.
 fn is_too_long(path: &str, name: &str) -> bool
     ensures { result ≡ nat_lt 4096 (length (below path.now name.now)) }
@@ -82,12 +62,4 @@ fn is_too_long(path: &str, name: &str) -> bool
         Some(front) => name.len() > 4_096_usize.saturating_sub(front) || front > 4_096,
         None => true,
     }
-}
-
-/// Returns whether the moment lies from 0001-01-01T00:00:00 to 9999-12-31T23:59:59.
-#[tactic(auto, using(crate::proofs::Meanings::moment_is))]
-fn is_moment(seconds: i64) -> bool
-    ensures { result ≡ is_moment seconds }
-{
-    !(seconds < -62_135_596_800) && !(253_402_300_799 < seconds)
 }
