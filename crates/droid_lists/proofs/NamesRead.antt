@@ -1,11 +1,11 @@
 -- The names of the columns are read exactly where they are those of a profile.
-use Rattle.std.proofs.Common.{◌≡◌, ◌∙◌, ◌<◌, ◌≤◌, ◌+◌, ◌-◌, ℕ, suc, zero, Bool, true, false, List, [], ◌∷◌, length, Option, Some, None, refl, sym, ap, subst, arith, ◌⊎◌, inl, inr}
-use Rattle.std.specs.Prelude.{if◌then◌else◌}
-use Rattle.std.specs.Option.{unwrap_or}
+use Rattle.std.proofs.Common.{◌≡◌, ◌∙◌, ◌<◌, ◌≤◌, ◌+◌, ◌-◌, ℕ, suc, zero, Bool, true, false, List, [], ◌∷◌, length, map, Option, Some, None, refl, sym, ap, subst, arith, ◌⊎◌, inl, inr}
+use Rattle.std.specs.Prelude.{if◌then◌else◌, slice_get}
 use Rattle.std.specs.Str.{bytes_eq}
 use Rattle.std.proofs.lemmas.Bool.{cases_lt}
 use Rattle.std.proofs.lemmas.Slice.Eq.{bytes_eq-Decides}
 use Rattle.csv.specs.Records.{field_at}
+use Rattle.droid_export.specs.declared.column.Column.{Column}
 use Rattle.droid_lists.specs.ProfileTexts.{other_from}
 use Rattle.droid_lists.specs.RowReading.{at}
 use Rattle.droid_lists.specs.RowTests.{Row}
@@ -78,14 +78,20 @@ pub are_names : (names due : Row) → length names ≡ 18 → length due ≡ 18 
 are_names names due count due_count none =
     same_rows names due (count ∙ sym due_count) (λ c below. same_from 18 0 names due c none (omega arith) (omega (arith, below, count)))
 
--- ---- names past the last
+-- ---- the name of a column
 
-past_last : (row : Row) (column : ℕ) → length row ≤ column → field_at row column ≡ None
+-- the column at a place has the name there
+pub name_at : (name : Column → List ℕ) (columns : List Column) (place : ℕ) (column : Column) → slice_get columns place ≡ Some column → name column ≡ at (map name columns) place
 unfolding field_at
-past_last [] column past = refl
-past_last (name ∷ names) zero past = absurd (omega (arith, past))
-past_last (name ∷ names) (suc column) past = past_last names column (omega (arith, past))
+name_at name [] place column is = absurd (cc)
+name_at name (first ∷ columns) zero column is =
+    let same : column ≡ first = cc in
+    ap name same
+name_at name (first ∷ columns) (suc place) column is = name_at name columns place column is
 
--- a column past the last has no name
-pub no_name : (row : Row) (column : ℕ) → length row ≤ column → [] ≡ at row column
-no_name row column past = sym (ap (λ (it : Option (List ℕ)). unwrap_or it []) (past_last row column past))
+-- past the last there is no name
+pub none_at : (name : Column → List ℕ) (columns : List Column) (place : ℕ) → slice_get columns place ≡ None → [] ≡ at (map name columns) place
+unfolding field_at
+none_at name [] place is = refl
+none_at name (first ∷ columns) zero is = absurd (cc)
+none_at name (first ∷ columns) (suc place) is = none_at name columns place is

@@ -7,7 +7,6 @@ ghost use Rattle.csv.specs.Records.{fields_of};
 ghost use Rattle.droid_frame.specs.Hashes.{hash_bytes};
 ghost use Rattle.hex.specs.Hex.{encode_lower};
 ghost use Rattle.droid_export.specs.Moments.{IsMoment};
-ghost use Rattle.droid_export.specs.Rows.{kind_name, method_name, truth};
 ghost use Rattle.droid_lists.specs.Comparing.{HasPaths, if_more, more_by, path_in};
 ghost use Rattle.droid_lists.specs.Differences as differences;
 ghost use Rattle.droid_lists.specs.EntryMaps.{StandsFor, kept_of, listed_at};
@@ -17,8 +16,8 @@ use crate::entries::{Entries, Listed};
 use crate::known::{Difference, Known};
 use crate::spelling::text_number::{is_decimal, is_parent_text};
 use crate::spelling::text_row::field;
-use droid_export::{HashText, moment_bytes};
-use droid_frame::{Blob, HashValue, Method, NodeKind};
+use droid_export::{HashText, kind_name, method_name, moment_bytes, truth};
+use droid_frame::{Blob, HashValue, NodeKind};
 use std::alloc::{AllocError, Global};
 use std::collections::BTreeMap;
 
@@ -212,32 +211,4 @@ fn same_hash(one: HashValue, other: HashValue) -> bool
     ensures { result ≡ differences.same_hash one other }
 {
     one.kind().number() == other.kind().number() && one.as_slice() == other.as_slice()
-}
-
-/// Returns the field METHOD.
-fn method_name(method: Method) -> &'static str
-    ensures { result.now ≡ method_name method }
-{
-    match method {
-        Method::Unidentified => "",
-        Method::Signature => "Signature",
-        Method::Extension => "Extension",
-    }
-}
-
-/// Returns the field TYPE.
-fn kind_name(kind: NodeKind) -> &'static str
-    ensures { result.now ≡ kind_name kind }
-{
-    match kind {
-        NodeKind::File => "File",
-        NodeKind::Folder => "Folder",
-    }
-}
-
-/// Returns the field EXTENSION_MISMATCH.
-fn truth(value: bool) -> &'static str
-    ensures { result.now ≡ truth value }
-{
-    if value { "true" } else { "false" }
 }
