@@ -1,10 +1,8 @@
 //! What the rows of a profile's text say of formats.
 
 ghost use Rattle.std.specs.Prelude.{◌≡◌, ◌||◌, ℕ, List, None, IfOk, OnOk, nat_lt};
-ghost use Rattle.std.specs.List.{list_all};
 ghost use Rattle.std.specs.Option.{is_some};
 ghost use Rattle.csv.specs.Records.{fields_of};
-ghost use Rattle.droid_pronom.specs.RegistryFields.{is_puid, is_puid_byte};
 ghost use Rattle.droid_lists.specs.FormatMaps.{AddsKnown, TakesFormat, known_at, known_count, own_has};
 ghost use Rattle.droid_lists.specs.RowTests as tests;
 
@@ -13,6 +11,7 @@ use crate::spelling::text_path::text_of;
 use crate::spelling::text_row::field;
 use csv::ByteRecord;
 use droid_frame::Blob;
+use droid_pronom::is_puid;
 use std::alloc::{AllocError, Global};
 use std::collections::BTreeMap;
 
@@ -99,7 +98,7 @@ impl Formats {
             ≡ tests.is_right_puid (is_some (known_at self.now puid.now) || nat_lt (known_count self.now) 4096)
             (own_has own.now puid.now) puid.now }
     {
-        is_puid(puid.as_bytes())
+        is_puid(puid)
             && !own.has(puid)
             && (self.texts.contains_key(puid) || self.texts.len() < 4096)
     }
@@ -130,21 +129,6 @@ fn texts_in(alloc: Global, row: &ByteRecord) -> Result<Texts, AllocError>
         name,
         version,
     })
-}
-
-/// Returns whether a field is a PUID: 1 to 32 bytes of those that a PUID has.
-fn is_puid(puid: &[u8]) -> bool
-    ensures { result ≡ is_puid puid.now }
-{
-    1 <= puid.len() && puid.len() <= 32 && are_puid_bytes(puid)
-}
-
-/// Returns whether bytes are all of those that a PUID has.
-fn are_puid_bytes(puid: &[u8]) -> bool
-    ensures { result ≡ list_all is_puid_byte puid.now }
-{
-    puid.iter()
-        .all(|c| c.is_ascii_alphanumeric() || *c == b'/' || *c == b'-')
 }
 
 /// Returns the first column that is not empty in a row without a format.

@@ -60,7 +60,7 @@ pub(crate) fn above_of<'a>(path: &'a [u8], name: &[u8]) -> Option<&'a [u8]>
 }
 
 /// Returns whether a text is `/` and this name.
-fn is_last(text: &[u8], name: &[u8]) -> bool
+pub(crate) fn is_last(text: &[u8], name: &[u8]) -> bool
     ensures { result ≡ bytes_eq text.now (47 ∷ name.now) }
 {
     match text.split_first() {
@@ -69,7 +69,8 @@ fn is_last(text: &[u8], name: &[u8]) -> bool
     }
 }
 
-fn has_no_slash(name: &[u8]) -> bool
+/// Returns whether a name has no slash.
+pub(crate) fn has_no_slash(name: &[u8]) -> bool
     ensures { result ≡ fields.has_no_slash name.now }
 {
     name.iter().all(|byte| *byte != b'/')

@@ -1,12 +1,11 @@
 //! Paths in a profile's text.
 
-ghost use Rattle.std.specs.Prelude.{◌≡◌, ◌∷◌};
+ghost use Rattle.std.specs.Prelude.{◌≡◌};
 ghost use Rattle.std.specs.Option.{option_map};
-ghost use Rattle.std.specs.Str.{bytes_eq};
 ghost use Rattle.csv.specs.Records.{fields_of};
-ghost use Rattle.droid_lists.specs.Fields as fields;
 ghost use Rattle.droid_lists.specs.RowTests as tests;
 
+use crate::csv_items::fields::{has_no_slash, is_last};
 use crate::spelling::text_row::field;
 use csv::ByteRecord;
 use droid_fixity::is_file_path;
@@ -68,21 +67,4 @@ pub(crate) fn is_named(row: &ByteRecord) -> bool
 {
     let (_, last) = field(row, 3).split_at(above_length(row));
     has_no_slash(field(row, 4)) && is_last(last, field(row, 4))
-}
-
-/// Returns whether a text is `/` and this name.
-fn is_last(text: &[u8], name: &[u8]) -> bool
-    ensures { result ≡ bytes_eq text.now (47 ∷ name.now) }
-{
-    match text.split_first() {
-        Some((first, rest)) => *first == b'/' && rest == name,
-        None => false,
-    }
-}
-
-/// Returns whether a name has no slash.
-fn has_no_slash(name: &[u8]) -> bool
-    ensures { result ≡ fields.has_no_slash name.now }
-{
-    name.iter().all(|byte| *byte != b'/')
 }
