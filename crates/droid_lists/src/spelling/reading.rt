@@ -162,7 +162,7 @@ fn take_row<'a>(
     }
 }
 
-/// Reads one more row of a file with several formats: returns its first wrong column; if there is none, notes its format.
+/// Reads one more row of a file with several formats. Returns its first wrong column, or else notes its format.
 #[tactic(auto, unfolding(crate::specs::ProfileRows::wrong_more))]
 fn wrong_more(
     formats: &mut Formats,
