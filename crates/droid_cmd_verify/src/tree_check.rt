@@ -109,7 +109,7 @@ pub(crate) fn options_for(options: Options, hash: HashKind) -> Options
     }
 }
 
-/// Turns a fault of the walk into one of the comparison. The recipient keeps the items, so it fails only without memory.
+/// Turns a fault of the walk into one of the comparison. The recipient keeps items, so it fails only without memory.
 pub(crate) fn fault_of(fault: ProfileFault) -> CheckFault
     ensures { result ≡ fault_of fault }
 {
