@@ -4,6 +4,7 @@
 - A crate's line names the libraries that its own files name, and no other.
 - A crate re-exports names of another one only where SURFACES has it: a name is imported from the crate that defines it.
 - Each crate has a page, with an example that is tested (pages.py).
+- Lines of src/ and specs/ have at most MOST_COLUMNS columns.
 - The program stands on few libraries, few paths lead down from it, and the gate tries few wrong bodies.
 """
 import glob
@@ -28,6 +29,11 @@ MOST_PATHS = 550
 MOST_LIBRARIES = 38
 # each costs the gate a check of its crate
 MOST_EDITS = 39
+MOST_COLUMNS = 120
+# `rt fmt` keeps an attribute on one line, and a text of a definition has no break
+UNBROKEN = re.compile(r'^\s*#\[|codes "')
+# rows of the common registry, as embed.py writes them
+WRITTEN = os.path.join("droid_pronom", "src", "common.rt")
 
 
 def libraries():
@@ -82,6 +88,15 @@ def wrong_surface(crate):
         yield f"{crate}: it re-exports names of {low}, which are imported from where they are defined"
 
 
+def long_lines(crate):
+    of_proofs = os.path.join(crates.folder(crate), "proofs")
+    for path in crates.files_of(crate):
+        if not path.startswith(of_proofs) and not path.endswith(WRITTEN):
+            for number, line in enumerate(read(path).split("\n"), 1):
+                if len(line) > MOST_COLUMNS and not UNBROKEN.search(line):
+                    yield f"{os.path.relpath(path, crates.TOP)}:{number}: {len(line)} columns: at most {MOST_COLUMNS} are wanted"
+
+
 def counts():
     """What is counted, how much there is of it, and how much there may be."""
     edits = sum(len(edits_of(crate, ["must-fail"])) for crate in listed())
@@ -92,7 +107,7 @@ def counts():
 
 def problems():
     known = libraries()
-    found = [it for crate in listed() for it in [*wrong_line(crate, known), *wrong_surface(crate)]]
+    found = [it for crate in listed() for it in [*wrong_line(crate, known), *wrong_surface(crate), *long_lines(crate)]]
     found += pages.problems()
     return found + [f"{number} {what}: at most {most} are wanted" for what, number, most in counts() if number > most]
 
