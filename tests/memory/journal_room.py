@@ -10,10 +10,11 @@ import tempfile
 import unittest
 from concurrent.futures import ThreadPoolExecutor
 
-from lib.frames import EXPORT, REFUSED, abandon, create, cut, export_body, file, finish, folder, frame, piece
+from lib.frames import EXPORT, REFUSED, abandon, cut, export_body, file, folder, frame, piece
 from lib.program import PROGRAM, SAMPLE, TOP
 
 sys.path += [os.path.join(TOP, "tests", "program", folder) for folder in ("journal", "model", "wire")]
+from journal_session import commands  # noqa: E402
 from model_frames import answer, service_of_the_sample  # noqa: E402
 
 MEMORY = bytes([18])
@@ -25,11 +26,7 @@ EARLIER = 20
 STEP = int(os.environ.get("STEP", "3"))
 # each command by a turn of its own, so that each is answered before the next
 ASKED = [
-    create(1),
-    file(2, b"a.msg", 14, 7),
-    piece(3, 1, 1, b" of it."),
-    piece(4, 1, 0, b"message"),
-    finish(5, 1),
+    *commands(5),
     file(6, b"gone", 70_000, 70_000),
     piece(7, 2, 0, bytes(70_000)),
     file(8, b"left", 3, 3),

@@ -10,23 +10,12 @@ from concurrent.futures import ThreadPoolExecutor
 
 import journal_file
 from journal_file_before import header_size, read
-from journal_session import OTHER_HEADER, REGISTRY, InJournal, contents, cut_off, damaged, printed, run_journal, store
-from lib.frames import EXPORT, abandon, create, export_body, file, finish, folder, frame, piece
+from journal_session import OTHER_HEADER, REGISTRY, InJournal, commands, contents, cut_off, damaged, printed, run_journal, store
+from lib.frames import EXPORT, create, export_body, file, finish, folder, frame, piece
 from lib.program import PROGRAM
 from model_frames import answer, service_of_the_sample
 
-ASKED = [
-    create(1),
-    file(2, b"a.msg", 14, 7),
-    piece(3, 1, 1, b" of it."),
-    piece(4, 1, 0, b"message"),
-    finish(5, 1),
-    file(6, b"gone", 3, 3),
-    abandon(7, 2),
-    *[folder(number, b"%d" % number) for number in range(8, 13)],
-    file(13, b"open", 8, 4, version=2),
-    piece(14, 8, 1, b"wxyz", version=2),
-]
+ASKED = [*commands(12), file(13, b"open", 8, 4, version=2), piece(14, 8, 1, b"wxyz", version=2)]
 # so many that a command before them is no longer cached when it comes again
 MANY = [folder(number, b"%d" % number) for number in range(100, 360)]
 LATER = [folder(20, b"later"), piece(21, 8, 0, b"stuv", version=2)]

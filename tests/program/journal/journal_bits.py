@@ -9,23 +9,14 @@ import time
 import unittest
 from concurrent.futures import ThreadPoolExecutor
 
-from journal_session import REGISTRY, InJournal, contents, run_journal, serving, store
+from journal_session import REGISTRY, InJournal, commands, contents, run_journal, serving, store
 from lib.connections import connect, read_exactly
-from lib.frames import EXPORT, abandon, create, export_body, file, finish, folder, frame, piece
+from lib.frames import EXPORT, export_body, folder, frame
 from lib.program import PROGRAM
 from model_frames import answer, service_of_the_sample
 
 BITS = int(os.environ.get("BITS", "61"))
-ASKED = [
-    create(1),
-    file(2, b"a.msg", 14, 7),
-    piece(3, 1, 1, b" of it."),
-    piece(4, 1, 0, b"message"),
-    finish(5, 1),
-    file(6, b"gone", 3, 3),
-    abandon(7, 2),
-    *[folder(number, b"%d" % number) for number in range(8, 13)],
-]
+ASKED = commands(12)
 LATER = [folder(20, b"later"), folder(21, b"last")]
 EXPORT_ALL = frame(EXPORT, 1, 99, export_body())
 # how long a service is silent before it is killed

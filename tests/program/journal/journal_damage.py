@@ -7,14 +7,13 @@ import unittest
 from concurrent.futures import ThreadPoolExecutor
 
 from journal_file import MARK, Record, header_in, header_of, header_size, header_text, journal_bytes, left_by_a_start, md5, read
-from journal_session import OTHER_HEADER, InJournal, contents, cut_off, damaged, printed, run_journal, sample_bytes, serving, store
+from journal_session import OTHER_HEADER, InJournal, commands, contents, cut_off, damaged, printed, run_journal, sample_bytes, serving, store
 from lib.connections import connect, read_exactly
-from lib.frames import EXPORT, abandon, create, export_body, file, finish, folder, frame, piece
+from lib.frames import EXPORT, export_body, file, frame
 from model_frames import answer, service_of_the_sample
 
 STEP = int(os.environ.get("STEP", "9"))
-FILES = [file(2, b"a.msg", 14, 7), piece(3, 1, 1, b" of it."), piece(4, 1, 0, b"message"), finish(5, 1), file(6, b"gone", 3, 3), abandon(7, 2)]
-ASKED = [create(1), *FILES, *[folder(number, b"%d" % number) for number in range(8, 21)]]
+ASKED = commands(20)
 EXPORT_ALL = frame(EXPORT, 1, 21, export_body())
 
 

@@ -53,9 +53,14 @@ def turn_mark(start, at):
     return b"\1" + md5(start + struct.pack(">Q", at))
 
 
+def checksum(request):
+    """That of its kind and its body."""
+    return md5(request[1:2] + request[HEADER.size :])
+
+
 def next_check(start, place, record):
     front = start + place.check + struct.pack(">QQ", place.at, place.records) + bytes([record.first]) + record.request[: HEADER.size]
-    return md5(front + md5(record.request[1:2] + record.request[HEADER.size :]) + record.reply)
+    return md5(front + checksum(record.request) + record.reply)
 
 
 def string(data):
@@ -84,15 +89,9 @@ def journal_bytes(header, records, ahead=True):
     return b"".join(parts) + (turn_mark(start, place.at) if ahead else b"")
 
 
-def record_at(start, place, data):
-    """Reads the record at a place: the record and the place behind it. None: no right record is there."""
-    at = place.at
-    if data[at : at + 1] == b"\0":
-        first, at = False, at + 1
-    elif data[at : at + MARK] == turn_mark(start, at):
-        first, at = True, at + MARK
-    else:
-        return None
+def request_and_reply(data, at):
+    """Reads these two of a record: a request, a reply and the place behind them. None: they are not whole, or no request is that
+    short."""
     parts = []
     for _ in range(2):
         if at + 4 > len(data):
@@ -103,11 +102,27 @@ def record_at(start, place, data):
             return None
         parts.append(data[at : at + size])
         at += size
-    record = Record(first, *parts)
-    if len(record.request) < HEADER.size or len(record.request) + len(record.reply) + 41 > LONGEST:
+    return (*parts, at) if len(parts[0]) >= HEADER.size else None
+
+
+def record_at(start, place, data):
+    """Reads the record at a place: the record and the place behind it. None: no right record is there."""
+    at = place.at
+    if data[at : at + 1] == b"\0":
+        first, at = False, at + 1
+    elif data[at : at + MARK] == turn_mark(start, at):
+        first, at = True, at + MARK
+    else:
         return None
+    found = request_and_reply(data, at)
+    if not found:
+        return None
+    request, reply, end = found
+    if len(request) + len(reply) + 41 > LONGEST:
+        return None
+    record = Record(first, request, reply)
     after = behind(start, place, record)
-    return (record, after) if data[at : at + CHECK] == after.check else None
+    return (record, after) if data[end : end + CHECK] == after.check else None
 
 
 class Read(NamedTuple):

@@ -1,41 +1,21 @@
 """The file of a journal of version 3 (docs/FORMATS.md), read without the program: a header, and then records, each with a check
 value that chains it to the one before."""
 
-import hashlib
-import struct
 from typing import NamedTuple
 
+from journal_file import CHECK, LONGEST, RANDOM, Record, checksum, md5, request_and_reply
 from lib.frames import HEADER
 
 LINES = b"droid_desk journal 3\n64 profiles, 100000 nodes, 64 unfinished files\n"
-RANDOM = 16
-CHECK = 16
 SEALED = 12
-LONGEST = 8 << 20
-
-
-def md5(data):
-    return hashlib.md5(data, usedforsecurity=False).digest()
 
 
 def header_size():
     return len(LINES) + 16 + RANDOM
 
 
-class Record(NamedTuple):
-    # whether all before it was on the disk when it was written
-    first: bool
-    request: bytes
-    reply: bytes
-
-
 def sealed(start, front):
     return front + md5(start + front)[: CHECK - SEALED]
-
-
-def checksum(request):
-    """That of its kind and its body."""
-    return md5(request[1:2] + request[HEADER.size :])
 
 
 def next_check(start, check, record):
@@ -49,24 +29,15 @@ def record_at(start, check, data, place):
     None: no whole record with a right check value is there."""
     if data[place : place + 1] not in (b"\0", b"\1"):
         return None
-    first = data[place] == 1
-    parts, at = [], place + 1
-    for _ in range(2):
-        if at + 4 > len(data):
-            return None
-        size = struct.unpack_from(">I", data, at)[0]
-        at += 4
-        if at + size > len(data):
-            return None
-        parts.append(data[at : at + size])
-        at += size
-    record = Record(first, *parts)
-    if len(record.request) < HEADER.size or at + CHECK - place > LONGEST:
+    found = request_and_reply(data, place + 1)
+    if not found:
         return None
+    request, reply, at = found
+    if at + CHECK - place > LONGEST:
+        return None
+    record = Record(data[place] == 1, request, reply)
     after = next_check(start, check, record)
-    if data[at : at + CHECK] != after:
-        return None
-    return record, after, at + CHECK
+    return (record, after, at + CHECK) if data[at : at + CHECK] == after else None
 
 
 class Read(NamedTuple):

@@ -3,14 +3,13 @@ used for something else. Refusals and queries write nothing either."""
 
 import unittest
 
-from journal_session import InJournal, contents, run_journal, serving
+from journal_session import InJournal, commands, contents, run_journal, serving
 from lib.connections import connect, read_exactly
-from lib.frames import EXPORT, abandon, create, cut, export_body, file, finish, folder, frame, piece, status
+from lib.frames import EXPORT, cut, export_body, folder, frame, status
 from model_frames import answer, service_of_the_sample
 
-FILES = [file(2, b"a.msg", 14, 7), piece(3, 1, 1, b" of it."), piece(4, 1, 0, b"message"), finish(5, 1), file(6, b"gone", 3, 3), abandon(7, 2)]
 # many more than the replies that are cached
-ASKED = [create(1), *FILES, *[folder(number, b"%d" % number) for number in range(8, 900)]]
+ASKED = commands(899)
 EXPORT_ALL = frame(EXPORT, 1, 9_999, export_body())
 
 

@@ -6,6 +6,7 @@ import tempfile
 import unittest
 
 from lib.connections import SECONDS
+from lib.frames import abandon, create, file, finish, folder, piece
 from lib.program import PROGRAM, SAMPLE, Serve
 
 # The sentence behind each `fault: Journal`, of the journal at a path.
@@ -22,6 +23,14 @@ NOT_EXCHANGED = "{0}: has all its records, but the smaller journal could not be 
 
 # `run` and `serve` print this where the sample registry is named as a file: nothing
 REGISTRY = ["--registry", SAMPLE]
+
+
+def commands(count):
+    """The first `count` of these: a profile, a file that is finished, one that is abandoned, and folders. Each is accepted."""
+    finished = [file(2, b"a.msg", 14, 7), piece(3, 1, 1, b" of it."), piece(4, 1, 0, b"message"), finish(5, 1)]
+    abandoned = [file(6, b"gone", 3, 3), abandon(7, 2)]
+    folders = [folder(number, b"%d" % number) for number in range(8, count + 1)]
+    return [create(1), *finished, *abandoned, *folders][:count]
 
 
 def unopened(why):
@@ -87,9 +96,9 @@ class InJournal(unittest.TestCase):
     """Tests with a path for a journal in a folder of its own."""
 
     def setUp(self):
-        folder = tempfile.TemporaryDirectory()
-        self.addCleanup(folder.cleanup)
-        self.folder = folder.name
+        place = tempfile.TemporaryDirectory()
+        self.addCleanup(place.cleanup)
+        self.folder = place.name
         self.path = os.path.join(self.folder, "desk.journal")
 
     def ends(self, found, status, fault, sentence, path=None):
