@@ -1,6 +1,7 @@
 """Sockets of this machine, and frames read from them. Nothing here waits longer than some seconds."""
 
 import contextlib
+import os
 import socket
 import struct
 import threading
@@ -8,7 +9,8 @@ import threading
 from lib.frames import HEADER
 
 HOST = "127.0.0.1"
-SECONDS = 30
+# how long a test waits for the program at most: longer by WAIT_SECONDS, on a machine that is busy
+SECONDS = int(os.environ.get("WAIT_SECONDS", "30"))
 
 
 def connect(port):
