@@ -8,7 +8,7 @@ import tempfile
 from typing import NamedTuple
 
 from lib.connections import SECONDS
-from lib.frames import HEADER
+from lib.frames import HEADER, frame, refusal
 from lib.program import PROGRAM, faults
 
 REFUSING = os.environ["REFUSING"]
@@ -16,6 +16,11 @@ COUNTS_FILE = os.path.join(os.path.dirname(REFUSING), "counts")
 
 # the refusal for memory
 MEMORY = 18
+
+# how many bytes `run` reads at once
+READ = 65_536
+# the number of a request that fills a read
+FILLER = 9_999
 
 
 class Counts(NamedTuple):
@@ -27,6 +32,14 @@ class Counts(NamedTuple):
 
     def less(self, before):
         return Counts(*(late - early for late, early in zip(self, before)))
+
+
+def filled(frames):
+    """Appends a request of no kind, so that these are whole reads. What follows begins with a read and a turn of its own."""
+    return frames + frame(9, 1, FILLER, bytes(-(len(frames) + HEADER.size) % READ))
+
+
+FILLED = refusal(FILLER, 1)
 
 
 def last_frame(written):

@@ -7,9 +7,9 @@ import struct
 import tempfile
 import unittest
 
-from allocations import counted, last_frame
-from lib.frames import ABANDONED, FINISH, FINISHED, HEADER, LARGEST_FILE, LIMITS, MADE, NODE, PART, PROGRESS, REFUSED, TAKEN
-from lib.frames import abandon, create, export, file, finish, folder, frame, in_version, piece, status
+from allocations import counted, filled, last_frame
+from lib.frames import ABANDONED, FINISHED, LARGEST_FILE, LIMITS, MADE, NODE, PART, PROGRESS, REFUSED, TAKEN
+from lib.frames import abandon, create, export, file, finish, folder, in_version, piece, status
 from lib.session import ALL, KEPT, NOT_KEPT, requests_of
 
 TABLE = os.path.join(os.path.dirname(os.path.abspath(__file__)), "costs_of_requests")
@@ -21,8 +21,6 @@ BEFORE = requests_of(ALL + KEPT + NOT_KEPT)
 # the first number, node and profile after that, and the number of the measured request
 NUMBER, NEXT_NODE, NEXT_PROFILE = 100, 8, 6
 LAST = 10_000
-# how many bytes `run` reads at once
-READ = 65_536
 
 LONG = b"n" * 255
 ESCAPED = b"%" * 255
@@ -133,11 +131,6 @@ CASES = {
 }
 
 
-def whole_reads(frames):
-    """Appends a malformed request, so that these are whole reads. Each read is followed by a turn of its own."""
-    return frames + frame(FINISH, 1, LAST, bytes(-(len(frames) + HEADER.size) % READ))
-
-
 def registry(place):
     """Writes a registry with the most formats, each with the longest identifier, all of one extension."""
     path = os.path.join(place, "registry.csv")
@@ -159,7 +152,7 @@ class CostsOfRequests(unittest.TestCase):
 
     def cost(self, name, options):
         before, request, kind = CASES[name]
-        front = whole_reads(BEFORE + before)
+        front = filled(BEFORE + before)
         without = counted(front, options)[1]
         written, counts = counted(front + request, options)
         self.assertEqual(last_frame(written)[0], kind, name)

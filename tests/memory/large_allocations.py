@@ -1,11 +1,13 @@
 """Every allocation above a limit is refused. An unfinished file takes twice the scan limit and 16 places, whatever
 its size and the number of its pieces; a piece takes the body of its frame."""
 
+import os
 import unittest
 
-from allocations import MEMORY, run_over
+from allocations import REFUSING, run_over
 from lib.frames import LARGEST_FILE, LIMITS, MADE, MOST_PIECES, NODE, PROGRESS, SCAN_LIMIT, TAKEN
-from lib.frames import create, file, piece, refusal, reply, status
+from lib.frames import create, file, piece, reply, status
+from lib.program import run_plainly
 from lib.session import rows_in_version
 
 PIECE_FIELDS = 12
@@ -36,16 +38,19 @@ class LargeAllocations(unittest.TestCase):
         for version in LIMITS:
             self.answers(version, SCAN_LIMIT, rows)
 
-    def test_less_is_refused(self):
-        """A limit of one byte less refuses a window, and the body of a piece."""
-        made = (create(1), reply(MADE, 1, 1))
-        window = (file(2, b"n", SCAN_LIMIT, 1), refusal(2, MEMORY))
-        fitting = (file(3, b"n", SCAN_LIMIT - 1, 1), reply(NODE, 3, 1))
+    def test_a_byte_less_refuses_a_window(self):
+        """In a script, since `run` reads into a buffer of the window's size."""
+        sizes = SCAN_LIMIT, SCAN_LIMIT - 1
+        lines = ["1 1 create 65536 0", *(f"1 {2 + place} file 1 0 0 {size} 1 n" for place, size in enumerate(sizes)), ""]
+        limited = {"LD_PRELOAD": REFUSING, "LIMIT": str(SCAN_LIMIT - 1)}
+        ended = run_plainly(["script"], "\n".join(lines).encode("ascii"), env={**os.environ, **limited})
+        self.assertEqual(ended[:2], (0, b"made 1\nrefused 18\nnode 1\n"))
+
+    def test_a_byte_less_refuses_the_body_of_a_piece(self):
         for version, limits in LIMITS.items():
-            self.answers(version, SCAN_LIMIT - 1, [made, window, fitting])
-            large = (file(2, b"n", LARGEST_FILE, limits.piece), reply(NODE, 2, 1))
-            unread = (piece(3, 1, 0, bytes(limits.piece)), b"")
-            self.answers(version, PIECE_FIELDS + limits.piece - 1, [made, large, unread], 4, "fault: Memory\n")
+            rows = [(create(1), reply(MADE, 1, 1)), (file(2, b"n", LARGEST_FILE, limits.piece), reply(NODE, 2, 1))]
+            rows.append((piece(3, 1, 0, bytes(limits.piece)), b""))
+            self.answers(version, PIECE_FIELDS + limits.piece - 1, rows, 4, "fault: Memory\n")
 
 
 if __name__ == "__main__":

@@ -4,12 +4,13 @@ exactly."""
 import hashlib
 import unittest
 
-from allocations import counted
+from allocations import FILLED, counted, filled
 from lib.frames import ABANDONED, FINISHED, LIMITS, MADE, NODE, TAKEN
 from lib.frames import abandon, create, file, finish, folder, frame, in_version, piece, refusal, reply
 from lib.session import KEPT, NOT_KEPT, replies_of, requests_of, rows_in_version
 
 FEW, MANY = 1_000, 100_000
+TIMES = MANY // FEW
 PIECES = 1_000_000
 # each version with the hashes that a profile can have in it: their numbers, and the hash of no byte
 HASHES = [(1, 1, hashlib.md5().digest()), (2, 0, b""), (2, 1, hashlib.md5().digest()), (2, 2, hashlib.sha256().digest())]
@@ -17,31 +18,33 @@ HASHES = [(1, 1, hashlib.md5().digest()), (2, 0, b""), (2, 1, hashlib.md5().dige
 
 class Repeats(unittest.TestCase):
     """The database's statements and working rows have their final sizes after a thousand requests. After a hundred
-    thousand no byte more is held, and each request allocates as much as the one before."""
+    thousand no byte more is held, and each thousand allocates as much as the thousand before. (They are whole reads, so that
+    each thousand is read in the same way.)"""
 
-    def after(self, rows, count):
+    def after(self, requests, replies, times):
         """Returns the counts after the session and then these requests, this many times."""
-        written, counts = counted(requests_of(KEPT) + requests_of(rows) * count)
-        self.assertTrue(written == replies_of(KEPT) + replies_of(rows) * count)
+        written, counts = counted(filled(requests_of(KEPT)) + requests * times)
+        self.assertTrue(written == replies_of(KEPT) + FILLED + replies * times)
         return counts
 
-    def leave_nothing(self, rows, few=FEW, many=MANY):
+    def leave_nothing(self, rows, few=FEW, times=TIMES):
         with self.subTest(rows=rows):
-            once, twice, often = (self.after(rows, count) for count in (few, 2 * few, many))
+            requests, replies = filled(requests_of(rows) * few), replies_of(rows) * few + FILLED
+            once, twice, often = (self.after(requests, replies, count) for count in (1, 2, times))
             self.assertEqual(often.held, once.held)
-            self.assertEqual(often.less(once), tuple(count * (many // few - 1) for count in twice.less(once)))
+            self.assertEqual(often.less(once), tuple(count * (times - 1) for count in twice.less(once)))
 
     def test_no_repeat_leaves_anything(self):
         for row in KEPT:
             self.leave_nothing([row])
 
     def test_repeats_in_turn_leave_nothing(self):
-        self.leave_nothing(KEPT, FEW // 10, MANY // 10)
+        self.leave_nothing(KEPT, FEW // 10)
 
     def test_no_query_or_refusal_leaves_anything(self):
         kept_in_version_1 = rows_in_version(2, [(folder(2, b"in"), refusal(2, 2))])
         for row in NOT_KEPT + kept_in_version_1:
-            self.leave_nothing([row], many=MANY // 10)
+            self.leave_nothing([row], times=TIMES // 10)
 
 
 # An entry of a table or of an index has a node of its tree, and a row that the trees before and after a change share.

@@ -3,13 +3,14 @@ session, and as the first requests of a service. The request is answered Refused
 and all later requests get their usual replies when it comes again. One refused allocation has to give one answer 18:
 a program that repeats a refused commit would give none.
 
-If the memory for a body is refused, the request isn't read, and the stream ends. These allocations may be refused
-without a trace. The last ones of a request:
-- the buffer in which a small reply is gathered (droid_wire): without it the reply goes in parts;
-- the cache of a kept reply, after the commit (droid_core): without it the next repeat reads the reply from the
-  database. The database allocates nothing once a commit stands. In the first request to a service, within its first
-  query: the list in which the database keeps its working rows for the next query, which otherwise allocates them
-  again. And the first one of a repeat after its body, a copy of the cached reply: without it the database is read.
+The first allocation of a request is its body, and the last one the frame in which its reply waits to be written. If one of these
+is refused, the stream ends behind the replies before. Each request begins with a turn of its own, so that it has both.
+
+These allocations may be refused without a trace. The last ones before the frame: the cache of a kept reply, after the commit
+(droid_core): without it the next repeat reads the reply from the database. The database allocates nothing once a commit stands. In
+the first request to a service, within its first query: the list in which the database keeps its working rows for the next query,
+which otherwise allocates them again. And the first one of a repeat after its body, a copy of the cached reply: without it the
+database is read.
 """
 
 import os
@@ -17,7 +18,7 @@ import unittest
 from concurrent.futures import ThreadPoolExecutor
 from typing import NamedTuple
 
-from allocations import MEMORY, counted, run_over
+from allocations import FILLED, MEMORY, counted, filled, run_over
 from lib.frames import ABANDONED, FINISHED, HEADER, LIMITS, MADE, NODE, PROGRESS, TAKEN
 from lib.frames import abandon, create, export, file, finish, folder, frame, in_version, part, piece, refusal, reply
 from lib.frames import status
@@ -25,7 +26,6 @@ from lib.rows import LETTERS_ROW, folder_row
 from lib.session import ALL, ALL_TEXT, FOUND, LETTERS, replies_of, requests_of, rows_in_version
 from out_of_order import HASHES, out_of_order
 
-GATHERED = 1
 # the body of a cached reply, which Abandoned does not have, and its place
 BODY = 1
 PLACE = 1
@@ -33,8 +33,8 @@ KEPT_FOR_THE_NEXT = 1
 
 TEXT = ALL_TEXT + folder_row(8, b"f") + LETTERS_ROW.replace(b'"2","1"', b'"9","8"').replace(b"/in/", b"/f/")
 
-# requests after the session, their replies, and how many allocations may be refused without a trace: of a new one at
-# its end, of a repeat after its first
+# requests after the session, their replies, and how many allocations may be refused without a trace: of a new one before its
+# last, of a repeat after its first
 REQUESTS = [
     (create(40), reply(MADE, 40, 6), BODY + PLACE, BODY),
     (folder(41, b"f"), reply(NODE, 41, 8), BODY + PLACE, BODY),
@@ -55,7 +55,7 @@ OF_A_COMMAND = BODY + PLACE, BODY
 
 class Step(NamedTuple):
     """A request of the stream with its reply, the first and the last of its own allocations, and how many of those
-    after the first and of the last ones it can do without."""
+    after the first and before the last one it can do without."""
 
     request: bytes
     answer: bytes
@@ -83,30 +83,37 @@ class Stream:
         self.bytes = requests_of(before)
         self.replies = replies_of(before)
         self.steps = []
-        asked = counted(self.bytes)[1].asked
         for request, answer, spared, copied in requests:
-            for behind, more in ((0, spared), (copied, 0)):
-                self.bytes += request
-                first, asked = asked + 1, counted(self.bytes)[1].asked
-                self.steps.append(Step(request, answer, first, asked, behind, GATHERED + more))
+            for behind, ahead in ((0, spared), (copied, 0)):
+                front = filled(self.bytes)
+                self.bytes = front + request
+                first, last = counted(front)[1].asked + 1, counted(self.bytes)[1].asked
+                self.steps.append(Step(request, answer, first, last, behind, ahead))
+
+    def answered(self, answers):
+        """The replies to all, where the steps have these answers."""
+        return self.replies + b"".join(FILLED + answer for answer in answers)
+
+    def whole(self):
+        return 0, self.answered(step.answer for step in self.steps), ""
 
     def due(self, place, allocation):
         """Returns how `run` has to end where this allocation of the step at this place is refused."""
         step = self.steps[place]
         answers = [step.answer for step in self.steps]
-        if allocation == step.first:
-            return 4, self.replies + b"".join(answers[:place]), "fault: Memory\n"
-        if step.first + step.copied < allocation <= step.last - step.spared:
+        if allocation in (step.first, step.last):
+            return 4, self.answered(answers[:place]) + FILLED, "fault: Memory\n"
+        if step.first + step.copied < allocation < step.last - step.spared:
             answers[place] = in_version(step.version(), refusal(step.number(), MEMORY))
-        return 0, self.replies + b"".join(answers), ""
+        return 0, self.answered(answers), ""
 
 
 class RefusedOnce(unittest.TestCase):
     def each_in_turn(self, stream, spared=0):
         """Refuses each allocation. This many of the first request, besides the last ones, leave no trace."""
         for step in stream.steps:
-            self.assertLessEqual(step.first + step.copied + step.spared, step.last, "its allocations were not counted")
-        whole = 0, stream.replies + b"".join(step.answer for step in stream.steps), ""
+            self.assertLess(step.first + step.copied + step.spared, step.last, "its allocations were not counted")
+        whole = stream.whole()
         self.assertEqual(run_over(stream.bytes), whole)
         rows = [(place, at) for place, step in enumerate(stream.steps) for at in range(step.first, step.last + 1)]
         with ThreadPoolExecutor(os.cpu_count()) as pool:
