@@ -8,7 +8,7 @@
 #   journals_refused      `run` with a journal and `compact`, in the same way
 #   journal_room          `run` with a journal, whose service goes on
 #   large_allocations     every allocation above a limit refused
-#   long_bodies           allocations for a header whose length is past the limit
+#   long_bodies           allocations for a body whose length is past the limit, and for one that comes in part
 #   costs_of_requests     allocations for a request of each kind, by the table costs_of_requests
 #   lasting_memory        memory that is held after long streams
 # MODULES names some of them alone, or with a kit, as `make prove` does:
