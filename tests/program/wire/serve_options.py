@@ -132,7 +132,7 @@ class Verbose(unittest.TestCase):
 
     def test_a_failed_write(self):
         """One that reads no reply is not read any more, and then it breaks. Some bytes were written to it, but not all."""
-        with lasting(1, "--verbose") as service:
+        with lasting(1, "--idle", "3600", "--verbose") as service:
             stream = slow_reader(service.port)
             fill(service, stream)
             reset(stream)
