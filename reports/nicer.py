@@ -1,5 +1,5 @@
 import os,re,time
-from prio import up,deps
+from prio import up,deps,s as sec
 end=time.time()+10300
 while time.time()<end:
     ps=[]
@@ -11,10 +11,11 @@ while time.time()<end:
             c=open(f'/proc/{p}/cmdline').read().split('\0')
             if not c[0].endswith('bin/rattle'): continue
             cwd=os.readlink(f'/proc/{p}/cwd')
-            if not cwd.startswith('/tmp/rt-copy'): continue
+            if not (cwd.startswith('/tmp/rt-copy') or cwd.startswith('/work/h/G2')): continue
             if any(cwd.startswith(f'/tmp/rt-copy-{q}-') for q in low): continue
             name=c[c.index('--crate-name')+1] if '--crate-name' in c else cwd.rsplit('/',1)[1]
-            ps.append((up(name) if name in deps else 0,p))
+            st=open(f'/proc/{p}/stat').read().rsplit(')',1)[1].split(); used=(int(st[11])+int(st[12]))/100
+            ps.append(((up(name)-min(used,sec[name]*0.95)) if name in deps else 0,p))
         except (OSError,ValueError): continue
     ps.sort(reverse=True)
     for k,(u,p) in enumerate(ps):

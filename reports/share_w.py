@@ -1,0 +1,1 @@
+W={"/work/h/t_table_v":12,"/work/h/fold2":10,"/tmp/ow.loop.droid_turns":15,"/work/h/t_flow":12,"/tmp/ow.loop.":15,"/work/h/t_loop":9,"/work/h/t_loop_later":4,"/work/h/t_ends":9,"/work/h/ends2":15,"/work/h/t_core":8,"/work/h/core_tmp":9,"/work/h/t_fold":4,"/work/h/t_table":-3,"/work/h/t_table_n2":-3,"/work/h/t_ident":15,"/work/h/t_house":9,"/work/h/t_tests":0,"/work/h/next":-6}
