@@ -38,7 +38,7 @@ def checked(trial,tree):
     finally:
         shutil.rmtree(tree,ignore_errors=True)
 wrong.checked=checked
-changed=set(subprocess.run(["git","diff","--name-only","--diff-filter=d","8180d4e5","HEAD","--",f"crates/{crate}"],cwd=top,stdout=subprocess.PIPE,text=True).stdout.split())
+changed=set(subprocess.run(["git","diff","--name-only","--diff-filter=d","19c78f6f","HEAD","--",f"crates/{crate}"],cwd=top,stdout=subprocess.PIPE,text=True).stdout.split())
 edits=[e for e in wrong.edits_of(crate) if (os.path.basename(e)[:-5] in names if names else os.path.relpath(e,top) in changed)]
 trials=wrong.trials_with(crate,{e:wrong.places_of(crate,e) for e in map(Edit,edits)})
 print(crate,len(edits),"edits in",len(trials),"trials",flush=True)
