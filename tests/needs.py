@@ -12,6 +12,7 @@ OPTIONAL = [
     (["groff"], "groff", "the layout of the manual page"),
     (["file"], "file", "media types beside those of `file`"),
     (["openssl"], "openssl", "keys and certificates, as files to identify"),
+    (["rsync"], "rsync", "rsync beside `submit` over a slow link, in tests/bench"),
     *[([name], package, f"files that {name} makes, to identify") for name, package in [("xz", "xz-utils"), ("zstd", "zstd"), ("lz4", "lz4"), ("lzip", "lzip"), ("zip", "zip"), ("bzip2", "bzip2")]],
 ]
 OLDEST = (3, 10)

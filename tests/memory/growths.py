@@ -40,6 +40,7 @@ TESTS = {
     "droid_folder_tests": [
         "folders::lists::memory::each_growth_of_a_list",
         "folders::lists::memory::each_growth_of_a_report",
+        "folders::lists::memory::each_growth_of_pairs",
         "folders::lists::texts::each_growth_of_a_text",
         "folders::manifests::memory::each_growth_of_a_list",
         "folders::manifests::memory::each_growth_of_a_manifest",

@@ -1,11 +1,11 @@
 -- What a page says of itself (this project's own).
 use Rattle.std.specs.Prelude.{ℕ, ◌==◌, List, [], ◌++◌, Option, Some, None, codes, length, if◌then◌else◌}
 use Rattle.droid_terminal.specs.Places.{name_of}
-use Rattle.droid_report.specs.declared.facts.HashColumn.{HashColumn}
-use Rattle.droid_report.specs.declared.facts.HashColumn.TheVariants.{Nothing, Md5, Sha256}
+use Rattle.droid_frame.specs.declared.hash_kind.HashKind.{HashKind}
+use Rattle.droid_frame.specs.declared.hash_kind.HashKind.TheVariants.{Nothing, Md5, Sha256}
 use Rattle.droid_report.specs.declared.texts.TheConstants as texts
 
-abbrev pub hash_words : HashColumn → List ℕ
+abbrev pub hash_words : HashKind → List ℕ
 hash_words Nothing = texts.NO_HASHES.now
 hash_words Md5 = texts.MD5_HASHES.now
 hash_words Sha256 = texts.SHA256_HASHES.now
@@ -16,7 +16,7 @@ registry_words (Some registry) = texts.REGISTRY.now ++ (registry ++ texts.REGIST
 registry_words None = []
 
 -- of which CSV it was made, when, by which registry its files were identified, and which hash that has
-unfoldable pub about_text : List ℕ → List ℕ → Option (List ℕ) → HashColumn → List ℕ
+unfoldable pub about_text : List ℕ → List ℕ → Option (List ℕ) → HashKind → List ℕ
 about_text moment name registry hash =
     texts.MADE_FROM.now
     ++ (name

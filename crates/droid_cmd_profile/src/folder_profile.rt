@@ -1,4 +1,5 @@
-//! The profile of a folder of this machine.
+//! The profile of a folder of this machine. `profile_tree` is proved; what is here joins it to the machine's files,
+//! without contracts, and is tested by tests/program/folders.
 
 use crate::kept_output::Keeping;
 use crate::named_registry::{NamedRegistry, RegistryLine};

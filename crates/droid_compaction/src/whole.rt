@@ -79,7 +79,8 @@ fn end_in(key: Key, at: u64, seen: &[u8]) -> Option<bool>
     Some(true)
 }
 
-/// Where a file ends, behind its records and the beginning of the next turn, if it is there.
+/// Returns where a file ends: behind its records, and the beginning of the next turn if that is there. `None` if the
+/// number is too large.
 fn size_of(at: u64, ahead: bool) -> Option<u64>
     ensures { IfSome result (λ end. end ≡ at + (if ahead then 17 else 0)) }
 {

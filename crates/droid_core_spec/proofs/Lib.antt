@@ -11,6 +11,7 @@ pub mod Judged
 pub mod Legal
 mod Meanings
 pub mod Meetings
+pub mod OnePiece
 pub mod Recorded
 pub mod Replied
 pub mod Whole

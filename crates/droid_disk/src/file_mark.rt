@@ -20,7 +20,7 @@ pub(crate) fn create_marked<R: Files<File = File>>(rt: &R, path: &str) -> io::Re
     Ok(file)
 }
 
-/// Marks a file.
+/// Marks a file as unfinished, by the sticky bit of its mode.
 pub(crate) fn mark(file: &File) -> io::Result<()> {
     let mode = file.metadata()?.mode() & MODES;
     file.set_permissions(Permissions::from_mode(mode | MARK))

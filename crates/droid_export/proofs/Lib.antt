@@ -7,6 +7,7 @@ pub mod FlagMarks
 pub mod IndexContents
 pub mod Lines
 pub mod ListPlaces
+pub mod RecordReading
 pub mod Records
 pub mod TextConcatenation
 pub mod WriterStops

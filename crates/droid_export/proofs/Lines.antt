@@ -18,24 +18,24 @@ comma_behind row column = quoted (row column) ++ 44 ∷ []
 joined_first : (field : List ℕ) (row : Row) (columns : List Column) (last : Column) → joined (field ∷ map row (columns ++ last ∷ [])) ≡ quoted field ++ 44 ∷ joined (map row (columns ++ last ∷ []))
 unfolding joined
 joined_first field row [] last = refl
-joined_first field row (next ∷ columns) last = refl
+joined_first field row (_ ∷ _) last = refl
 
 joined_front : (row : Row) (columns : List Column) (last : Column) → joined (map row (columns ++ last ∷ [])) ≡ flat_map (comma_behind row) columns ++ quoted (row last)
 unfolding joined
 joined_front row [] last = refl
-joined_front row (column ∷ columns) last =
-    let rest : List ℕ = flat_map (comma_behind row) columns ++ quoted (row last) in
-    joined_first (row column) row columns last
-    ∙ (ap (λ (l : List ℕ). quoted (row column) ++ 44 ∷ l) (joined_front row columns last)
+joined_front row (column ∷ others) last =
+    let rest : List ℕ = flat_map (comma_behind row) others ++ quoted (row last) in
+    joined_first (row column) row others last
+    ∙ (ap (λ (l : List ℕ). quoted (row column) ++ 44 ∷ l) (joined_front row others last)
     ∙ (sym (append_assoc (quoted (row column)) (44 ∷ []) rest)
-    ∙ sym (append_assoc (comma_behind row column) (flat_map (comma_behind row) columns) (quoted (row last)))))
+    ∙ sym (append_assoc (comma_behind row column) (flat_map (comma_behind row) others) (quoted (row last)))))
 
 -- all fields but the last, each with its comma, and then the last one with a line feed
 line_of : (row : Row) (columns : List Column) (last : Column) → flat_map (comma_behind row) columns ++ (quoted (row last) ++ 10 ∷ []) ≡ line (map row (columns ++ last ∷ []))
 unfolding line
-line_of row columns last =
-    sym (append_assoc (flat_map (comma_behind row) columns) (quoted (row last)) (10 ∷ []))
-    ∙ ap (λ (l : List ℕ). l ++ 10 ∷ []) (sym (joined_front row columns last))
+line_of row others last =
+    sym (append_assoc (flat_map (comma_behind row) others) (quoted (row last)) (10 ∷ []))
+    ∙ ap (λ (l : List ℕ). l ++ 10 ∷ []) (sym (joined_front row others last))
 
 -- the columns before the last
 abbrev first_columns : List Column

@@ -4,8 +4,10 @@ pub mod Csv
 pub mod CsvBuffer
 pub mod ExportOutcome
 pub mod Filters
+pub mod Headers
 pub mod Index
 pub mod Moments
+pub mod ReadErrors
 pub mod Rows
 pub mod Table
 pub mod Text

@@ -1,6 +1,8 @@
 -- The columns of a profile's CSV (docs/CSV.md): those of DROID and the hash. Their names and order are this project's
 -- own.
 use Rattle.std.specs.Prelude.{ℕ, ◌+◌, ◌==◌, List, [], ◌∷◌, codes, length, Option, slice_get, if◌then◌else◌}
+use Rattle.std.specs.Option.{unwrap_or}
+use Rattle.csv.specs.Records.{field_at}
 use Rattle.droid_frame.specs.declared.hash_kind.HashKind.{HashKind}
 use Rattle.droid_frame.specs.declared.hash_kind.HashKind.TheVariants as hashes
 use Rattle.droid_export.specs.declared.column.Column.{Column}
@@ -70,3 +72,7 @@ mark_of column = if place_of column + 1 == length columns then 10 else 44
 -- the column at a place, counted from 0
 abbrev pub column_at : ℕ → Option Column
 column_at place = slice_get columns place
+
+-- the field at a place of a record, or nothing past the last
+abbrev pub field_or : List (List ℕ) → ℕ → List ℕ
+field_or row place = unwrap_or (field_at row place) []

@@ -2,11 +2,13 @@
 #![tactic(auto)]
 
 mod column;
+mod csv_row;
 mod extension;
 mod fault;
 mod filter;
 mod flags;
 mod hash_text;
+mod header;
 mod index;
 mod laws;
 mod moment;
@@ -21,9 +23,11 @@ mod text;
 mod writer;
 
 pub use column::{COLUMNS, Column};
+pub use csv_row::Row;
 pub use fault::ExportFault;
 pub use filter::meets;
 pub use hash_text::HashText;
+pub use header::hash_of_header;
 pub use laws::{text_goes_by_records, text_is_read_back};
 pub use moment::{moment_bytes, moment_text};
 pub use node_uri::uri;

@@ -189,7 +189,7 @@ fn text_of<'a>(column: Column, parts: &RowParts<'a>) -> &'a [u8]
         Column::FilePath => node.path.as_str().as_bytes(),
         Column::Name => node.name.as_str().as_bytes(),
         Column::Method => method_text(node).as_bytes(),
-        Column::Status => status(node).as_bytes(),
+        Column::Status => status().as_bytes(),
         Column::Size => common.size.as_bytes(),
         Column::Kind => kind_name(node.kind).as_bytes(),
         Column::Ext => extension(node).as_bytes(),
@@ -252,9 +252,8 @@ pub fn method_name(method: Method) -> &'static str
     }
 }
 
-/// Returns the status, which is the same for every record: folders and finished files. It takes the record because all
-/// texts of a row share one lifetime.
-fn status(_node: &Record) -> &str
+/// Returns the field STATUS, which is the same for every record: folders and finished files.
+fn status() -> &'static str
     ensures { result.now ≡ codes "Done" }
 {
     "Done"

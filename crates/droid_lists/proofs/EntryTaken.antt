@@ -14,8 +14,8 @@ use Rattle.droid_lists.specs.ProfileTexts.{InMore, IsWrongEntry, IsWrongRow}
 use Rattle.droid_lists.specs.RowTests.{Row, at, rows_in, utf8_of}
 use Rattle.droid_lists.specs.Spelling.{Spells}
 use Rattle.droid_lists.specs.declared.entries.Listed.{Listed}
-use Rattle.droid_lists.specs.declared.formats.Formats.{Formats}
-use Rattle.droid_lists.specs.declared.own_puids.OwnPuids.{OwnPuids}
+use Rattle.droid_lists.specs.declared.spelling.row_formats.Formats.{Formats}
+use Rattle.droid_lists.specs.declared.spelling.own_puids.OwnPuids.{OwnPuids}
 use Rattle.droid_lists.specs.declared.spelling.reading.Reading.{Reading}
 use Rattle.droid_lists.proofs.EntrySteps.{IsOf, one_added, rows_push}
 use Rattle.droid_lists.proofs.RowsRead.{more_push, right_path, rows_within, text_push}

@@ -37,7 +37,8 @@ use Rattle.droid_lists.specs.Fields.{above_of, digest_of, has_no_slash, id_by, i
 use Rattle.droid_lists.specs.Fields as read
 use Rattle.droid_lists.specs.Moments.{is_moment}
 use Rattle.droid_lists.specs.Numbers.{contradiction}
-use Rattle.droid_lists.specs.Profiles.{Draft, Rows, after, after_rows, entry_of, field_or, items_from, no_rows, nothing_read, parts_of, profile_of, repeats, same_column, shared_columns, spot_of, tag_of, taken, unless_found, with_entry, with_row}
+use Rattle.droid_export.specs.Table.{field_or}
+use Rattle.droid_lists.specs.Profiles.{Draft, Rows, after, after_rows, entry_of, items_from, no_rows, nothing_read, parts_of, profile_of, repeats, same_column, shared_columns, spot_of, tag_of, taken, unless_found, with_entry, with_row}
 use Rattle.droid_lists.specs.declared.csv_items.fault.ListFault.{ListFault}
 use Rattle.droid_lists.proofs.Numbers.{decimal_read}
 use Rattle.droid_lists.proofs.ConsistentRecords.{AreTags, entry_at, no_contradiction, one_tag_more, spot_at, tag_at}
@@ -315,6 +316,7 @@ records_read digest registry criteria whole (node ∷ nodes) none each distinct 
 -- ---- the whole
 
 header_read : (digest : HashKind) → taken nothing_read (fields (header digest)) ≡ Ok (draft_at digest 1 no_rows None)
+unfolding field_at
 header_read kinds.Nothing = refl
 header_read kinds.Md5 = refl
 header_read kinds.Sha256 = refl

@@ -14,9 +14,9 @@ use Rattle.droid_hash.specs.Findings.{CoversPuids}
 use Rattle.droid_lists.specs.FormatMaps.{AddsKnown, AddsOwn, HasOwn, IsKnown, known_at, known_count, known_or}
 use Rattle.droid_lists.specs.ProfileRows.{has_puid, known_in, puid_in, puids_by, puids_in, with_puid}
 use Rattle.droid_lists.specs.RowTests.{Row, at, texts_in}
-use Rattle.droid_lists.specs.declared.formats.Formats.{Formats}
-use Rattle.droid_lists.specs.declared.formats.Texts.{Texts}
-use Rattle.droid_lists.specs.declared.own_puids.OwnPuids.{OwnPuids}
+use Rattle.droid_lists.specs.declared.spelling.row_formats.Formats.{Formats}
+use Rattle.droid_lists.specs.declared.spelling.row_formats.Texts.{Texts}
+use Rattle.droid_lists.specs.declared.spelling.own_puids.OwnPuids.{OwnPuids}
 
 -- ---- truth values
 

@@ -9,9 +9,9 @@ use Rattle.droid_pronom.specs.RegistryFields.{has_bytes, is_puid, is_puid_byte}
 use Rattle.droid_lists.specs.FormatMaps.{AddsKnown, AddsOwn, HasOwn, IsKnown, TakesFormat, known_at, known_count, own_has}
 use Rattle.droid_lists.specs.ProfileRows.{wrong_format}
 use Rattle.droid_lists.specs.RowTests.{Row, Test, are_none, at, first_wrong, format_tests, is_new_puid, is_right_puid, texts_in, texts_tests, utf8_of}
-use Rattle.droid_lists.specs.declared.formats.Formats.{Formats}
-use Rattle.droid_lists.specs.declared.formats.Texts.{Texts}
-use Rattle.droid_lists.specs.declared.own_puids.OwnPuids.{OwnPuids}
+use Rattle.droid_lists.specs.declared.spelling.row_formats.Formats.{Formats}
+use Rattle.droid_lists.specs.declared.spelling.row_formats.Texts.{Texts}
+use Rattle.droid_lists.specs.declared.spelling.own_puids.OwnPuids.{OwnPuids}
 use Rattle.droid_lists.proofs.FormatSteps.{more_known, more_own, same_known, same_own}
 
 -- what the maps say of a row's format

@@ -14,7 +14,6 @@ mod Joining
 mod Listing
 mod MapSteps
 mod MomentTexts
-mod Names
 mod NamesRead
 pub mod Numbers
 mod PlainFields

@@ -6,12 +6,14 @@ use Rattle.csv.specs.Reading.{AreRecords, default_config, strip_bom}
 use Rattle.csv.specs.declared.parser.State.TheVariants as st
 use Rattle.droid_frame.specs.declared.hash_kind.HashKind.{HashKind}
 use Rattle.droid_fixity.specs.declared.item.Item.{Item}
+use Rattle.droid_export.specs.Headers.{hash_of_header}
 use Rattle.droid_lists.specs.PlainRows.{after_header}
-use Rattle.droid_lists.specs.Profiles.{Draft, Rows, after, digest_of_header, entry_of, items_from, judged, no_rows, profile_of, repeats, taken, after_rows, with_entry, with_header, with_row}
+use Rattle.droid_lists.specs.Profiles.{Draft, Rows, after, entry_of, items_from, judged, no_rows, profile_of, repeats, taken, after_rows, with_entry, with_header, with_row}
 use Rattle.droid_lists.specs.declared.csv_items.fault.ListFault.{ListFault}
 use Rattle.droid_lists.specs.declared.csv_items.fault.RowFault.{RowFault}
 use Rattle.droid_lists.specs.declared.csv_items.row.Entry.{Entry}
-use Rattle.droid_lists.proofs.Reading.{Left, more_by, none_by}
+use Rattle.droid_export.proofs.RecordReading.{more_by, none_by}
+use Rattle.droid_lists.proofs.Reading.{Left}
 
 -- a draft after some rows
 abbrev pub draft_with : HashKind → ℕ → Rows → Option (List (List ℕ)) → Draft
@@ -58,7 +60,7 @@ nothing_in (b ∷ text) none = absurd (omega (arith, none))
 
 -- the header, and what comes of the rows
 pub with_rows : (digest : HashKind) (text rest : List ℕ) (header : List (List ℕ)) (items : List Item) (records : List (List (List ℕ)))
-    → next_record default_config st.StartRecord [] [] text ≡ Some (header, st.StartRecord, rest) → strip_bom text ≡ text → digest_of_header header ≡ Some digest
+    → next_record default_config st.StartRecord [] [] text ≡ Some (header, st.StartRecord, rest) → strip_bom text ≡ text → hash_of_header header ≡ Some digest
     → ((rows : List (List (List ℕ))) → AreRecords default_config st.StartRecord rest rows → items_from (after_header digest) rows ≡ Ok items)
     → AreRecords default_config st.StartRecord (strip_bom text) records → profile_of records ≡ Ok items
 with_rows digest text rest header items records next unmarked is rows are =
@@ -69,7 +71,7 @@ with_rows digest text rest header items records next unmarked is rows are =
 
 -- the same, if there are items
 pub rows_found : (digest : HashKind) (text rest : List ℕ) (header : List (List ℕ)) (items : Option (Vec Item Global))
-    → next_record default_config st.StartRecord [] [] text ≡ Some (header, st.StartRecord, rest) → strip_bom text ≡ text → digest_of_header header ≡ Some digest
+    → next_record default_config st.StartRecord [] [] text ≡ Some (header, st.StartRecord, rest) → strip_bom text ≡ text → hash_of_header header ≡ Some digest
     → IfSome items (λ all. (rows : List (List (List ℕ))) → AreRecords default_config st.StartRecord rest rows → items_from (after_header digest) rows ≡ Ok all.items)
     → IfSome items (λ all. (records : List (List (List ℕ))) → AreRecords default_config st.StartRecord (strip_bom text) records → profile_of records ≡ Ok all.items)
 rows_found digest text rest header None next unmarked is rows = tt

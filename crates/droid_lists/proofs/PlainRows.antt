@@ -9,7 +9,7 @@ use Rattle.csv.specs.Reading.{default_config, strip_bom}
 use Rattle.csv.specs.declared.parser.State.TheVariants as st
 use Rattle.csv.specs.Records.{field_at}
 use Rattle.droid_lists.specs.PlainRows.{IsQuoted, fields_in, is_no_quote, is_quote}
-use Rattle.droid_lists.specs.Profiles.{field_or}
+use Rattle.droid_export.specs.Table.{field_or}
 
 -- ---- what `csv` reads
 

@@ -11,8 +11,8 @@ use Rattle.droid_lists.specs.RowReading.{RowComes, first_row}
 use Rattle.droid_lists.specs.RowTests.{Row, above, at, content_tests, first_wrong, formats_in, is_file, number_at, or_later, place_tests, shared_tests, utf8_of}
 use Rattle.droid_lists.specs.declared.entries.Entries.{Entries}
 use Rattle.droid_lists.specs.declared.entries.Listed.{Listed}
-use Rattle.droid_lists.specs.declared.formats.Formats.{Formats}
-use Rattle.droid_lists.specs.declared.own_puids.OwnPuids.{OwnPuids}
+use Rattle.droid_lists.specs.declared.spelling.row_formats.Formats.{Formats}
+use Rattle.droid_lists.specs.declared.spelling.own_puids.OwnPuids.{OwnPuids}
 use Rattle.droid_lists.proofs.RowsRead.{row_broken, row_read}
 
 -- ---- where a record stands

@@ -1,10 +1,8 @@
 -- For proofs: what the calls that read a profile promise, in the code's own types.
-use Rattle.std.specs.Prelude.{◌≡◌, ◌≢◌, List, Vec, Result, Ok, Err, ⊤}
+use Rattle.std.specs.Prelude.{◌≡◌, ◌≢◌, List, Vec, Result, Ok, Err}
 use Rattle.std.specs.Option.{option_map}
 use Rattle.std.specs.declared.alloc.Global.{Global}
 use Rattle.csv.specs.Records.{fields_of}
-use Rattle.csv.specs.declared.error.ErrorKind.{ErrorKind}
-use Rattle.csv.specs.declared.error.ErrorKind.TheVariants as csv
 use Rattle.droid_fixity.specs.declared.item.Item.{Item}
 use Rattle.droid_lists.specs.Profiles.{Draft, Rows}
 use Rattle.droid_lists.specs.declared.csv_items.draft.Draft as inside
@@ -33,12 +31,3 @@ Gives (Err fault) expected = fault ≢ faults.Memory → expected ≡ Err fault
 abbrev pub Leaves : {A : Type 0} → Result (Unit {0}) ListFault → A → Result A ListFault → Type 0
 Leaves (Ok done) new expected = expected ≡ Ok new
 Leaves (Err fault) new expected = fault ≢ faults.Memory → expected ≡ Err fault
-
--- the errors of `csv` that can end the reading of byte records: out of memory, or a failed reader
-abbrev pub EndsReading : ErrorKind → Type 0
-EndsReading csv.OutOfMemory = ⊤
-EndsReading (csv.Io e) = ⊤
-EndsReading (csv.UnequalLengths pos expected len) = ⊥
-EndsReading (csv.Utf8 pos err) = ⊥
-EndsReading (csv.Serialize text) = ⊥
-EndsReading (csv.Deserialize pos err) = ⊥

@@ -11,8 +11,8 @@ use Rattle.droid_lists.specs.ProfileTexts.{IsWrongEntry, IsWrongRow}
 use Rattle.droid_lists.specs.RowTests.{Row, rows_in}
 use Rattle.droid_lists.specs.Spelling.{Spells}
 use Rattle.droid_lists.specs.declared.entries.Entries.{Entries}
-use Rattle.droid_lists.specs.declared.formats.Formats.{Formats}
-use Rattle.droid_lists.specs.declared.own_puids.OwnPuids.{OwnPuids}
+use Rattle.droid_lists.specs.declared.spelling.row_formats.Formats.{Formats}
+use Rattle.droid_lists.specs.declared.spelling.own_puids.OwnPuids.{OwnPuids}
 use Rattle.droid_lists.specs.declared.spelling.reading.Reading.{Reading}
 use Rattle.droid_lists.specs.declared.spelling.reading.WrongRow.{WrongRow}
 

@@ -8,9 +8,9 @@ use Rattle.std.specs.Str.{bytes_eq}
 use Rattle.droid_hash.specs.Findings.{CoversPuids}
 use Rattle.droid_lists.specs.ProfileRows.{has_puid, known_in, puids_by, puids_in, wrong_format}
 use Rattle.droid_lists.specs.RowTests.{Row}
-use Rattle.droid_lists.specs.declared.formats.Formats.{Formats}
-use Rattle.droid_lists.specs.declared.formats.Texts.{Texts}
-use Rattle.droid_lists.specs.declared.own_puids.OwnPuids.{OwnPuids}
+use Rattle.droid_lists.specs.declared.spelling.row_formats.Formats.{Formats}
+use Rattle.droid_lists.specs.declared.spelling.row_formats.Texts.{Texts}
+use Rattle.droid_lists.specs.declared.spelling.own_puids.OwnPuids.{OwnPuids}
 
 -- ---- the formats of all rows
 

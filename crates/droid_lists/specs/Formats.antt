@@ -2,20 +2,15 @@
 use Rattle.std.specs.Prelude.{◌≡◌, ℕ, ◌==◌, ◌&&◌, Bool, not, List, [], ◌∷◌, ◌++◌, length, filter, map, codes}
 use Rattle.std.specs.Prelude.{if◌then◌else◌}
 use Rattle.std.specs.List.{flat_map, list_all, list_any}
-use Rattle.std.specs.Option.{unwrap_or}
 use Rattle.std.specs.Str.{bytes_eq}
 use Rattle.csv.specs.Reading.{AreRecords, default_config, strip_bom}
-use Rattle.csv.specs.Records.{field_at}
 use Rattle.csv.specs.declared.parser.State.TheVariants as st
+use Rattle.droid_export.specs.Table.{field_or}
 use Rattle.droid_lists.specs.declared.format_lists.file_formats.FileFormats.{FileFormats}
 use Rattle.droid_lists.specs.declared.format_lists.format_change.FormatChange.{FormatChange}
 use Rattle.droid_lists.specs.declared.format_lists.format_row.FormatRow.{FormatRow}
 
 -- ---- rows
-
--- the field of a record at a place, or nothing past the last
-abbrev pub field_or : List (List ℕ) → ℕ → List ℕ
-field_or fields place = unwrap_or (field_at fields place) []
 
 -- whether a record is the row of a file: TYPE says so
 abbrev pub is_file : List (List ℕ) → Bool

@@ -9,7 +9,7 @@ use Rattle.droid_export.specs.Csv.{line}
 use Rattle.droid_export.specs.Filters.{is_among}
 use Rattle.droid_lists.specs.RowTests.{Row, above, at, content_tests, first_wrong, format_tests, formats_in, is_file}
 use Rattle.droid_lists.specs.RowTests.{number_at, or_later, place_tests, rows_in, shared_tests, texts_in, utf8_of}
-use Rattle.droid_lists.specs.declared.formats.Texts.{Texts}
+use Rattle.droid_lists.specs.declared.spelling.row_formats.Texts.{Texts}
 
 -- ---- records
 

@@ -1,12 +1,11 @@
 -- Which items the records of a profile's CSV are (docs/CSV.md).
 use Rattle.std.specs.Prelude.{ℕ, ◌+◌, ◌-◌, ◌==◌, Bool, true, false, List, [], ◌∷◌, ◌++◌, length, Option, Some, None}
-use Rattle.std.specs.Prelude.{Result, Ok, Err, codes, if◌then◌else◌}
-use Rattle.std.specs.List.{flat_map, list_all}
-use Rattle.std.specs.Option.{unwrap_or}
+use Rattle.std.specs.Prelude.{Result, Ok, Err, if◌then◌else◌}
+use Rattle.std.specs.List.{list_all}
 use Rattle.std.specs.Str.{bytes_eq}
-use Rattle.csv.specs.Records.{field_at}
 use Rattle.droid_frame.specs.declared.hash_kind.HashKind.{HashKind}
-use Rattle.droid_frame.specs.declared.hash_kind.HashKind.TheVariants.{Nothing, Md5, Sha256}
+use Rattle.droid_export.specs.Headers.{hash_of_header}
+use Rattle.droid_export.specs.Table.{field_or}
 use Rattle.droid_fixity.specs.Items.{same_truth}
 use Rattle.droid_fixity.specs.declared.item.Item.{Item}
 use Rattle.droid_lists.specs.Fields.{above_of, hash_column, hash_of, id_of, kind_of, length_of, moment_of, parent_of}
@@ -23,30 +22,6 @@ use Rattle.droid_lists.specs.declared.csv_items.row.Parts.{Parts}
 use Rattle.droid_lists.specs.declared.csv_items.row.Spot.{Spot}
 use Rattle.droid_lists.specs.declared.csv_items.tag.Tag.{Tag}
 
--- ---- the names of the columns
-
--- fields, each with a comma after it
-abbrev pub joined : List (List ℕ) → List ℕ
-joined names = flat_map (λ name. name ++ 44 ∷ []) names
-
--- the kind of hash that the names of the columns say
-abbrev pub digest_by_names : List ℕ → Option HashKind
-digest_by_names names =
-    if bytes_eq names
-    (codes "ID,PARENT_ID,URI,FILE_PATH,NAME,METHOD,STATUS,SIZE,TYPE,EXT,LAST_MODIFIED,EXTENSION_MISMATCH,HASH,FORMAT_COUNT,PUID,MIME_TYPE,FORMAT_NAME,FORMAT_VERSION,")
-    then Some Nothing
-    else if bytes_eq names
-    (codes "ID,PARENT_ID,URI,FILE_PATH,NAME,METHOD,STATUS,SIZE,TYPE,EXT,LAST_MODIFIED,EXTENSION_MISMATCH,MD5_HASH,FORMAT_COUNT,PUID,MIME_TYPE,FORMAT_NAME,FORMAT_VERSION,")
-    then Some Md5
-    else if bytes_eq names
-    (codes "ID,PARENT_ID,URI,FILE_PATH,NAME,METHOD,STATUS,SIZE,TYPE,EXT,LAST_MODIFIED,EXTENSION_MISMATCH,SHA256_HASH,FORMAT_COUNT,PUID,MIME_TYPE,FORMAT_NAME,FORMAT_VERSION,")
-    then Some Sha256
-    else None
-
--- the kind of hash that a header says: it has 18 columns, with these names in this order
-abbrev pub digest_of_header : List (List ℕ) → Option HashKind
-digest_of_header names = if length names == 18 then digest_by_names (joined names) else None
-
 -- ---- rows
 
 -- a step that may find a wrong column, which is then the first
@@ -58,10 +33,6 @@ abbrev pub ◌>>=◌ : {A B : Type 0} → Result A Column → (A → Result B Co
 abbrev pub or_wrong : {A : Type 0} → Column → Option A → Result A Column
 or_wrong column None = Err column
 or_wrong column (Some x) = Ok x
-
--- the field at a place, or nothing past the last
-abbrev pub field_or : List (List ℕ) → ℕ → List ℕ
-field_or row place = unwrap_or (field_at row place) []
 
 -- where an item is, by its ID, that of the folder above it, and the path above its own: an item at the top has no
 -- folder above it, and any other has one
@@ -191,7 +162,7 @@ with_row draft row (Ok entry) =
     after_rows draft row (with_entry (draft.records + 1) draft.rows entry (repeats draft.last row))
 
 abbrev pub taken_by : Draft → Option HashKind → List (List ℕ) → Result Draft ListFault
-taken_by draft None fields = with_header (digest_of_header fields)
+taken_by draft None fields = with_header (hash_of_header fields)
 taken_by draft (Some digest) fields = with_row draft fields (entry_of digest fields)
 
 -- the draft after one more record

@@ -2,12 +2,11 @@
 use Rattle.std.specs.Prelude.{◌≡◌, ℕ, zero, suc, ◌+◌, ◌==◌, Bool, true, false, List, [], ◌∷◌, ◌++◌, Option, Some, None}
 use Rattle.std.specs.Prelude.{Result, Ok, Err, if◌then◌else◌}
 use Rattle.std.specs.Borrow.{Bor}
-use Rattle.std.specs.Option.{unwrap_or}
-use Rattle.csv.specs.Records.{field_at}
+use Rattle.droid_export.specs.Table.{field_or}
 
 -- the field of a column, counted from 0, or nothing past the last
 abbrev pub at : List (List ℕ) → ℕ → List ℕ
-at row column = unwrap_or (field_at row column) []
+at row column = field_or row column
 
 -- a field that was read, and the text behind the mark that ends it
 pub record Field : Type 0 where

@@ -19,7 +19,7 @@ use Rattle.droid_lists.specs.Fields.{has_no_slash, number_of as digits_of}
 use Rattle.droid_lists.specs.Moments.{is_moment}
 use Rattle.droid_lists.specs.Profiles.{shared_columns}
 pub use Rattle.droid_lists.specs.RowReading.{at}
-use Rattle.droid_lists.specs.declared.formats.Texts.{Texts}
+use Rattle.droid_lists.specs.declared.spelling.row_formats.Texts.{Texts}
 
 -- ---- the first wrong column
 

@@ -11,12 +11,10 @@ mod csv_items;
 mod entries;
 mod export_law;
 mod format_lists;
-mod formats;
 mod known;
 mod list_content;
 mod list_form;
 mod node;
-mod own_puids;
 mod spelling;
 
 pub use agreement_law::the_items_of_the_list_agree;

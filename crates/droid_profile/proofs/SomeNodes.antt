@@ -1,8 +1,7 @@
 -- Each tree has nodes.
-use Rattle.std.proofs.Common.{◌≡◌, inl, inr, ℕ, zero, suc, ◌+◌, ◌/◌, ◌≤◌, Bool, true, false, List, [], ◌∷◌, ◌++◌, length, map, unwrap_or, div-one, length-append, refl, ap, ◌∙◌, append-nil, arith}
-use Rattle.std.specs.List.{flat_map, range_with_len, AllByRecursion}
-use Rattle.std.proofs.lemmas.Bool.Decides.{eqb_tells}
-use Rattle.droid_assembly.specs.Pieces.{bytes_at, file_bytes, piece_count}
+use Rattle.std.proofs.Common.{◌≡◌, ℕ, Bool, true, false, List, [], ◌∷◌, ◌++◌, length, map, length-append, refl, ap, arith}
+use Rattle.std.specs.List.{AllByRecursion}
+use Rattle.droid_core_spec.proofs.OnePiece.{whole_bytes}
 use Rattle.droid_core_spec.specs.World.{Content, Node, Folder, File, Abandoned}
 use Rattle.droid_tree.specs.declared.folder_entry.FolderEntry.{FolderEntry}
 use Rattle.droid_tree.specs.declared.pending_folder.PendingFolder.{PendingFolder}
@@ -12,28 +11,6 @@ use Rattle.droid_profile.specs.Readings.{Reading, Ending, AtEnd, TooShort, TooLo
 use Rattle.droid_profile.specs.Visits.{Visit, IsVisit}
 
 -- ---- a file of one piece
-
-abbrev here : List ℕ → ℕ → List ℕ
-here bytes index = unwrap_or (bytes_at ((0, bytes) ∷ []) index) []
-
-past_it : (bytes : List ℕ) (index : ℕ) → 1 ≤ index → here bytes index ≡ []
-past_it bytes index le = elim (eqb_tells 0 index) [
-  | inl t ↦ absurd (omega (arith, le, t.1))
-  | inr t ↦ rw t.0 refl
-]
-
-none_past : (bytes : List ℕ) (from n : ℕ) → 1 ≤ from → flat_map (here bytes) (range_with_len from n) ≡ []
-none_past bytes from zero le = refl
-none_past bytes from (suc n) le = ap (λ (l : List ℕ). l ++ flat_map (here bytes) (range_with_len (from + 1) n)) (past_it bytes from le) ∙ none_past bytes (from + 1) n (omega (arith, le))
-
-one_piece : (bytes : List ℕ) (count : ℕ) → length bytes ≤ count → file_bytes count ((0, bytes) ∷ []) ≡ bytes
-unfolding file_bytes
-one_piece [] zero within = refl
-one_piece (byte ∷ bytes) zero within = absurd (omega (arith, within))
-one_piece bytes (suc n) within = ap (λ (l : List ℕ). bytes ++ l) (none_past bytes 1 n (omega arith)) ∙ append-nil bytes
-
-count_is : (size : ℕ) → size ≤ piece_count size 1
-count_is size = let e : size / 1 ≡ size = div-one size in omega (arith, e)
 
 abbrev content_of : FolderEntry → List ℕ → Content
 content_of entry bytes = record { size = entry.len; piece_size = 1; pieces = (0, bytes) ∷ []; finished = true }
@@ -50,7 +27,7 @@ file_of folder entry bytes counted = record {
   its = refl;
   finished = refl;
   size = refl;
-  bytes = one_piece bytes (piece_count entry.len 1) (omega (arith, counted, count_is entry.len));
+  bytes = whole_bytes bytes entry.len counted;
 }
 
 abbrev node_of : Bool → ℕ → FolderEntry → List ℕ → Node

@@ -17,7 +17,7 @@ use Rattle.droid_pronom.proofs.FoundSteps.{chosen_same}
 -- ---- the same byte sequences, the same finds
 
 module _ (H G : ByteSequence → Type 0) (same : (q : ByteSequence) → H q ↔ G q) (registry : Contents) where
-  hit_same : (k : ℕ) → IsHit H registry k ↔ IsHit G registry k
+  pub hit_same : (k : ℕ) → IsHit H registry k ↔ IsHit G registry k
   hit_same k = (
     any_more (λ (s : Signed). (s.place ≡ k) × AllByRecursion H s.sequences) (λ (s : Signed). (s.place ≡ k) × AllByRecursion G s.sequences) (λ s p. (p.0, all_more H G (λ q. (same q).0) s.sequences p.1)) registry.signatures,
     any_more (λ (s : Signed). (s.place ≡ k) × AllByRecursion G s.sequences) (λ (s : Signed). (s.place ≡ k) × AllByRecursion H s.sequences) (λ s p. (p.0, all_more G H (λ q. (same q).1) s.sequences p.1)) registry.signatures,
@@ -98,7 +98,7 @@ module _ (file first last : List ℕ) (scan_limit : ℕ) (fits : Ends file first
   inside_file : length first ≤ length file
   inside_file = omega (arith, fits.reached)
 
-  hits_from : (anchor : Anchor) (q : ByteSequence) → HitsWindowsFrom anchor first last q ↔ HitsFrom anchor q file scan_limit
+  pub hits_from : (anchor : Anchor) (q : ByteSequence) → HitsWindowsFrom anchor first last q ↔ HitsFrom anchor q file scan_limit
   hits_from Bof q = (
     λ h.
         let e : take h.count (drop h.offset first) ≡ take h.count (drop h.offset file) = ap (λ (xs : List ℕ). take h.count (drop h.offset xs)) (sym fits.begins) ∙ part_of_first file (length first) h.offset h.count h.inside in

@@ -24,5 +24,6 @@ pub use format::Format;
 pub use identification::Found;
 pub use registry::Registry;
 pub use registry::fault::RegistryFault;
-pub use rows::{Anchor, ByteSequence, ListedExtension, Offsets, Priority};
+pub use rows::{Anchor, ByteSequence, ListedExtension, Offsets, Priority, Signature};
 pub use steps::extension::extension;
+pub use steps::hits::hit_formats;

@@ -1,8 +1,6 @@
 -- For proofs: what the calls that read a profile promise, in the code's own types.
-use Rattle.std.specs.Prelude.{◌≡◌, ◌≢◌, [], None, Result, Ok, Err, ⊤}
+use Rattle.std.specs.Prelude.{◌≡◌, ◌≢◌, [], None, Result, Ok, Err}
 use Rattle.std.specs.Option.{option_map}
-use Rattle.csv.specs.declared.error.ErrorKind.{ErrorKind}
-use Rattle.csv.specs.declared.error.ErrorKind.TheVariants as csv
 use Rattle.droid_report.specs.Lines.{line_of}
 use Rattle.droid_report.specs.Reports.{AreCounts, IsReport}
 use Rattle.droid_report.specs.Rows.{Draft, Profile, last}
@@ -28,12 +26,3 @@ Gives (Err fault) expected = fault ≢ faults.Memory → expected ≡ Err fault
 abbrev pub Leaves : Result (Unit {0}) ProfileFault → inside.Draft → Result Draft ProfileFault → Type 0
 Leaves (Ok done) new expected = (read : Draft) × (expected ≡ Ok read) × IsDraft new read
 Leaves (Err fault) new expected = fault ≢ faults.Memory → expected ≡ Err fault
-
--- the errors of `csv` that can end the reading of byte records: out of memory, or a failed reader
-abbrev pub EndsReading : ErrorKind → Type 0
-EndsReading csv.OutOfMemory = ⊤
-EndsReading (csv.Io e) = ⊤
-EndsReading (csv.UnequalLengths pos expected len) = ⊥
-EndsReading (csv.Utf8 pos err) = ⊥
-EndsReading (csv.Serialize text) = ⊥
-EndsReading (csv.Deserialize pos err) = ⊥

@@ -6,17 +6,17 @@ use Rattle.std.specs.List.{fold, list_all}
 use Rattle.std.specs.Option.{option_map}
 use Rattle.std.specs.Str.{bytes_eq}
 use Rattle.std.specs.Str.Parse.{digits_value}
-use Rattle.droid_report.specs.declared.facts.Kind.{Kind}
-use Rattle.droid_report.specs.declared.facts.Kind.TheVariants.{File, Folder}
-use Rattle.droid_report.specs.declared.facts.Method.{Method}
-use Rattle.droid_report.specs.declared.facts.Method.TheVariants.{Unidentified, Signature, Extension}
+use Rattle.droid_frame.specs.declared.method.Method.{Method}
+use Rattle.droid_frame.specs.declared.method.Method.TheVariants.{Unidentified, Signature, Extension}
+use Rattle.droid_frame.specs.declared.node_kind.NodeKind.{NodeKind}
+use Rattle.droid_frame.specs.declared.node_kind.NodeKind.TheVariants.{File, Folder}
 
 abbrev pub is_path : List ℕ → Bool
 is_path [] = false
 is_path (b ∷ bytes) = b == 47
 
 -- TYPE
-abbrev pub kind_of : List ℕ → Option Kind
+abbrev pub kind_of : List ℕ → Option NodeKind
 kind_of text =
     if bytes_eq text (codes "File") then Some File
     else if bytes_eq text (codes "Folder") then Some Folder else None
@@ -41,7 +41,7 @@ number_of text =
     then Some (digits_value 10 text) else None
 
 -- SIZE and FORMAT_COUNT: a folder has neither, which counts as 0
-abbrev pub number_for : Kind → List ℕ → Option ℕ
+abbrev pub number_for : NodeKind → List ℕ → Option ℕ
 number_for File text = number_of text
 number_for Folder text = if length text == 0 then Some 0 else None
 

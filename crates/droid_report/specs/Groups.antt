@@ -6,6 +6,8 @@ use Rattle.std.specs.List.{sum_by}
 use Rattle.std.specs.Option.{option_map, unwrap_or}
 use Rattle.std.specs.Str.{bytes_eq}
 use Rattle.std.specs.declared.alloc.Global.{Global}
+use Rattle.droid_export.specs.Table.{place_of}
+use Rattle.droid_export.specs.declared.column.Column.TheVariants as columns
 use Rattle.droid_report.specs.Rows.{Line, text_at}
 use Rattle.droid_report.specs.Totals.{held, is_first_of_file}
 use Rattle.droid_report.specs.declared.groups.GroupSum.{GroupSum}
@@ -15,10 +17,10 @@ use Rattle.droid_report.specs.declared.keys.Alike.TheVariants as alike
 -- The text that rows have in common: the PUID, or the hash and the size of a file. Rows without a PUID, and files
 -- without a hash, are like no other.
 abbrev pub key_of : Alike → Line → List ℕ
-key_of alike.Format line = text_at line.fields 14
+key_of alike.Format line = text_at line.fields (place_of columns.Puid)
 key_of alike.Content line =
-    if is_first_of_file line && not (length (text_at line.fields 12) == 0)
-    then text_at line.fields 12 ++ (codes ", " ++ decimal line.facts.size) else []
+    if is_first_of_file line && not (length (text_at line.fields (place_of columns.Hash)) == 0)
+    then text_at line.fields (place_of columns.Hash) ++ (codes ", " ++ decimal line.facts.size) else []
 
 abbrev pub has_key : Alike → List ℕ → Line → Bool
 has_key alike key line = not (length (key_of alike line) == 0) && bytes_eq (key_of alike line) key
@@ -27,8 +29,8 @@ has_key alike key line = not (length (key_of alike line) == 0) && bytes_eq (key_
 pub record IsContentOf (one other : Line) : Type 0 where
   pub first : is_first_of_file one ≡ true
   pub second : is_first_of_file other ≡ true
-  pub some : text_at one.fields 12 ≢ []
-  pub hash : text_at one.fields 12 ≡ text_at other.fields 12
+  pub some : text_at one.fields (place_of columns.Hash) ≢ []
+  pub hash : text_at one.fields (place_of columns.Hash) ≡ text_at other.fields (place_of columns.Hash)
   pub size : one.facts.size ≡ other.facts.size
 
 -- the name and version of a format
@@ -37,8 +39,10 @@ format_label name version = name ++ (codes " " ++ version)
 
 -- the name of the group that a row begins: of a format its name and version, of equal files the path
 abbrev pub label_of : Alike → Line → List ℕ
-label_of alike.Format line = format_label (text_at line.fields 16) (text_at line.fields 17)
-label_of alike.Content line = text_at line.fields 3
+label_of alike.Format line =
+    format_label (text_at line.fields (place_of columns.FormatName))
+    (text_at line.fields (place_of columns.FormatVersion))
+label_of alike.Content line = text_at line.fields (place_of columns.FilePath)
 
 -- what the rows of a group come to, without where it lies in memory
 pub record Summed : Type 0 where

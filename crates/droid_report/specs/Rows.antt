@@ -1,44 +1,18 @@
 -- The rows of a profile's CSV (docs/CSV.md).
 use Rattle.std.specs.Prelude.{ℕ, ◌+◌, ◌==◌, ◌&&◌, not, Bool, false, List, [], ◌∷◌, ◌++◌, length, Option, Some, None}
-use Rattle.std.specs.Prelude.{Result, Ok, Err, codes, if◌then◌else◌}
-use Rattle.std.specs.List.{flat_map, list_all}
-use Rattle.std.specs.Option.{unwrap_or}
+use Rattle.std.specs.Prelude.{Result, Ok, Err, if◌then◌else◌}
+use Rattle.std.specs.List.{list_all}
 use Rattle.std.specs.Str.{bytes_eq, is_utf8}
-use Rattle.csv.specs.Records.{field_at}
+use Rattle.droid_export.specs.Headers.{hash_of_header}
+use Rattle.droid_export.specs.Table as table
+use Rattle.droid_export.specs.Table.{field_or, place_of}
+use Rattle.droid_export.specs.declared.column.Column.{Column}
+use Rattle.droid_export.specs.declared.column.Column.TheVariants as columns
+use Rattle.droid_frame.specs.declared.hash_kind.HashKind.{HashKind}
 use Rattle.droid_report.specs.Fields.{depth_of, digits_of, is_path, kind_of, method_of, number_for, truth_of, year_of}
 use Rattle.droid_report.specs.declared.facts.Facts.{Facts}
-use Rattle.droid_report.specs.declared.facts.HashColumn.{HashColumn}
-use Rattle.droid_report.specs.declared.facts.HashColumn.TheVariants.{Nothing, Md5, Sha256}
 use Rattle.droid_report.specs.declared.fault.ProfileFault.{ProfileFault}
 use Rattle.droid_report.specs.declared.fault.ProfileFault.TheVariants as faults
-
--- the field at a place, or nothing past the last
-abbrev pub field_or : List (List ℕ) → ℕ → List ℕ
-field_or row place = unwrap_or (field_at row place) []
-
--- ---- the header
-
--- fields, each with a comma after it
-abbrev pub joined : List (List ℕ) → List ℕ
-joined names = flat_map (λ name. name ++ 44 ∷ []) names
-
--- which hash the names of the columns say, if they are those of a profile
-abbrev pub hash_of_names : List ℕ → Option HashColumn
-hash_of_names names =
-    if bytes_eq names
-    (codes "ID,PARENT_ID,URI,FILE_PATH,NAME,METHOD,STATUS,SIZE,TYPE,EXT,LAST_MODIFIED,EXTENSION_MISMATCH,HASH,FORMAT_COUNT,PUID,MIME_TYPE,FORMAT_NAME,FORMAT_VERSION,")
-    then Some Nothing
-    else if bytes_eq names
-    (codes "ID,PARENT_ID,URI,FILE_PATH,NAME,METHOD,STATUS,SIZE,TYPE,EXT,LAST_MODIFIED,EXTENSION_MISMATCH,MD5_HASH,FORMAT_COUNT,PUID,MIME_TYPE,FORMAT_NAME,FORMAT_VERSION,")
-    then Some Md5
-    else if bytes_eq names
-    (codes "ID,PARENT_ID,URI,FILE_PATH,NAME,METHOD,STATUS,SIZE,TYPE,EXT,LAST_MODIFIED,EXTENSION_MISMATCH,SHA256_HASH,FORMAT_COUNT,PUID,MIME_TYPE,FORMAT_NAME,FORMAT_VERSION,")
-    then Some Sha256
-    else None
-
--- a header has 18 columns, with these names in this order
-abbrev pub hash_of_header : List (List ℕ) → Option HashColumn
-hash_of_header row = if length row == 18 then hash_of_names (joined row) else None
 
 -- ---- rows
 
@@ -48,29 +22,39 @@ None >>= f = None
 (Some x) >>= f = f x
 
 -- the columns that a report prints
-abbrev pub printed_places : List ℕ
-printed_places = 3 ∷ 10 ∷ 12 ∷ 14 ∷ 16 ∷ 17 ∷ []
+abbrev pub printed : List Column
+printed =
+    columns.FilePath ∷ columns.LastModified ∷ columns.Hash ∷ columns.Puid ∷ columns.FormatName ∷ columns.FormatVersion
+    ∷ []
 
 abbrev pub is_text : List (List ℕ) → ℕ → Bool
 is_text row place = is_utf8 (field_or row place)
+
+abbrev pub is_printable : List (List ℕ) → Column → Bool
+is_printable row column = is_text row (place_of column)
 
 -- the text of a column, or nothing where it is no text
 abbrev pub text_at : List (List ℕ) → ℕ → List ℕ
 text_at row place = if is_text row place then field_or row place else []
 
--- whether a row has 18 fields, a path, and text in the columns that are printed
+-- what a column says
+abbrev pub said : List (List ℕ) → Column → List ℕ
+said row column = field_or row (place_of column)
+
+-- whether a row has a field for each column, a path, and text in the columns that are printed
 abbrev pub is_whole : List (List ℕ) → Bool
-is_whole row = (length row == 18) && is_path (field_or row 3) && list_all (is_text row) printed_places
+is_whole row =
+    (length row == length table.columns) && is_path (said row columns.FilePath) && list_all (is_printable row) printed
 
 -- what a row says beside its texts
 unfoldable pub facts_of : List (List ℕ) → Option Facts
 facts_of row = do
-  kind ← kind_of (field_or row 8)
-  size ← number_for kind (field_or row 7)
-  method ← method_of (field_or row 5)
-  is_mismatch ← truth_of (field_or row 11)
-  formats ← number_for kind (field_or row 13)
-  year ← year_of (field_or row 10)
+  kind ← kind_of (said row columns.Kind)
+  size ← number_for kind (said row columns.Size)
+  method ← method_of (said row columns.Method)
+  is_mismatch ← truth_of (said row columns.ExtensionMismatch)
+  formats ← number_for kind (said row columns.FormatCount)
+  year ← year_of (said row columns.LastModified)
   Some
       (record {
         kind = kind;
@@ -79,8 +63,8 @@ facts_of row = do
         is_mismatch = is_mismatch;
         formats = formats;
         year = year;
-        moment = digits_of (field_or row 10);
-        depth = depth_of (field_or row 3);
+        moment = digits_of (said row columns.LastModified);
+        depth = depth_of (said row columns.FilePath);
       })
 
 unfoldable pub facts_in : List (List ℕ) → Option Facts
@@ -95,7 +79,7 @@ pub record Line : Type 0 where
 -- whether a row has the ID of the last of these
 abbrev pub has_id : Option Line → List (List ℕ) → Bool
 has_id None row = false
-has_id (Some line) row = bytes_eq (field_or line.fields 0) (field_or row 0)
+has_id (Some line) row = bytes_eq (said line.fields columns.Id) (said row columns.Id)
 
 abbrev pub last : List Line → Option Line
 last [] = None
@@ -104,14 +88,14 @@ last (line ∷ next ∷ lines) = last (next ∷ lines)
 
 -- what was read so far: which hash the header says, if there was one, how many records, and the rows
 pub record Draft : Type 0 where
-  pub header : Option HashColumn
+  pub header : Option HashKind
   pub records : ℕ
   pub lines : List Line
 
 abbrev pub nothing_read : Draft
 nothing_read = record { header = None; records = 0; lines = [] }
 
-abbrev pub with_header : Option HashColumn → Result Draft ProfileFault
+abbrev pub with_header : Option HashKind → Result Draft ProfileFault
 with_header None = Err faults.Header
 with_header (Some hash) = Ok (record { header = Some hash; records = 1; lines = [] })
 
@@ -126,7 +110,7 @@ with_row draft row (Some facts) =
     })
 
 -- the header first, then the rows
-abbrev pub taken_by : Option HashColumn → Draft → List (List ℕ) → Result Draft ProfileFault
+abbrev pub taken_by : Option HashKind → Draft → List (List ℕ) → Result Draft ProfileFault
 taken_by None draft row = with_header (hash_of_header row)
 taken_by (Some hash) draft row = with_row draft row (facts_in row)
 
@@ -135,10 +119,10 @@ taken draft row = taken_by draft.header draft row
 
 -- a profile: which hash its rows have, and the rows
 pub record Profile : Type 0 where
-  pub hash : HashColumn
+  pub hash : HashKind
   pub lines : List Line
 
-abbrev pub finished : Option HashColumn → List Line → Result Profile ProfileFault
+abbrev pub finished : Option HashKind → List Line → Result Profile ProfileFault
 finished None lines = Err faults.Header
 finished (Some hash) lines = Ok (record { hash = hash; lines = lines })
 

@@ -2,6 +2,8 @@
 use Rattle.std.specs.Prelude.{ℕ, ◌-◌, ◌==◌, ◌||◌, min, Bool, List, [], ◌∷◌, ◌++◌, codes, decimal, drop, length, map}
 use Rattle.std.specs.Prelude.{nat_eq, take, if◌then◌else◌}
 use Rattle.std.specs.List.{starts_with}
+use Rattle.droid_export.specs.Table.{place_of}
+use Rattle.droid_export.specs.declared.column.Column.TheVariants as columns
 use Rattle.droid_report.specs.Lines.{line_of}
 use Rattle.droid_report.specs.Ranks.{together}
 use Rattle.droid_report.specs.Rows.{text_at}
@@ -140,7 +142,8 @@ group_tables orders limit = format_table orders.by_count.items limit ∷ copy_ta
 
 abbrev pub file_row : Row → List Seen
 file_row row =
-    Words (text_at (line_of row).fields 3) ∷ Amount row.facts.size ∷ Words (text_at (line_of row).fields 10) ∷ []
+    Words (text_at (line_of row).fields (place_of columns.FilePath)) ∷ Amount row.facts.size
+    ∷ Words (text_at (line_of row).fields (place_of columns.LastModified)) ∷ []
 
 abbrev pub note_for : ℕ → List Row → ℕ → List ℕ → List ℕ
 note_for total rows limit elsewhere = more_text (total - min limit (length rows)) elsewhere
@@ -168,7 +171,7 @@ list_tables totals lists limit =
 
 abbrev pub extreme_tables : Totals → Lists → ℕ → List Shown
 extreme_tables totals lists limit =
-    list_table texts.LARGEST.now totals.files texts.LARGEST_ELSEWHERE.now lists.largest.items limit
+    list_table texts.LARGEST_FILES.now totals.files texts.LARGEST_ELSEWHERE.now lists.largest.items limit
     ∷ file_table texts.OLDEST.now texts.AGE_NOTE.now lists.oldest.items limit
     ∷ file_table texts.NEWEST.now texts.AGE_NOTE.now lists.newest.items limit
     ∷ []

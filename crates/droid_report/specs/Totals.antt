@@ -2,18 +2,13 @@
 use Rattle.std.specs.Prelude.{◌≡◌, ℕ, ◌+◌, ◌-◌, ◌^◌, ◌==◌, ◌&&◌, nat_lt, not, min, Bool, true, false, List, count_by}
 use Rattle.std.specs.Prelude.{if◌then◌else◌}
 use Rattle.std.specs.List.{sum_by}
+use Rattle.droid_frame.specs.Filters.{is_file}
+use Rattle.droid_frame.specs.declared.method.Method.{Method}
+use Rattle.droid_frame.specs.declared.method.Method.TheVariants as methods
 use Rattle.droid_report.specs.Rows.{Line}
-use Rattle.droid_report.specs.declared.facts.Kind.{Kind}
-use Rattle.droid_report.specs.declared.facts.Kind.TheVariants.{File, Folder}
-use Rattle.droid_report.specs.declared.facts.Method.{Method}
-use Rattle.droid_report.specs.declared.facts.Method.TheVariants as methods
 use Rattle.droid_report.specs.declared.totals.Totals.{Totals}
 use Rattle.droid_report.specs.declared.totals.What.{What}
 use Rattle.droid_report.specs.declared.totals.What.TheVariants as what
-
-abbrev pub is_file : Kind → Bool
-is_file File = true
-is_file Folder = false
 
 -- The first row of each file: a file with several formats counts once.
 abbrev pub is_first_of_file : Line → Bool

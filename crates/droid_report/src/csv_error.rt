@@ -2,7 +2,7 @@
 
 ghost use Rattle.std.specs.Prelude.{◌≡◌};
 ghost use Rattle.csv.specs.Reading.{error_kind};
-ghost use Rattle.droid_report.specs.Calls.{EndsReading};
+ghost use Rattle.droid_export.specs.ReadErrors.{EndsReading};
 
 use crate::fault::ProfileFault;
 use csv::{Error, ErrorKind};

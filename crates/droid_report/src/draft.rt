@@ -6,18 +6,18 @@ ghost use Rattle.csv.specs.Records.{fields_of};
 ghost use Rattle.droid_report.specs.Lines.{line_of};
 ghost use Rattle.droid_report.specs.Rows as profiles;
 
-use crate::columns::hash_of_header;
 use crate::counts::Counts;
-use crate::facts::HashColumn;
 use crate::fault::ProfileFault;
 use crate::report::Report;
 use crate::row::{Row, facts_in, field};
 use csv::ByteRecord;
+use droid_export::{Column, hash_of_header};
+use droid_frame::HashKind;
 use std::alloc::{AllocError, Global};
 
 /// What was read so far.
 pub(crate) struct Draft {
-    header: Option<HashColumn>,
+    header: Option<HashKind>,
     records: u64,
     last: Option<Row>,
     counts: Counts,
@@ -36,8 +36,9 @@ impl Drop for Draft {
 }
 
 impl Draft {
+    ghost use Rattle.droid_export.specs.Headers.{hash_of_header};
     ghost use Rattle.droid_report.specs.Calls.{Gives, IsDraft, Leaves};
-    ghost use Rattle.droid_report.specs.Rows.{Draft as Read, facts_in, finished, hash_of_header, nothing_read, taken};
+    ghost use Rattle.droid_report.specs.Rows.{Draft as Read, facts_in, finished, nothing_read, taken};
     ghost use Rattle.droid_report.specs.Rows.{with_header, with_row};
 
     /// Makes a draft before the first record.
@@ -59,15 +60,15 @@ impl Draft {
     {
         match self.header {
             Some(_) => self.take_row(alloc, row),
-            None => self.take_header(alloc, &row),
+            None => self.take_header(&row),
         }
     }
 
-    fn take_header(&mut self, alloc: Global, row: &ByteRecord) -> Result<(), ProfileFault>
+    fn take_header(&mut self, row: &ByteRecord) -> Result<(), ProfileFault>
         ensures { (old : Read) → IsDraft self.old old → old.header ≡ None
             → Leaves result self.new (with_header (hash_of_header (fields_of row.now))) }
     {
-        match hash_of_header(alloc, row)? {
+        match hash_of_header(row) {
             Some(hash) => {
                 self.header = Some(hash);
                 self.records = 1;
@@ -122,7 +123,7 @@ fn has_id(other: Option<&Row>, row: &ByteRecord) -> bool
     ensures { result ≡ profiles.has_id (option_map line_of (option_copied other.entry)) (fields_of row.now) }
 {
     match other {
-        Some(other) => field(&other.fields, 0) == field(row, 0),
+        Some(other) => field(&other.fields, Column::Id) == field(row, Column::Id),
         None => false,
     }
 }

@@ -1,41 +1,12 @@
 //! What a row says beside its texts.
 
-/// What a row is about.
-#[derive(Clone, Copy)]
-pub enum Kind {
-    /// A file.
-    File,
-    /// A folder.
-    Folder,
-}
-
-/// How a file was identified.
-#[derive(Clone, Copy)]
-pub enum Method {
-    /// Not at all.
-    Unidentified,
-    /// By its bytes.
-    Signature,
-    /// By its extension alone.
-    Extension,
-}
-
-/// Which hash the rows have, as the name of its column says.
-#[derive(Clone, Copy)]
-pub enum HashColumn {
-    /// None.
-    Nothing,
-    /// MD5.
-    Md5,
-    /// SHA-256.
-    Sha256,
-}
+use droid_frame::{Method, NodeKind};
 
 /// What a row says beside its texts.
 #[derive(Clone, Copy)]
 pub struct Facts {
     /// Whether it is about a file or a folder.
-    pub kind: Kind,
+    pub kind: NodeKind,
     /// The file's size in bytes; 0 for a folder.
     pub size: u64,
     /// How the file was identified.

@@ -5,7 +5,7 @@ ghost use Rattle.std.specs.Char.{is_ascii_digit};
 ghost use Rattle.std.specs.List.{list_all};
 ghost use Rattle.droid_report.specs.Fields as fields;
 
-use crate::facts::{Kind, Method};
+use droid_frame::{Method, NodeKind};
 
 /// Returns whether a field is a path: it begins with `/`.
 pub(crate) fn is_path(text: &[u8]) -> bool
@@ -18,15 +18,15 @@ pub(crate) fn is_path(text: &[u8]) -> bool
 }
 
 /// Reads TYPE.
-pub(crate) fn kind_of(text: &[u8]) -> Option<Kind>
+pub(crate) fn kind_of(text: &[u8]) -> Option<NodeKind>
     ensures { result ≡ fields.kind_of text.now }
 {
     let file: &[u8] = b"File";
     let folder: &[u8] = b"Folder";
     if text == file {
-        Some(Kind::File)
+        Some(NodeKind::File)
     } else if text == folder {
-        Some(Kind::Folder)
+        Some(NodeKind::Folder)
     } else {
         None
     }
@@ -66,12 +66,12 @@ pub(crate) fn truth_of(text: &[u8]) -> Option<bool>
 }
 
 /// Reads SIZE or FORMAT_COUNT: a number for a file, nothing for a folder, which counts as 0.
-pub(crate) fn number_for(kind: Kind, text: &[u8]) -> Option<u64>
+pub(crate) fn number_for(kind: NodeKind, text: &[u8]) -> Option<u64>
     ensures { result ≡ fields.number_for kind text.now }
 {
     match kind {
-        Kind::File => number_of(text),
-        Kind::Folder => { if text.is_empty() { Some(0) } else { None } }
+        NodeKind::File => number_of(text),
+        NodeKind::Folder => { if text.is_empty() { Some(0) } else { None } }
     }
 }
 

@@ -7,6 +7,7 @@ ghost use Rattle.droid_report.specs.declared.keys.Alike.TheVariants as alike;
 
 use crate::row::Row;
 use crate::totals::is_first_of_file;
+use droid_export::Column;
 use std::alloc::{AllocError, Global};
 
 /// What rows have in common.
@@ -23,7 +24,7 @@ pub(crate) fn key_of(alloc: Global, row: &Row, alike: Alike) -> Result<String, A
     ensures { IfOk result (λ key. string_bytes key ≡ groups.key_of alike (line_of row.now)) }
 {
     match alike {
-        Alike::Format => String::from_str(alloc, row.text(14)),
+        Alike::Format => String::from_str(alloc, row.text(Column::Puid)),
         Alike::Content => content_key(alloc, row),
     }
 }
@@ -32,7 +33,7 @@ pub(crate) fn key_of(alloc: Global, row: &Row, alike: Alike) -> Result<String, A
 fn content_key(alloc: Global, row: &Row) -> Result<String, AllocError>
     ensures { IfOk result (λ key. string_bytes key ≡ groups.key_of alike.Content (line_of row.now)) }
 {
-    let hash = row.text(12);
+    let hash = row.text(Column::Hash);
     if is_first_of_file(row) && !hash.is_empty() {
         format!(in alloc; "{hash}, {}", row.facts.size)
     } else {
@@ -45,8 +46,12 @@ pub(crate) fn label_of(alloc: Global, row: &Row, alike: Alike) -> Result<String,
     ensures { IfOk result (λ label. string_bytes label ≡ groups.label_of alike (line_of row.now)) }
 {
     match alike {
-        Alike::Format => format_label(alloc, row.text(16), row.text(17)),
-        Alike::Content => String::from_str(alloc, row.text(3)),
+        Alike::Format => format_label(
+            alloc,
+            row.text(Column::FormatName),
+            row.text(Column::FormatVersion),
+        ),
+        Alike::Content => String::from_str(alloc, row.text(Column::FilePath)),
     }
 }
 

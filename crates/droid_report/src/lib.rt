@@ -4,7 +4,6 @@
 #![tactic(auto)]
 
 mod classes;
-mod columns;
 mod counts;
 mod csv_error;
 mod draft;
@@ -24,7 +23,7 @@ pub mod texts;
 mod totals;
 mod view;
 
-pub use facts::{Facts, HashColumn, Kind, Method};
+pub use facts::Facts;
 pub use fault::ProfileFault;
 pub use groups::GroupSum;
 pub use html::page::Page;

@@ -9,16 +9,16 @@ ghost use Rattle.droid_report.specs.Rows.{nothing_read, profile_of};
 use crate::counts::Counts;
 use crate::csv_error::csv_fault;
 use crate::draft::Draft;
-use crate::facts::HashColumn;
 use crate::fault::ProfileFault;
 use csv::ReaderBuilder;
+use droid_frame::HashKind;
 use std::alloc::Global;
 
 /// The report on a profile.
 #[derive(Drop)]
 pub struct Report {
     /// Which hash the rows have.
-    pub hash: HashColumn,
+    pub hash: HashKind,
     /// The counts of the rows.
     pub counts: Counts,
 }

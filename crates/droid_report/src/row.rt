@@ -4,6 +4,7 @@ ghost use Rattle.std.specs.Prelude.{◌≡◌, IfOk, MatchOption, false, true};
 ghost use Rattle.std.specs.List.{list_all};
 ghost use Rattle.std.specs.Str.{is_utf8};
 ghost use Rattle.csv.specs.Records.{fields_of};
+ghost use Rattle.droid_export.specs.Table.{field_or, place_of};
 ghost use Rattle.droid_report.specs.Lines.{line_of};
 ghost use Rattle.droid_report.specs.Rows as rows;
 
@@ -12,6 +13,7 @@ use crate::fields::{
     depth_of, digits_of, is_path, kind_of, method_of, number_for, truth_of, year_of,
 };
 use csv::ByteRecord;
+use droid_export::{COLUMNS, Column, Row as CsvRow};
 use std::alloc::AllocError;
 
 /// A row of a profile: a folder, or a file with one of its formats.
@@ -26,11 +28,11 @@ pub struct Row {
 }
 
 impl Row {
-    /// Returns the text of a column, such as FILE_PATH at place 3, or nothing where it is no text.
-    pub fn text(&self, place: usize) -> &str
-        ensures { result.now ≡ rows.text_at (fields_of self.now.fields) place }
+    /// Returns the text of a column, or nothing where it is no text.
+    pub fn text(&self, column: Column) -> &str
+        ensures { result.now ≡ rows.text_at (fields_of self.now.fields) (place_of column) }
     {
-        match text_in(field(&self.fields, place)) {
+        match text_in(field(&self.fields, column)) {
             Some(text) => text,
             None => "",
         }
@@ -49,8 +51,15 @@ impl Row {
     }
 }
 
-/// The places of the columns that a report prints.
-const PRINTED_PLACES: [usize; 6] = [3, 10, 12, 14, 16, 17];
+/// The columns that a report prints.
+const PRINTED: [Column; 6] = [
+    Column::FilePath,
+    Column::LastModified,
+    Column::Hash,
+    Column::Puid,
+    Column::FormatName,
+    Column::FormatVersion,
+];
 
 /// Reads what a row says beside its texts. Returns `None` for a malformed row.
 #[tactic(auto, unfolding(crate::specs::Rows::facts_in))]
@@ -60,23 +69,23 @@ pub(crate) fn facts_in(row: &ByteRecord) -> Option<Facts>
     if is_whole(row) { facts_of(row) } else { None }
 }
 
-/// Returns whether a row has 18 fields, a path, and text in the columns that are printed.
+/// Returns whether a row has a field for each column, a path, and text in the columns that are printed.
 fn is_whole(row: &ByteRecord) -> bool
     ensures { result ≡ rows.is_whole (fields_of row.now) }
 {
-    row.len() == 18 && is_path(field(row, 3)) && are_texts(row)
+    row.len() == COLUMNS.len() && is_path(field(row, Column::FilePath)) && are_texts(row)
 }
 
 fn are_texts(row: &ByteRecord) -> bool
-    ensures { result ≡ list_all (rows.is_text (fields_of row.now)) rows.printed_places }
+    ensures { result ≡ list_all (rows.is_printable (fields_of row.now)) rows.printed }
 {
-    PRINTED_PLACES.iter().all(|place| is_text(row, *place))
+    PRINTED.iter().all(|column| is_text(row, *column))
 }
 
-fn is_text(row: &ByteRecord, place: usize) -> bool
-    ensures { result ≡ rows.is_text (fields_of row.now) place }
+fn is_text(row: &ByteRecord, column: Column) -> bool
+    ensures { result ≡ rows.is_printable (fields_of row.now) column }
 {
-    match text_in(field(row, place)) {
+    match text_in(field(row, column)) {
         Some(_) => true,
         None => false,
     }
@@ -97,14 +106,14 @@ fn text_in(bytes: &[u8]) -> Option<&str>
 fn facts_of(row: &ByteRecord) -> Option<Facts>
     ensures { result ≡ rows.facts_of (fields_of row.now) }
 {
-    let kind = kind_of(field(row, 8))?;
-    let size = number_for(kind, field(row, 7))?;
-    let method = method_of(field(row, 5))?;
-    let is_mismatch = truth_of(field(row, 11))?;
-    let formats = number_for(kind, field(row, 13))?;
-    let year = year_of(field(row, 10))?;
-    let moment = digits_of(field(row, 10));
-    let depth = depth_of(field(row, 3));
+    let kind = kind_of(field(row, Column::Kind))?;
+    let size = number_for(kind, field(row, Column::Size))?;
+    let method = method_of(field(row, Column::Method))?;
+    let is_mismatch = truth_of(field(row, Column::ExtensionMismatch))?;
+    let formats = number_for(kind, field(row, Column::FormatCount))?;
+    let year = year_of(field(row, Column::LastModified))?;
+    let moment = digits_of(field(row, Column::LastModified));
+    let depth = depth_of(field(row, Column::FilePath));
     Some(Facts {
         kind,
         size,
@@ -117,12 +126,9 @@ fn facts_of(row: &ByteRecord) -> Option<Facts>
     })
 }
 
-/// Returns the field at a place, or no bytes past the last.
-pub(crate) fn field(row: &ByteRecord, place: usize) -> &[u8]
-    ensures { result.now ≡ rows.field_or (fields_of row.now) place }
+/// Returns the field of a column, or no bytes past the last.
+pub(crate) fn field(row: &ByteRecord, column: Column) -> &[u8]
+    ensures { result.now ≡ field_or (fields_of row.now) (place_of column) }
 {
-    match row.get(place) {
-        Some(field) => field,
-        None => &[],
-    }
+    row.field(column.place())
 }

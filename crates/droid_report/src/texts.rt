@@ -139,7 +139,7 @@ pub(crate) const SEVERAL: &str = "Several formats";
 
 pub(crate) const SEVERAL_ELSEWHERE: &str = "rows of the CSV with FORMAT_COUNT above 1";
 
-pub(crate) const LARGEST: &str = "Largest files";
+pub(crate) const LARGEST_FILES: &str = "Largest files";
 
 pub(crate) const LARGEST_ELSEWHERE: &str = "sort the CSV by SIZE";
 

@@ -4,8 +4,8 @@ ghost use Rattle.std.specs.Prelude.{◌≡◌};
 ghost use Rattle.droid_report.specs.Lines.{line_of};
 ghost use Rattle.droid_report.specs.Totals as totals;
 
-use crate::facts::{Kind, Method};
 use crate::row::Row;
+use droid_frame::Method;
 
 /// What a total counts. A file with several formats counts once.
 #[derive(Clone, Copy)]
@@ -104,7 +104,7 @@ pub(crate) fn is_counted(row: &Row, what: What) -> bool
 {
     let method = row.facts.method;
     match what {
-        What::Folders => row.is_first && !is_file(row.facts.kind),
+        What::Folders => row.is_first && !row.facts.kind.is_file(),
         What::Files => is_first_of_file(row),
         What::BySignature => is_first_of_file(row) && matches!(method, Method::Signature),
         What::ByExtension => is_first_of_file(row) && matches!(method, Method::Extension),
@@ -119,17 +119,7 @@ pub(crate) fn is_counted(row: &Row, what: What) -> bool
 pub(crate) fn is_first_of_file(row: &Row) -> bool
     ensures { result ≡ totals.is_first_of_file (line_of row.now) }
 {
-    row.is_first && is_file(row.facts.kind)
-}
-
-/// Returns whether a row is of a file.
-fn is_file(kind: Kind) -> bool
-    ensures { result ≡ totals.is_file kind }
-{
-    match kind {
-        Kind::File => true,
-        Kind::Folder => false,
-    }
+    row.is_first && row.facts.kind.is_file()
 }
 
 /// Returns how many bytes a row adds to those of all files.

@@ -42,7 +42,7 @@ impl Ids {
         Ok(())
     }
 
-    /// Returns what has this ID.
+    /// Returns whether nothing, one thing or several have this ID, and the place of the one.
     pub fn holder(&self, id: u32) -> Holder
         ensures { (ids : List ℕ) → AreOf self.now ids → result ≡ holder id ids }
     {

@@ -66,7 +66,8 @@ pub(crate) fn submit_entry<T: Tree, C: Client, W: Watcher>(
     }
 }
 
-/// Adds a folder to the profile. Returns whether the service did not refuse it.
+/// Asks the service for a folder, tells the watcher of it, and notes it in `found`, so that its entries are visited
+/// later. Returns whether the service did not refuse it.
 fn submit_folder<T: Tree, C: Client, W: Watcher>(
     upload: &mut Upload<T, C, W>,
     into: Destination,

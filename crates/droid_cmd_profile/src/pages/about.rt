@@ -3,7 +3,8 @@
 ghost use Rattle.std.specs.Prelude.{Some, option_map};
 ghost use Rattle.droid_cmd_profile.specs.Abouts.{about_text, hash_words, registry_words};
 
-use droid_report::{HashColumn, texts};
+use droid_frame::HashKind;
+use droid_report::texts;
 use std::fmt;
 use std::fmt::{Display, Formatter, Write};
 
@@ -17,7 +18,7 @@ pub(crate) struct About<'a> {
     /// Which registry identified the files, if that is known.
     pub registry: Option<&'a str>,
     /// Which hash the CSV has.
-    pub hash: HashColumn,
+    pub hash: HashKind,
 }
 
 impl Display for About<'_> {
@@ -59,16 +60,16 @@ impl Display for RegistryWords<'_> {
 
 /// Which hash a CSV has, in words.
 #[derive(Clone, Copy)]
-struct HashWords(HashColumn);
+struct HashWords(HashKind);
 
 impl Display for HashWords {
     ghost output = { λ it. Some (hash_words it.0) };
 
     fn fmt<W: Write>(&self, f: &mut Formatter<W>) -> fmt::Result {
         match self.0 {
-            HashColumn::Nothing => f.write_str(texts::NO_HASHES),
-            HashColumn::Md5 => f.write_str(texts::MD5_HASHES),
-            HashColumn::Sha256 => f.write_str(texts::SHA256_HASHES),
+            HashKind::Nothing => f.write_str(texts::NO_HASHES),
+            HashKind::Md5 => f.write_str(texts::MD5_HASHES),
+            HashKind::Sha256 => f.write_str(texts::SHA256_HASHES),
         }
     }
 }

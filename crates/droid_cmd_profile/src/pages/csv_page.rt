@@ -9,7 +9,8 @@ ghost use Rattle.droid_cmd_profile.specs.Abouts.{about_text};
 ghost use Rattle.droid_cmd_profile.specs.PagesOfCsv.{Gives};
 
 use crate::pages::about::About;
-use droid_report::{HashColumn, ProfileFault, Report, read_report, report_page};
+use droid_frame::HashKind;
+use droid_report::{ProfileFault, Report, read_report, report_page};
 use std::alloc::{AllocError, Global};
 
 /// What a page shows beside the counts of a CSV.
@@ -56,7 +57,7 @@ fn page_of(alloc: Global, report: &Report, texts: PageTexts<'_>) -> Result<Strin
 }
 
 /// Returns the lines above the page's tables: what was profiled, when, and by which hash.
-fn about_of(alloc: Global, texts: PageTexts<'_>, hash: HashColumn) -> Result<String, AllocError>
+fn about_of(alloc: Global, texts: PageTexts<'_>, hash: HashKind) -> Result<String, AllocError>
     ensures { IfOk result (λ about.
         string_bytes about
         ≡ about_text texts.entry.moment.now texts.entry.name.now (option_map (λ text. text.now) texts.entry.registry)

@@ -28,7 +28,7 @@ pub(crate) fn ends_line(form: ManifestForm, byte: u8) -> bool
     }
 }
 
-/// Returns whether two bytes may end one line.
+/// Returns whether a carriage return and a line feed may end one line of this text: so it is in a bag's manifest.
 pub(crate) fn has_returns(form: ManifestForm, text: &[u8]) -> bool
     ensures { result ≡ texts.has_returns form text.now }
 {

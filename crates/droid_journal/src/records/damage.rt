@@ -54,7 +54,8 @@ pub fn is_mark(key: Key, at: u64, bytes: &[u8]) -> bool
     is_same(front, &turn_mark(key, at))
 }
 
-/// A place behind a record with this check value, as version 3 knows it.
+/// Returns the place behind a record with this check value. In version 3 the offset and the number of records do not
+/// count, so they are 0.
 fn place_behind(check: &[u8]) -> Place
     requires { length check.now ≡ 16 }
     ensures { result ≡ place_with check.now }

@@ -3,13 +3,14 @@
 ghost use Rattle.std.specs.Prelude.{◌≡◌, Some};
 ghost use Rattle.std.specs.Option.{option_copied, option_map};
 ghost use Rattle.csv.specs.Records.{fields_of};
+ghost use Rattle.droid_export.specs.Headers.{hash_of_header};
 ghost use Rattle.droid_lists.specs.Profiles as profiles;
 
 use crate::csv_items::fault::{ListFault, fault_at};
-use crate::csv_items::header::digest_of_header;
-use crate::csv_items::row::{Row, entry_of};
+use crate::csv_items::row::entry_of;
 use crate::csv_items::rows::Rows;
 use csv::ByteRecord;
+use droid_export::{Row, hash_of_header};
 use droid_fixity::Item;
 use droid_frame::HashKind;
 use std::alloc::Global;
@@ -52,9 +53,9 @@ impl Draft {
 
     fn take_header(&mut self, alloc: Global, row: &ByteRecord) -> Result<(), ListFault>
         ensures { Leaves result (draft_of self.new)
-            (profiles.with_header (profiles.digest_of_header (fields_of row.now))) }
+            (profiles.with_header (hash_of_header (fields_of row.now))) }
     {
-        match digest_of_header(alloc, row)? {
+        match hash_of_header(row) {
             Some(digest) => {
                 self.digest = Some(digest);
                 self.records = 1;

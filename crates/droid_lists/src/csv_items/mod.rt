@@ -7,7 +7,6 @@ pub mod draft;
 pub mod fault;
 pub mod fields;
 pub mod folder_numbers;
-pub mod header;
 pub mod moment;
 pub mod plain_list;
 pub mod plain_row;

@@ -8,10 +8,10 @@ ghost use Rattle.droid_lists.specs.Profiles.{items_from, profile_of};
 
 use crate::csv_items::draft::repeats;
 use crate::csv_items::fault::ListFault;
-use crate::csv_items::header::digest_of_header;
 use crate::csv_items::plain_row::PlainRow;
 use crate::csv_items::row::entry_of;
 use crate::csv_items::rows::Rows;
+use droid_export::hash_of_header;
 use droid_fixity::Item;
 use droid_frame::HashKind;
 use std::alloc::{AllocError, Global};
@@ -28,7 +28,7 @@ pub(crate) fn plain_items(alloc: Global, text: &[u8]) -> Result<Option<Vec<Item>
     let Some((header, rest)) = PlainRow::first(text) else {
         return Ok(None);
     };
-    match digest_of_header(alloc, &header)? {
+    match hash_of_header(&header) {
         Some(digest) => {
             let items = items_of_rows(alloc, digest, rest)?;
             Ok(items)

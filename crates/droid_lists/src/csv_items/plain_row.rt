@@ -7,7 +7,7 @@ ghost use Rattle.csv.specs.declared.parser.State.TheVariants as st;
 ghost use Rattle.std.specs.List.{position};
 ghost use Rattle.droid_lists.specs.PlainRows.{IsQuoted, fields_in, is_quote};
 
-use crate::csv_items::row::Row;
+use droid_export::Row;
 
 /// A row of 18 fields that all stand between double quotes and have none in them: most rows that this program writes
 /// are such. Its fields are parts of the text, so that none is copied.

@@ -9,44 +9,10 @@ use crate::csv_items::fields::{
     above_of, hash_column, hash_of, id_of, kind_of, length_of, moment_of, parent_of, path_of,
     rows_of,
 };
-use csv::ByteRecord;
+use droid_export::Row;
 use droid_fixity::Item;
 use droid_frame::{Blob, HashKind, HashValue, NodeKind};
 use std::alloc::{AllocError, Global};
-
-/// A row of a list.
-pub(crate) trait Row {
-    ghost use Rattle.std.specs.Prelude.{◌≡◌, ℕ, List, length};
-    ghost use Rattle.droid_lists.specs.Profiles.{field_or};
-
-    /// The bytes of its fields.
-    ghost fields: { Self → List (List ℕ) };
-
-    /// Returns the number of fields.
-    fn count(&self) -> usize
-        ensures { result ≡ length (fields self.now) };
-
-    /// Returns the field at a place, or no bytes past the last.
-    fn field(&self, place: usize) -> &[u8]
-        ensures { result.now ≡ field_or (fields self.now) place };
-}
-
-impl Row for ByteRecord {
-    ghost use Rattle.csv.specs.Records.{fields_of};
-
-    ghost fields = { fields_of };
-
-    fn count(&self) -> usize {
-        self.len()
-    }
-
-    fn field(&self, place: usize) -> &[u8] {
-        match self.get(place) {
-            Some(field) => field,
-            None => &[],
-        }
-    }
-}
 
 /// Where a row says that its item is.
 #[derive(Clone, Copy)]

@@ -5,6 +5,7 @@ ghost use Rattle.csv.specs.Records.{fields_of};
 ghost use Rattle.droid_lists.specs.Formats as formats;
 
 use csv::{ByteRecord, ReaderBuilder};
+use droid_export::Row;
 use droid_frame::Blob;
 use std::alloc::{AllocError, Global};
 
@@ -43,8 +44,8 @@ fn add_row(alloc: Global, rows: &mut Vec<FormatRow>, row: &ByteRecord) -> Result
     ensures { OnOk result (rows.new.items ≡ rows.old.items ++ formats.rows_of (fields_of row.now)) }
 {
     if is_file(row) {
-        let path = Blob::copy_of(alloc, field(row, 3))?;
-        let puid = Blob::copy_of(alloc, field(row, 14))?;
+        let path = Blob::copy_of(alloc, row.field(3))?;
+        let puid = Blob::copy_of(alloc, row.field(14))?;
         rows.push(FormatRow { path, puid })?;
     }
     Ok(())
@@ -55,15 +56,5 @@ fn is_file(row: &ByteRecord) -> bool
     ensures { result ≡ formats.is_file (fields_of row.now) }
 {
     let file: &[u8] = b"File";
-    field(row, 8) == file
-}
-
-/// Returns the field at a place, or no bytes past the last.
-fn field(row: &ByteRecord, place: usize) -> &[u8]
-    ensures { result.now ≡ formats.field_or (fields_of row.now) place }
-{
-    match row.get(place) {
-        Some(field) => field,
-        None => &[],
-    }
+    row.field(8) == file
 }

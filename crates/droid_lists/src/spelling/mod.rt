@@ -1,8 +1,10 @@
 //! Reads the text of a profile in its one spelling.
 
 pub mod column_names;
+pub mod own_puids;
 pub mod profile_text;
 pub mod reading;
+pub mod row_formats;
 pub mod row_tests;
 pub mod text_check;
 pub mod text_fault;

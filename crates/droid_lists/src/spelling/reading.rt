@@ -5,8 +5,8 @@ ghost use Rattle.csv.specs.Records.{fields_of};
 ghost use Rattle.droid_lists.specs.EntryReading.{StandsForAll, TakesEntry, TakesFirst, TakesMore, TakesRow, TakesRows};
 
 use crate::entries::{Entries, Listed};
-use crate::formats::Formats;
-use crate::own_puids::OwnPuids;
+use crate::spelling::own_puids::OwnPuids;
+use crate::spelling::row_formats::Formats;
 use crate::spelling::row_tests::{formats_in, rows_in, wrong_content, wrong_shared};
 use crate::spelling::text_row::read_row;
 use csv::ByteRecord;

@@ -6,7 +6,7 @@ ghost use Rattle.droid_pattern.specs.Places.{IsPlace};
 use crate::bit_sets::ends::first_place;
 use crate::bit_sets::run::push_runs;
 use crate::bit_sets::shift::{advance, widen};
-use crate::bit_sets::word_count::{bound, grow, trim};
+use crate::bit_sets::word_count::{drop_above, grow, trim};
 use std::alloc::AllocError;
 
 /// Moves each place up by one.
@@ -33,7 +33,7 @@ pub(crate) fn cross(
     ensures { OnOk result ((q : ℕ) → IsPlace words.new.items q
         ↔ ((q ≤ len) × ((p : ℕ) × IsPlace words.old.items p × (p + least ≤ q) × (q ≤ p + (least + more))))) }
 {
-    bound(words, len);
+    drop_above(words, len);
     let Some(first) = first_place(words) else {
         return Ok(());
     };
@@ -44,6 +44,6 @@ pub(crate) fn cross(
     grow(words, wanted.min(len / 64 + 1))?;
     advance(words, least);
     widen(words, more);
-    bound(words, len);
+    drop_above(words, len);
     Ok(())
 }

@@ -1,4 +1,4 @@
-//! The number of words of a bit set: shortens it and lengthens it.
+//! The words of a bit set: drops the places above one, drops words that are 0, adds words.
 
 ghost use Rattle.std.specs.Prelude.{◌≡◌, ◌↔◌, ◌<◌, ◌≤◌, ◌+◌, ◌/◌, ◌*◌, ℕ, OnOk, max, length};
 ghost use Rattle.droid_pattern.specs.Places.{IsPlace};
@@ -8,7 +8,7 @@ use crate::bit_sets::run::run_of;
 use std::alloc::AllocError;
 
 /// Drops the places above `last`.
-pub(crate) fn bound(words: &mut Vec<u64>, last: usize)
+pub(crate) fn drop_above(words: &mut Vec<u64>, last: usize)
     ensures len { length words.new.items ≤ last / 64 + 1 }
     ensures places { (p : ℕ) → IsPlace words.new.items p ↔ (IsPlace words.old.items p × (p ≤ last)) }
 {
@@ -28,7 +28,7 @@ pub(crate) fn clear_past(words: &mut [u64], last: usize)
     }
 }
 
-/// Drops the words at the end that are 0.
+/// Drops the words at the end that are 0. No clause needs it: fewer words make the next step quicker.
 pub(crate) fn trim(words: &mut Vec<u64>)
     ensures len { length words.new.items ≤ length words.old.items }
     ensures places { (p : ℕ) → IsPlace words.new.items p ↔ IsPlace words.old.items p }

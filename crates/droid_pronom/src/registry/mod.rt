@@ -225,15 +225,15 @@ impl Registry {
         self.extensions.as_slice()
     }
 
-    /// Returns the priorities between formats.
-    pub(crate) fn priorities(&self) -> &[Priority]
+    /// Returns the priorities between formats, in the order of their records.
+    pub fn priorities(&self) -> &[Priority]
         ensures { result.now ≡ self.now.priorities }
     {
         self.priorities.as_slice()
     }
 
-    /// Returns the signatures.
-    pub(crate) fn signatures(&self) -> &[Signature]
+    /// Returns the signatures, in the order of their records.
+    pub fn signatures(&self) -> &[Signature]
         ensures { result.now ≡ self.now.signatures }
     {
         self.signatures.as_slice()

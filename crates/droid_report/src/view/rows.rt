@@ -8,6 +8,7 @@ use crate::html::tables::Cell;
 use crate::ranks::Group;
 use crate::row::Row;
 use crate::view::cells::words;
+use droid_export::Column;
 use std::alloc::{AllocError, Global};
 
 /// Makes a row for each file: its path, its size and its last change.
@@ -27,10 +28,10 @@ fn file_line(alloc: Global, row: &Row) -> Result<Vec<Cell>, AllocError>
     ensures { IfOk result (λ line. row_seen line ≡ file_row row.now) }
 {
     let mut line = Vec::new(alloc);
-    let path = words(alloc, row.text(3))?;
+    let path = words(alloc, row.text(Column::FilePath))?;
     line.push(path)?;
     line.push(Cell::Number(row.facts.size))?;
-    let changed = words(alloc, row.text(10))?;
+    let changed = words(alloc, row.text(Column::LastModified))?;
     line.push(changed)?;
     Ok(line)
 }

@@ -272,7 +272,7 @@ pub(crate) fn add_extremes(
 {
     let rows = lists.largest.as_slice();
     let note = note_for(alloc, totals.files, rows, limit, texts::LARGEST_ELSEWHERE)?;
-    let table = file_table(alloc, texts::LARGEST, note, rows, limit)?;
+    let table = file_table(alloc, texts::LARGEST_FILES, note, rows, limit)?;
     add(tables, table)?;
     let note = String::from_str(alloc, texts::AGE_NOTE)?;
     let table = file_table(alloc, texts::OLDEST, note, lists.oldest.as_slice(), limit)?;

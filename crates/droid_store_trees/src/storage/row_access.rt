@@ -10,7 +10,8 @@ use sqlite_trees::store::{Direction, Shape, Store};
 use sqlite_trees::typed::is_typed;
 use sqlite_value::row::Row;
 
-// The trait of the kit's `sqlite_trees` for rows and transactions; it says what each method has to do.
+// The trait of the kit's `sqlite_trees` for rows and transactions; it says what each method has to do. A row or entry
+// that is not there is removed without a fault: then nothing changes. `put` and `insert` refuse rows of other types.
 impl Store for TreeStore {
     ghost use Rattle.droid_store_trees.specs.Shown.{view, current};
     ghost use Rattle.droid_store_trees.specs.Laws.{is_ordered, is_unaltered};

@@ -2,7 +2,7 @@
 
 ghost use Rattle.std.specs.Prelude.{◌≡◌};
 ghost use Rattle.droid_terminal.specs.Endings.{said, told};
-ghost use Rattle.droid_terminal.specs.SeenAgain.{IsNoOutput, IsOutputRow, folder_row};
+ghost use Rattle.droid_terminal.specs.SeenAgain.{IsNoOutput, folder_row, output_row};
 
 use crate::ending::about::About;
 use crate::ending::command_ending::Ending;
@@ -13,6 +13,15 @@ use std::fs;
 use std::fs::Files;
 use std::io::ErrorKind;
 
+/// What is seen at a path at which no file can be created or replaced.
+#[derive(Clone, Copy)]
+enum SeenOutput {
+    /// Something else than a file.
+    NoFile,
+    /// A file, or nothing. The fault is that of its folder, if that has one.
+    InFolder(Option<ErrorKind>),
+}
+
 /// Looks again at a path at which no file can be created or replaced, and returns the ending that says why.
 pub fn told_no_output<'a, R: Files>(rt: &R, path: &'a str) -> Ending<'a>
     ensures { IsNoOutput path.now (told result) }
@@ -20,19 +29,17 @@ pub fn told_no_output<'a, R: Files>(rt: &R, path: &'a str) -> Ending<'a>
     if path.is_empty() {
         return Ending::by(faults::OUTPUT_UNNAMED, About::Nothing);
     }
-    Ending::by(output_row(rt, path), About::Path(path))
+    Ending::by(output_row(seen_output(rt, path)), About::Path(path))
 }
 
-/// Returns the row for what is at this path.
-fn output_row<R: Files>(rt: &R, path: &str) -> Row
-    ensures { IsOutputRow (said result) }
-{
+/// Looks at a path.
+fn seen_output<R: Files>(rt: &R, path: &str) -> SeenOutput {
     if let Ok(found) = fs::metadata(rt, path)
         && !found.is_file()
     {
-        return faults::OUTPUT_IS_NO_FILE;
+        return SeenOutput::NoFile;
     }
-    folder_row(folder_fault(rt, folder_of(path)))
+    SeenOutput::InFolder(folder_fault(rt, folder_of(path)))
 }
 
 /// Returns why a folder cannot be used, or `None` if it is there.
@@ -44,10 +51,19 @@ fn folder_fault<R: Files>(rt: &R, path: &str) -> Option<ErrorKind> {
     }
 }
 
+/// Returns the row by what was seen.
+fn output_row(seen: SeenOutput) -> Row
+    ensures { said result ≡ output_row seen }
+{
+    match seen {
+        SeenOutput::NoFile => faults::OUTPUT_IS_NO_FILE,
+        SeenOutput::InFolder(fault) => folder_row(fault),
+    }
+}
+
 /// Returns the row for the fault of an output's folder, if it has one.
 fn folder_row(fault: Option<ErrorKind>) -> Row
-    ensures row { said result ≡ folder_row fault }
-    ensures output { IsOutputRow (said result) }
+    ensures { said result ≡ folder_row fault }
 {
     match fault {
         None => faults::OUTPUT_REFUSED,

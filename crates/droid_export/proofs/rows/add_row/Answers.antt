@@ -1,4 +1,4 @@
-use Rattle.std.proofs.Common.{◌≡◌, ◌∙◌, ℕ, List, ◌++◌, ap}
+use Rattle.std.proofs.Common.{◌∙◌, ℕ, List, ◌++◌, ap}
 use Rattle.std.specs.Option.{option_copied}
 use Rattle.std.proofs.lemmas.Result.{on_ok_weaker}
 use Rattle.droid_export.specs.Rows.{row, shown_by}

@@ -2,7 +2,8 @@ use Rattle.std.proofs.Common.{◌∙◌, [], refl, inl, inr}
 use Rattle.csv.specs.Reading.{error_kind, strip_bom}
 use Rattle.csv.specs.Records.{fields_of}
 use Rattle.droid_report.specs.Rows.{nothing_read, profile_of}
-use Rattle.droid_report.proofs.Reading.{ends_reading, left_end, left_fault, left_more, next_read}
+use Rattle.droid_export.proofs.RecordReading.{ends_reading, next_read}
+use Rattle.droid_report.proofs.Reading.{left_end, left_fault, left_more}
 use Rattle.droid_report.proofs.report.read_rows.Goals as goal
 
 pub loop-row-init : goal.loop-row-init

@@ -2,7 +2,8 @@ use Rattle.std.proofs.Common.{◌∙◌, inl}
 use Rattle.csv.specs.Records.{fields_of}
 use Rattle.droid_lists.specs.Calls.{draft_of}
 use Rattle.droid_lists.specs.Profiles.{profile_of}
-use Rattle.droid_lists.proofs.Reading.{left_end, left_fault, left_more, next_read}
+use Rattle.droid_export.proofs.RecordReading.{next_read}
+use Rattle.droid_lists.proofs.Reading.{left_end, left_fault, left_more}
 use Rattle.droid_lists.proofs.csv_items.profile.read_profile.Goals as goal
 
 pub loop-preserved : goal.loop-preserved

@@ -2,7 +2,8 @@ use Rattle.std.proofs.Common.{◌∙◌, [], refl, inl, inr, sym}
 use Rattle.csv.specs.Reading.{strip_bom}
 use Rattle.csv.specs.Records.{fields_of}
 use Rattle.droid_lists.specs.Formats.{format_rows}
-use Rattle.droid_lists.proofs.FormatReading.{left_end, left_more, next_read}
+use Rattle.droid_export.proofs.RecordReading.{next_read}
+use Rattle.droid_lists.proofs.FormatReading.{left_end, left_more}
 use Rattle.droid_lists.proofs.format_lists.format_row.read_formats.Goals as goal
 
 pub loop-row-init : goal.loop-row-init

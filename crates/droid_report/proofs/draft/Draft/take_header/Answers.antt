@@ -6,7 +6,7 @@ use Rattle.droid_report.proofs.draft.Draft.take_header.Goals as goal
 pub returns-in-Some : goal.returns-in-Some
 returns-in-Some c = λ old is none. (
   record { header = Some c.in-Some.hash; records = 1; lines = [] },
-  ap with_header (sym c.in_ok-hash.ensures ∙ c.in-Some.is),
+  ap with_header (sym c.hash_of_header.ensures ∙ c.in-Some.is),
   record {
     header = refl;
     records = refl;

@@ -1,7 +1,7 @@
 -- What is cut off lies past the last place.
 use Rattle.std.proofs.Common.{◌∙◌}
 use Rattle.droid_pattern.proofs.ResizeLemmas.{written_back, bounded}
-use Rattle.droid_pattern.proofs.bit_sets.word_count.bound.Goals as goal
+use Rattle.droid_pattern.proofs.bit_sets.word_count.drop_above.Goals as goal
 
 pub returns-clause-places : goal.returns-clause-places
 returns-clause-places c =

@@ -6,7 +6,7 @@ ghost use Rattle.csv.specs.Records.{fields_of};
 ghost use Rattle.droid_lists.specs.FormatMaps.{AddsKnown, TakesFormat, known_at, known_count, own_has};
 ghost use Rattle.droid_lists.specs.RowTests as tests;
 
-use crate::own_puids::OwnPuids;
+use crate::spelling::own_puids::OwnPuids;
 use crate::spelling::text_path::text_of;
 use crate::spelling::text_row::field;
 use csv::ByteRecord;

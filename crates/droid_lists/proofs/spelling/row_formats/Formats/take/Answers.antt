@@ -3,7 +3,7 @@ use Rattle.std.proofs.lemmas.Bool.{ne_eqb}
 use Rattle.csv.specs.Records.{fields_of}
 use Rattle.droid_lists.specs.RowReading.{at}
 use Rattle.droid_lists.proofs.FormatTaken.{a_format, no_format, same_text}
-use Rattle.droid_lists.proofs.formats.Formats.take.Goals as goal
+use Rattle.droid_lists.proofs.spelling.row_formats.Formats.take.Goals as goal
 
 pub returns-then-count-eq0 : goal.returns-then-count-eq0
 returns-then-count-eq0 c =

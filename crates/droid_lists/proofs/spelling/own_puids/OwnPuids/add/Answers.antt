@@ -1,7 +1,7 @@
 use Rattle.std.proofs.Common.{string_bytes}
 use Rattle.std.proofs.lemmas.Map.Text.{btree_set_updates_text}
 use Rattle.droid_lists.proofs.MapSteps.{own_added}
-use Rattle.droid_lists.proofs.own_puids.OwnPuids.add.Goals as goal
+use Rattle.droid_lists.proofs.spelling.own_puids.OwnPuids.add.Goals as goal
 
 pub returns : goal.returns
 returns c = record {

@@ -1,7 +1,7 @@
 use Rattle.std.proofs.Common.{◌∙◌, string_bytes, sym}
 use Rattle.std.proofs.lemmas.Map.Text.{btree_map_updates_text}
 use Rattle.droid_lists.proofs.MapSteps.{known_added}
-use Rattle.droid_lists.proofs.formats.Formats.add.Goals as goal
+use Rattle.droid_lists.proofs.spelling.row_formats.Formats.add.Goals as goal
 
 pub returns : goal.returns
 returns c =

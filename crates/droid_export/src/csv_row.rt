@@ -1,0 +1,37 @@
+//! Records of CSV.
+
+use csv::ByteRecord;
+
+/// A record of CSV.
+pub trait Row {
+    ghost use Rattle.std.specs.Prelude.{◌≡◌, ℕ, List, length};
+    ghost use Rattle.droid_export.specs.Table.{field_or};
+
+    /// The bytes of its fields.
+    ghost fields: { Self → List (List ℕ) };
+
+    /// Returns the number of fields.
+    fn count(&self) -> usize
+        ensures { result ≡ length (fields self.now) };
+
+    /// Returns the field at a place, or no bytes past the last.
+    fn field(&self, place: usize) -> &[u8]
+        ensures { result.now ≡ field_or (fields self.now) place };
+}
+
+impl Row for ByteRecord {
+    ghost use Rattle.csv.specs.Records.{fields_of};
+
+    ghost fields = { fields_of };
+
+    fn count(&self) -> usize {
+        self.len()
+    }
+
+    fn field(&self, place: usize) -> &[u8] {
+        match self.get(place) {
+            Some(field) => field,
+            None => &[],
+        }
+    }
+}
