@@ -25,8 +25,8 @@ SHARED = "droid_testing"
 # the kit's libraries that are named as std or a module of it: only a line tells that one of them is meant
 AS_IN_STD = {"std", "core", "io", "os", "libc", "bytes"}
 # `rt` sums up the sources of a crate once for each path to it, at every call
-MOST_PATHS = 550
-MOST_LIBRARIES = 38
+MOST_PATHS = 600
+MOST_LIBRARIES = 40
 # each costs the gate a check of its crate
 MOST_EDITS = 39
 MOST_COLUMNS = 120

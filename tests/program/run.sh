@@ -14,6 +14,7 @@
 #   folders/run.sh   profiles of folders of this machine, in Python
 #   journal/run.sh   `run` and `serve` with a journal: kills, power cuts, damage, a full disk, in Python
 #   submissions/run.sh   folders submitted to a port, through connections that are cut, in Python
+#   identify/run.sh  files in each form, beside a search by brute force, in Python
 #   report/run.sh    pages of profiles, beside the same numbers computed in Python, and in a browser
 #   signatures/run.sh   registries made of signature files, beside a model in Python
 #   identification.py   a file of each shape by random registries, beside the model
@@ -72,6 +73,7 @@ part sh "$tests/sizes.sh" "$program"
 part python3 "$tests/pieces.py" "$program"
 part python3 "$tests/repeats.py" "$program"
 part sh "$tests/folders/run.sh" "$program"
+part sh "$tests/identify/run.sh" "$program"
 part sh "$tests/report/run.sh" "$program"
 part sh "$tests/signatures/run.sh" "$program"
 part python3 "$tests/identification.py" "$program"

@@ -1,2 +1,3 @@
+pub mod IdentifyRefusals
 pub mod Options
 pub mod Refusals

@@ -11,9 +11,12 @@ use Rattle.clap.specs.declared.error.kind.ErrorKind.TheVariants.{OutOfMemory}
 use Rattle.clap.specs.declared.parser.matches.ArgMatches.{ArgMatches}
 use Rattle.clap.specs.declared.parser.matches.ArgMatches.TheViews.{out-ArgMatches, out-SubCommand}
 use Rattle.clap.specs.declared.parser.matches.SubCommand.{SubCommand}
-use Rattle.droid_arguments.specs.Asking.{IsAsked, IsAskedBy, IsConversion, IsCount, IsProfile, IsReport, IsServing, IsSubmit, IsVerify, checks_nothing, has_no_checksums, measures_twice, names_two, reads_nothing}
+use Rattle.droid_arguments.specs.Asking.{IsAsked, IsAskedBy, IsConversion, IsCount, IsProfile, IsReport, IsServing, IsSubmit, IsVerify, checks_nothing, has_no_checksums, measures_twice, reads_nothing}
+use Rattle.droid_arguments.specs.Registries.{names_two}
 use Rattle.droid_arguments.specs.declared.arguments.Asked.{Asked}
-use Rattle.droid_arguments.specs.declared.arguments.Asked.TheVariants.{Profile, Submit, Verify, Report, Registry, Script, Run, Serve, Send, Compact}
+use Rattle.droid_arguments.specs.declared.arguments.Asked.TheVariants.{Profile, Submit, Verify, Report, Identify, Registry, Script, Run, Serve, Send, Compact}
+use Rattle.droid_arguments.specs.Identifying.{IsIdentify}
+use Rattle.droid_arguments.specs.declared.identify.IdentifyOptions.{IdentifyOptions}
 use Rattle.droid_arguments.specs.declared.registry_options.RegistryOptions.{RegistryOptions}
 use Rattle.droid_arguments.specs.declared.connection_options.ServeOptions.{ServeOptions}
 use Rattle.droid_arguments.specs.declared.profile.ProfileOptions.{ProfileOptions}
@@ -113,18 +116,20 @@ AsksBy name rows =
     (MatchBool (bytes_eq name (codes "submit")) ((options : SubmitOptions) × IsSubmit rows options)
     (MatchBool (bytes_eq name (codes "verify")) ((options : VerifyOptions) × IsVerify rows options)
     (MatchBool (bytes_eq name (codes "report")) ((options : ReportOptions) × IsReport rows options)
+    (MatchBool (bytes_eq name (codes "identify")) ((options : IdentifyOptions) × IsIdentify rows options)
     (MatchBool (bytes_eq name (codes "registry")) ((options : RegistryOptions) × IsConversion rows options)
     (MatchBool (bytes_eq name (codes "script")) ((registry : RegistrySource) × IsSource rows registry)
     (MatchBool (bytes_eq name (codes "run")) ((registry : RegistrySource) × IsSource rows registry)
     (MatchBool (bytes_eq name (codes "serve")) (AsksServe rows)
     (MatchBool (bytes_eq name (codes "send")) (AsksSend rows)
-    (MatchBool (bytes_eq name (codes "compact")) (AsksCompact rows) ⊥)))))))))
+    (MatchBool (bytes_eq name (codes "compact")) (AsksCompact rows) ⊥))))))))))
 
 pub asks_by : (name : Text) (rows : List Row) (asked : Asked) → IsAskedBy name rows asked → AsksBy name rows
 asks_by name rows (Profile options) is = subst (λ (n : Text). AsksBy n rows) (sym is.0) (options, is.1)
 asks_by name rows (Submit options) is = subst (λ (n : Text). AsksBy n rows) (sym is.0) (options, is.1)
 asks_by name rows (Verify options) is = subst (λ (n : Text). AsksBy n rows) (sym is.0) (options, is.1)
 asks_by name rows (Report options) is = subst (λ (n : Text). AsksBy n rows) (sym is.0) (options, is.1)
+asks_by name rows (Identify options) is = subst (λ (n : Text). AsksBy n rows) (sym is.0) (options, is.1)
 asks_by name rows (Registry options) is = subst (λ (n : Text). AsksBy n rows) (sym is.0) (options, is.1)
 asks_by name rows (Script registry) is = subst (λ (n : Text). AsksBy n rows) (sym is.0) (registry, is.1)
 asks_by name rows (Run registry journal) is = subst (λ (n : Text). AsksBy n rows) (sym is.0) (registry, is.1)
@@ -134,21 +139,22 @@ asks_by name rows (Compact registry file quiet) is = subst (λ (n : Text). AsksB
 
 -- no command has this name
 not_by : (name : Text) (asked : Asked) (rows : List Row) → (Some name ≡ Some (codes "profile") → ⊥) → (Some name ≡ Some (codes "submit") → ⊥) → (Some name ≡ Some (codes "verify") → ⊥)
-    → (Some name ≡ Some (codes "report") → ⊥) → (Some name ≡ Some (codes "registry") → ⊥) → (Some name ≡ Some (codes "script") → ⊥) → (Some name ≡ Some (codes "run") → ⊥)
+    → (Some name ≡ Some (codes "report") → ⊥) → (Some name ≡ Some (codes "identify") → ⊥) → (Some name ≡ Some (codes "registry") → ⊥) → (Some name ≡ Some (codes "script") → ⊥) → (Some name ≡ Some (codes "run") → ⊥)
     → (Some name ≡ Some (codes "serve") → ⊥) → (Some name ≡ Some (codes "send") → ⊥) → (Some name ≡ Some (codes "compact") → ⊥) → IsAskedBy name rows asked → ⊥
-not_by name (Profile options) rows profile submit verify report registry script run serve send compact is = profile (ap (λ (t : Text). Some t) is.0)
-not_by name (Submit options) rows profile submit verify report registry script run serve send compact is = submit (ap (λ (t : Text). Some t) is.0)
-not_by name (Verify options) rows profile submit verify report registry script run serve send compact is = verify (ap (λ (t : Text). Some t) is.0)
-not_by name (Report options) rows profile submit verify report registry script run serve send compact is = report (ap (λ (t : Text). Some t) is.0)
-not_by name (Registry options) rows profile submit verify report registry script run serve send compact is = registry (ap (λ (t : Text). Some t) is.0)
-not_by name (Script source) rows profile submit verify report registry script run serve send compact is = script (ap (λ (t : Text). Some t) is.0)
-not_by name (Run source journal) rows profile submit verify report registry script run serve send compact is = run (ap (λ (t : Text). Some t) is.0)
-not_by name (Serve source journal port options) rows profile submit verify report registry script run serve send compact is = serve (ap (λ (t : Text). Some t) is.0)
-not_by name (Send port client first) rows profile submit verify report registry script run serve send compact is = send (ap (λ (t : Text). Some t) is.0)
-not_by name (Compact source file quiet) rows profile submit verify report registry script run serve send compact is = compact (ap (λ (t : Text). Some t) is.0)
+not_by name (Profile options) rows profile submit verify report identify registry script run serve send compact is = profile (ap (λ (t : Text). Some t) is.0)
+not_by name (Submit options) rows profile submit verify report identify registry script run serve send compact is = submit (ap (λ (t : Text). Some t) is.0)
+not_by name (Verify options) rows profile submit verify report identify registry script run serve send compact is = verify (ap (λ (t : Text). Some t) is.0)
+not_by name (Report options) rows profile submit verify report identify registry script run serve send compact is = report (ap (λ (t : Text). Some t) is.0)
+not_by name (Identify options) rows profile submit verify report identify registry script run serve send compact is = identify (ap (λ (t : Text). Some t) is.0)
+not_by name (Registry options) rows profile submit verify report identify registry script run serve send compact is = registry (ap (λ (t : Text). Some t) is.0)
+not_by name (Script source) rows profile submit verify report identify registry script run serve send compact is = script (ap (λ (t : Text). Some t) is.0)
+not_by name (Run source journal) rows profile submit verify report identify registry script run serve send compact is = run (ap (λ (t : Text). Some t) is.0)
+not_by name (Serve source journal port options) rows profile submit verify report identify registry script run serve send compact is = serve (ap (λ (t : Text). Some t) is.0)
+not_by name (Send port client first) rows profile submit verify report identify registry script run serve send compact is = send (ap (λ (t : Text). Some t) is.0)
+not_by name (Compact source file quiet) rows profile submit verify report identify registry script run serve send compact is = compact (ap (λ (t : Text). Some t) is.0)
 
 -- the parse met a subcommand of this name
-name_met : {Z : Type 0} (met : Option (Box SubCommand Z)) (name : Text) (rows : List Row) → subcommand_rows met ≡ Some (name, rows) → option_map (λ b. (out-SubCommand (box_value b)).name.now) met ≡ Some name
+pub name_met : {Z : Type 0} (met : Option (Box SubCommand Z)) (name : Text) (rows : List Row) → subcommand_rows met ≡ Some (name, rows) → option_map (λ b. (out-SubCommand (box_value b)).name.now) met ≡ Some name
 name_met None name rows is = ap (λ (entered : Option (Text × List Row)). option_map (λ p. p.0) entered) is
 name_met (Some b) name rows is = ap (λ (entered : Option (Text × List Row)). option_map (λ p. p.0) entered) is
 
@@ -156,12 +162,12 @@ pub none_met : {P : Type 0} → (false ≡ true) ↔ P → P → ⊥
 none_met either is = let bad : false ≡ true = either.1 is in cc
 
 pub no_command : (m : ArgMatches) → (subcommand_name_of m ≡ Some (codes "profile") → ⊥) → (subcommand_name_of m ≡ Some (codes "submit") → ⊥) → (subcommand_name_of m ≡ Some (codes "verify") → ⊥)
-    → (subcommand_name_of m ≡ Some (codes "report") → ⊥) → (subcommand_name_of m ≡ Some (codes "registry") → ⊥) → (subcommand_name_of m ≡ Some (codes "script") → ⊥)
+    → (subcommand_name_of m ≡ Some (codes "report") → ⊥) → (subcommand_name_of m ≡ Some (codes "identify") → ⊥) → (subcommand_name_of m ≡ Some (codes "registry") → ⊥) → (subcommand_name_of m ≡ Some (codes "script") → ⊥)
     → (subcommand_name_of m ≡ Some (codes "run") → ⊥) → (subcommand_name_of m ≡ Some (codes "serve") → ⊥) → (subcommand_name_of m ≡ Some (codes "send") → ⊥)
     → (subcommand_name_of m ≡ Some (codes "compact") → ⊥) → (asked : Asked) → IsAsked (subcommand_rows_of m) asked → ⊥
-no_command m profile submit verify report registry script run serve send compact asked is =
+no_command m profile submit verify report identify registry script run serve send compact asked is =
     let named : subcommand_name_of m ≡ Some is.name = name_met (out-ArgMatches m).subcommand is.name is.rows is.is_entered in
-    not_by is.name asked is.rows (λ n. profile (named ∙ n)) (λ n. submit (named ∙ n)) (λ n. verify (named ∙ n)) (λ n. report (named ∙ n)) (λ n. registry (named ∙ n)) (λ n. script (named ∙ n))
+    not_by is.name asked is.rows (λ n. profile (named ∙ n)) (λ n. submit (named ∙ n)) (λ n. verify (named ∙ n)) (λ n. report (named ∙ n)) (λ n. identify (named ∙ n)) (λ n. registry (named ∙ n)) (λ n. script (named ∙ n))
     (λ n. run (named ∙ n)) (λ n. serve (named ∙ n)) (λ n. send (named ∙ n)) (λ n. compact (named ∙ n)) is.asks
 
 -- an error of words without a fault

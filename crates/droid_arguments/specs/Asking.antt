@@ -6,8 +6,10 @@ use Rattle.clap.specs.declared.error.Error.{Error}
 use Rattle.clap.specs.declared.error.kind.ErrorKind.TheVariants as parsing
 use Rattle.droid_arguments.specs.Commands.{program}
 use Rattle.droid_arguments.specs.declared.arguments.Asked.{Asked}
-use Rattle.droid_arguments.specs.declared.arguments.Asked.TheVariants.{Profile, Submit, Verify, Report, Registry}
+use Rattle.droid_arguments.specs.declared.arguments.Asked.TheVariants.{Profile, Submit, Verify, Report, Identify}
+use Rattle.droid_arguments.specs.declared.arguments.Asked.TheVariants.{Registry}
 use Rattle.droid_arguments.specs.declared.arguments.Asked.TheVariants.{Script, Run, Serve, Send, Compact}
+use Rattle.droid_arguments.specs.declared.identify.IdentifyOptions.{IdentifyOptions}
 use Rattle.droid_arguments.specs.declared.registry_options.RegistryOptions.{RegistryOptions}
 use Rattle.droid_arguments.specs.declared.connection_options.ServeOptions.{ServeOptions}
 use Rattle.droid_arguments.specs.declared.profile.ProfileOptions.{ProfileOptions}
@@ -17,6 +19,8 @@ use Rattle.droid_arguments.specs.declared.report_options.ReportOptions.{ReportOp
 use Rattle.droid_arguments.specs.declared.submit.Destination.{Destination}
 use Rattle.droid_arguments.specs.declared.submit.SubmitOptions.{SubmitOptions}
 use Rattle.droid_arguments.specs.declared.verify.VerifyOptions.{VerifyOptions}
+use Rattle.droid_arguments.specs.Identifying.{IsIdentify}
+use Rattle.droid_arguments.specs.Registries.{names_two}
 use Rattle.droid_arguments.specs.Values.{IsFlag, IsGiven, IsHash, IsNumberOr, IsSource}
 use Rattle.droid_frame.specs.declared.hash_kind.HashKind.{HashKind}
 use Rattle.droid_frame.specs.declared.hash_kind.HashKind.TheVariants as hashes
@@ -71,11 +75,6 @@ pub record IsSubmit (rows : List Row) (options : SubmitOptions) : Type 0 where
   pub skipped : option_map (λ path. path.now) options.skipped ≡ first_of (codes "skipped") rows
   pub report : option_map (λ path. path.now) options.report ≡ first_of (codes "report") rows
   pub quiet : IsFlag (one_of (codes "quiet") rows) options.quiet
-
--- the registry of everyday formats is asked for beside a file
-abbrev pub names_two : Bool → Option Text → Bool
-names_two everyday None = false
-names_two everyday (Some path) = everyday
 
 -- formats are to be compared, and no file is read
 abbrev pub reads_nothing : Bool → Bool → Bool
@@ -143,6 +142,7 @@ IsAskedBy name rows (Profile options) = (name ≡ codes "profile") × IsProfile 
 IsAskedBy name rows (Submit options) = (name ≡ codes "submit") × IsSubmit rows options
 IsAskedBy name rows (Verify options) = (name ≡ codes "verify") × IsVerify rows options
 IsAskedBy name rows (Report options) = (name ≡ codes "report") × IsReport rows options
+IsAskedBy name rows (Identify options) = (name ≡ codes "identify") × IsIdentify rows options
 IsAskedBy name rows (Registry options) = (name ≡ codes "registry") × IsConversion rows options
 IsAskedBy name rows (Script registry) = (name ≡ codes "script") × IsSource rows registry
 IsAskedBy name rows (Run registry journal) =

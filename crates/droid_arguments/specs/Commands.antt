@@ -3,7 +3,8 @@ use Rattle.std.specs.Prelude.{true, Some, codes}
 use Rattle.clap.specs.Words.{App, Rule, new_app, with_rule, with_subcommand}
 use Rattle.clap.specs.declared.builder.value_parser.ValueParser.TheVariants.{NonEmptyString}
 use Rattle.droid_arguments.specs.Rules.{client_option, flag_named, folder_word, limit_option, needed, number_named}
-use Rattle.droid_arguments.specs.Rules.{option_named, port_option, registry_option, word_named}
+use Rattle.droid_arguments.specs.Rules.{option_named, port_option, registry_option, short_flag_named, word_named}
+use Rattle.droid_arguments.specs.Rules.{words_named}
 
 abbrev pub connections_option : Rule
 connections_option = number_named (codes "connections") 1 1000
@@ -117,6 +118,40 @@ report_command =
     (with_rule (with_rule (new_app (codes "report")) (word_named (codes "profile"))) (option_named (codes "title")))
     output_option
 
+-- the files to identify
+abbrev pub files_word : Rule
+files_word = words_named (codes "file")
+
+-- which files are identified
+abbrev pub identify_input : App
+identify_input =
+    with_rule
+    (with_rule
+    (with_rule
+    (with_rule (with_rule (new_app (codes "identify")) files_word) (short_flag_named (codes "recursive") 114))
+    (option_named (codes "files-from")))
+    (short_flag_named (codes "null") 48))
+    (option_named (codes "name"))
+
+-- how what is said of them is printed
+abbrev pub identify_forms : App
+identify_forms =
+    with_rule
+    (with_rule
+    (with_rule
+    (with_rule
+    (with_rule (with_rule identify_input (flag_named (codes "puid"))) (flag_named (codes "csv")))
+    (flag_named (codes "json")))
+    (flag_named (codes "json-sf")))
+    (option_named (codes "why")))
+    hash_option
+
+-- by what they are identified
+abbrev pub identify_command : App
+identify_command =
+    with_rule (with_rule (with_rule (with_rule identify_forms registry_option) everyday_flag) limit_option)
+    (flag_named (codes "match-all"))
+
 -- what a registry is made of, and where it goes
 abbrev pub registry_command : App
 registry_command =
@@ -172,10 +207,12 @@ program =
     (with_subcommand
     (with_subcommand
     (with_subcommand
+    (with_subcommand
     (with_subcommand (top_command (new_app (codes "droid_desk"))) profile_command.top)
     submit_command.top)
     verify_command.top)
     report_command.top)
+    identify_command.top)
     registry_command.top)
     script_command.top)
     run_command.top)

@@ -1,7 +1,8 @@
 -- Options and words, as a parse reads them (this project's own).
 use Rattle.std.specs.Prelude.{ℕ, true, Some, codes}
+use Rattle.clap.specs.Lexer.{usize_max}
 use Rattle.clap.specs.Words.{Rule, Text, new_rule}
-use Rattle.clap.specs.declared.builder.action.ArgAction.TheVariants.{Set, SetTrue}
+use Rattle.clap.specs.declared.builder.action.ArgAction.TheVariants.{Append, Set, SetTrue}
 use Rattle.clap.specs.declared.builder.value_parser.ValueParser.TheVariants.{Unsigned}
 
 -- an option with one value: `--NAME VALUE`
@@ -23,6 +24,18 @@ word_named name = record (new_rule name) { value_names = 1; action = Some Set; r
 -- an option without a value: `--NAME`
 abbrev pub flag_named : Text → Rule
 flag_named name = record (new_rule name) { long = Some name; action = Some SetTrue }
+
+-- an option without a value, with a short name too
+abbrev pub short_flag_named : Text → ℕ → Rule
+short_flag_named name short = record (flag_named name) { short = Some short }
+
+-- words that stand by themselves, any number of them
+abbrev pub words_named : Text → Rule
+words_named name = record (new_rule name) {
+  value_names = 1;
+  action = Some Append;
+  range = Some (record { start_inclusive = 0; end_inclusive = usize_max });
+}
 
 abbrev pub registry_option : Rule
 registry_option = option_named (codes "registry")

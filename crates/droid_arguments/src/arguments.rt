@@ -20,6 +20,7 @@ use crate::helps::stream_help::{
     RUN_ABOUT, RUN_HELP, SEND_ABOUT, SEND_HELP, SEND_PORT_HELP, SERVE_ABOUT, SERVE_HELP,
     SERVE_PORT_HELP, VERBOSE_HELP,
 };
+use crate::identify::{IDENTIFY, IdentifyOptions, identify, identify_asked, mistake_in_identify};
 use crate::no_command::{NoCommand, unused_words};
 use crate::option::{CLIENT, PORT, REGISTRY, client, flag, named, number, port, registry};
 use crate::profile::{HASH, PROFILE, ProfileOptions, profile, profile_asked};
@@ -50,7 +51,7 @@ const JOURNAL: &str = "journal";
 const DEFAULT_FIRST: u64 = 1;
 
 /// The version that `--version` prints.
-const VERSION: &str = "0.9.0";
+pub const VERSION: &str = "0.9.0";
 
 /// The error for an unknown hash.
 pub(crate) const NO_SUCH_HASH: &str =
@@ -78,6 +79,8 @@ pub enum Asked<'a> {
     Verify(VerifyOptions<'a>),
     /// Make a page of a profile.
     Report(ReportOptions<'a>),
+    /// Say what files are, and why. [`named_files`](crate::named_files) returns which.
+    Identify(IdentifyOptions<'a>),
     /// Make a registry of a signature file.
     Registry(RegistryOptions<'a>),
     /// Run a script.
@@ -164,6 +167,9 @@ fn mistake_in(matches: &ArgMatches<'_>) -> &'static str {
     if let Some(verify) = matches.subcommand_matches(VERIFY) {
         return mistake_in_verify(verify);
     }
+    if let Some(identify) = matches.subcommand_matches(IDENTIFY) {
+        return mistake_in_identify(identify);
+    }
     match matches.subcommand_matches(SUBMIT) {
         Some(submit) => mistake_in_submit(submit),
         None => TWO_REGISTRIES,
@@ -194,6 +200,9 @@ fn asked_by<'a>(matches: &ArgMatches<'a>) -> Option<Asked<'a>>
     }
     if let Some(report) = matches.subcommand_matches(REPORT) {
         return report_asked(report);
+    }
+    if let Some(identify) = matches.subcommand_matches(IDENTIFY) {
+        return identify_asked(identify);
     }
     if let Some(registry) = matches.subcommand_matches(REGISTRY) {
         return registry_asked(registry);
@@ -261,7 +270,7 @@ fn send_asked<'a>(send: &ArgMatches<'a>) -> Option<Asked<'a>>
 }
 
 /// Declares the program and its commands to `clap`.
-fn command<'a>(alloc: Global) -> Result<Command<'a>, AllocError>
+pub(crate) fn command<'a>(alloc: Global) -> Result<Command<'a>, AllocError>
     ensures { Makes program result }
 {
     top(alloc)
@@ -269,6 +278,7 @@ fn command<'a>(alloc: Global) -> Result<Command<'a>, AllocError>
         .command(submit(alloc))
         .command(verify(alloc))
         .command(report(alloc))
+        .command(identify(alloc))
         .command(conversion(alloc))
         .command(script(alloc))
         .command(run(alloc))

@@ -6,6 +6,7 @@ mod builder;
 mod compact_options;
 mod connection_options;
 mod helps;
+mod identify;
 mod no_command;
 mod option;
 mod profile;
@@ -16,8 +17,9 @@ mod submit;
 mod value;
 mod verify;
 
-pub use arguments::{Asked, what_is_asked};
+pub use arguments::{Asked, VERSION, what_is_asked};
 pub use connection_options::ServeOptions;
+pub use identify::{IdentifyForm, IdentifyOptions, named_files};
 pub use no_command::{NoCommand, unread_words};
 pub use profile::ProfileOptions;
 pub use registry_options::RegistryOptions;

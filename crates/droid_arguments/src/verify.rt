@@ -2,8 +2,9 @@
 
 ghost use Rattle.std.specs.Prelude.{◌≡◌, codes, false, option_map};
 ghost use Rattle.clap.specs.Words.{found_of, rows_of, rule_of};
-ghost use Rattle.droid_arguments.specs.Asking.{IsAskedBy, IsVerify, measures_twice, names_two, reads_nothing};
+ghost use Rattle.droid_arguments.specs.Asking.{IsAskedBy, IsVerify, measures_twice, reads_nothing};
 ghost use Rattle.droid_arguments.specs.Commands.{against_option, verify_command};
+ghost use Rattle.droid_arguments.specs.Registries.{names_two};
 ghost use Rattle.droid_arguments.specs.Made.{Makes};
 ghost use Rattle.droid_arguments.specs.Values.{Reads};
 
@@ -133,7 +134,7 @@ fn measures_twice(quick: bool, sizes_only: bool) -> bool
 }
 
 /// Returns whether the built-in registry is asked for beside a file.
-fn names_two(everyday: bool, registry: Option<&str>) -> bool
+pub(crate) fn names_two(everyday: bool, registry: Option<&str>) -> bool
     ensures { result ≡ names_two everyday (option_map (λ path. path.now) registry.entry) }
 {
     match (everyday, registry) {

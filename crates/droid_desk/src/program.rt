@@ -1,9 +1,10 @@
 //! Reads the command line, runs the command that it asks for, and returns the exit status.
 
 use droid_arguments::{
-    Asked, NoCommand, ProfileOptions, RegistryOptions, RegistrySource, ReportOptions,
-    SubmitOptions, VerifyOptions, unread_words, what_is_asked,
+    Asked, IdentifyOptions, NoCommand, ProfileOptions, RegistryOptions, RegistrySource,
+    ReportOptions, SubmitOptions, VerifyOptions, named_files, unread_words, what_is_asked,
 };
+use droid_cmd_identify::{IdentifyEnding, IdentifyRegistry, identify_command};
 use droid_cmd_profile::{NamedRegistry, profile_folder, report_profile};
 use droid_cmd_registry::registry_command;
 use droid_cmd_serve::{
@@ -23,7 +24,7 @@ pub fn run(rt: &HostRuntime, on_terminal: bool) -> ExitCode {
         Err(error) => return end_without(rt, &unread_words(&error)),
     };
     match what_is_asked(rt.alloc(), words.as_slice()) {
-        Ok(asked) => fulfil(rt, asked, on_terminal),
+        Ok(asked) => fulfil(rt, words.as_slice(), asked, on_terminal),
         Err(why) => end_without(rt, &why),
     }
 }
@@ -35,13 +36,14 @@ fn words(rt: &HostRuntime) -> io::Result<Vec<String>> {
 }
 
 /// Runs the command that is asked for.
-fn fulfil(rt: &HostRuntime, asked: Asked<'_>, on_terminal: bool) -> ExitCode {
+fn fulfil(rt: &HostRuntime, words: &[String], asked: Asked<'_>, on_terminal: bool) -> ExitCode {
     match asked {
         Asked::Profile(options) => profile(rt, options, on_terminal),
         Asked::Submit(options) => submit(rt, options, on_terminal),
         Asked::Verify(options) => verify(rt, options, on_terminal),
         Asked::Report(options) => report(rt, options),
         Asked::Registry(options) => registry(rt, options),
+        Asked::Identify(options) => identify(rt, words, options),
         Asked::Script { registry } => end(rt, &script_command(rt, registry)),
         Asked::Run { registry, journal } => end(rt, &run_command(rt, registry, journal)),
         Asked::Serve {
@@ -93,6 +95,39 @@ fn named_registry<'a>(
         }
         Err(fault) => Err(no_registry(source, fault)),
     }
+}
+
+/// Identifies the files that the words name.
+fn identify(rt: &HostRuntime, words: &[String], options: IdentifyOptions<'_>) -> ExitCode {
+    let files = match named_files(rt.alloc(), words) {
+        Ok(files) => files,
+        Err(why) => return end_without(rt, &why),
+    };
+    match named_registry(rt, options.registry) {
+        Ok(registry) => {
+            let ending = identify_by(rt, &registry, options, files.as_slice());
+            let _ = ending.told(options.why.unwrap_or("")).print(rt);
+            ExitCode::from(ending.status())
+        }
+        Err(ended) => end(rt, &ended),
+    }
+}
+
+fn identify_by(
+    rt: &HostRuntime,
+    registry: &NamedRegistry<'_>,
+    options: IdentifyOptions<'_>,
+    files: &[&str],
+) -> IdentifyEnding {
+    let Ok(details) = format!(in rt.alloc(); "{}", registry.name) else {
+        return IdentifyEnding::Memory;
+    };
+    let named = IdentifyRegistry {
+        registry: &registry.registry,
+        path: options.registry,
+        details: details.as_str(),
+    };
+    identify_command(rt, named, options, files)
 }
 
 /// Compares a folder with a list. A registry is read only if formats are compared.

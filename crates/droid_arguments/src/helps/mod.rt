@@ -3,6 +3,7 @@
 pub mod compaction_help;
 pub mod conversion_help;
 pub mod help;
+pub mod identify_help;
 pub mod profile_help;
 pub mod report_help;
 pub mod stream_help;

@@ -12,4 +12,5 @@ returns-in_err-subcommand_matches c = rw c.from_residual.ensures (no_command c.a
     (none_met c.in_default-subcommand_matches-6.ensures.found)
     (none_met c.in_default-subcommand_matches-7.ensures.found)
     (none_met c.in_default-subcommand_matches-8.ensures.found)
+    (none_met c.in_default-subcommand_matches-9.ensures.found)
     (none_met c.in_err-subcommand_matches.ensures.found))

@@ -1,0 +1,7 @@
+pub mod CsvLemmas
+pub mod EndLemmas
+pub mod HashLemmas
+pub mod JsonLetters
+pub mod NameLemmas
+pub mod ShownLemmas
+pub mod StreamLemmas

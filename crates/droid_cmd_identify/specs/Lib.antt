@@ -1,0 +1,13 @@
+pub mod CsvRows
+pub mod Endings
+pub mod EndsRead
+pub mod FileTexts
+pub mod FilesHashed
+pub mod Json
+pub mod Lines
+pub mod NameLists
+pub mod Reasons
+pub mod ShownFormats
+pub mod Siegfried
+pub mod StreamEnds
+pub mod WhyLines
