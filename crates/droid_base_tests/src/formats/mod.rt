@@ -2,7 +2,6 @@
 
 mod export;
 mod html_page;
-mod identity_page;
 mod pronom;
 mod report_page;
 mod signature_page;
