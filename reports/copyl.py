@@ -2,8 +2,8 @@ import glob, os, re, shutil, subprocess, sys, time
 src = open("/work/h/chk.py").read().split("\nif len(sys.argv) < 3")[0]
 exec(src)
 def count(g): return sum(len(f) for _,_,f in os.walk(g))
-end = time.time()+10400
-CL=["/work/h/next","/work/h/next2"]
+end = time.time()+10300
+CL=["/work/h/t1","/work/h/next"]
 maps={}
 def sums(top):
     return Map(top)
@@ -17,12 +17,13 @@ while time.time() < end:
                 try:
                     if os.path.isdir(it.home(c)): continue
                 except OSError: continue
-                for g in glob.glob(f"/tmp/rt-copy-*/repo/crates/{c}/out/rlib/{c}.rlib"):
+                for g in [f"/work/h/m/crates/{c}/out/rlib/{c}.rlib", *glob.glob(f"/tmp/rt-copy-*/repo/crates/{c}/out/rlib/{c}.rlib")]:
                     top = g.split("/crates/")[0]
                     try:
                         if top not in tops: tops[top]=Map(top)
                         if tops[top].sum(c) != it.sum(c): continue
                     except (OSError,KeyError): continue
+                    if not os.path.isfile(g+'/format'): continue
                     n = count(g); time.sleep(1)
                     if n == 0 or count(g) != n: continue
                     tmp = it.home(c) + f".tmp{os.getpid()}"; shutil.rmtree(tmp, ignore_errors=True); os.makedirs(tmp)
