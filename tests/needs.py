@@ -6,7 +6,8 @@ import shutil
 import subprocess
 import sys
 
-# the commands of which one is needed, Debian's package, and what is left out without it
+OFFICE = "libreoffice-writer-nogui libreoffice-calc-nogui libreoffice-impress-nogui"
+# the commands of which one is needed, Debian's packages, and what is left out without it
 OPTIONAL = [
     (["chromium", "chromium-browser", "chromium-headless-shell", "google-chrome"], "chromium", "the page of `report` in a browser"),
     (["groff"], "groff", "the layout of the manual page"),
@@ -14,7 +15,14 @@ OPTIONAL = [
     (["openssl"], "openssl", "keys and certificates, as files to identify"),
     (["rsync"], "rsync", "rsync beside `submit` over a slow link, in tests/bench"),
     *[([name], package, f"files that {name} makes, to identify") for name, package in [("xz", "xz-utils"), ("zstd", "zstd"), ("lz4", "lz4"), ("lzip", "lzip"), ("zip", "zip"), ("bzip2", "bzip2")]],
-]
+    *[
+        ([name], package, f"files that {name} makes, to identify")
+        for name, package in [
+            ("ffmpeg", "ffmpeg"), ("ppmtopcx", "netpbm"), ("gs", "ghostscript"), ("img2dcm", "dcmtk"), ("t1binary", "t1utils"),
+            ("ogr2ogr", "gdal-bin"), ("ssconvert", "gnumeric"), ("soffice", OFFICE), ("wget", "wget"),
+        ]
+    ],
+]  # fmt: skip
 OLDEST = (3, 10)
 
 
@@ -43,12 +51,12 @@ def install(packages):
 def main():
     if sys.version_info < OLDEST:
         sys.exit(f"the tests need Python 3.{OLDEST[1]} or later, and this is {sys.version.split()[0]}")
-    packages = [package for _, package, _ in missing()] + ["gcc", "libc6-dev"] * (not has_compiler())
+    packages = [name for _, package, _ in missing() for name in package.split()] + ["gcc", "libc6-dev"] * (not has_compiler())
     if packages and os.environ.get("INSTALL") == "1":
         print(f"installing: {' '.join(packages)}", flush=True)
         install(packages)
     for names, package, what in missing():
-        print(f"missing: {names[0]} (Debian's package {package}); left out: {what}", flush=True)
+        print(f"missing: {names[0]} (Debian's {package}); left out: {what}", flush=True)
     if not has_compiler():
         sys.exit("missing: a C compiler (Debian's package gcc), which the tests need")
 

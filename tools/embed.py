@@ -10,7 +10,8 @@ WRITTEN = os.path.join(TOP, "crates", "droid_pronom", "src", "common.rt")
 FRONT = """//! The registry of everyday formats, which the program has in itself: registries/common.csv, written here by
 //! tools/embed.py.
 
-/// The bytes of the registry, a file of RECORDS records. It takes no memory.
+/// Returns the bytes of the registry, a file of RECORDS records. Allocates nothing. It has no contract: the tests run
+/// `tools/embed.py --check`, which compares the bytes with the file.
 pub fn common_registry() -> &'static [u8] {
     COMMON.as_bytes()
 }

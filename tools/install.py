@@ -1,8 +1,10 @@
 #!/usr/bin/env python3
 """Installs a program below a folder: install.py PROGRAM FOLDER. The program goes to FOLDER/bin, its manual page to
-FOLDER/share/man/man1, its completions for bash to FOLDER/share/bash-completion/completions, and the licences of what
-it is made of to FOLDER/share/doc/droid_desk. `install.py --remove FOLDER` removes these files."""
+FOLDER/share/man/man1, its completions for bash to FOLDER/share/bash-completion/completions, the licences of what it is
+made of to FOLDER/share/doc/droid_desk, and each registry of everyday formats, the former ones too, to
+FOLDER/share/droid_desk/registries, named by its MD5. `install.py --remove FOLDER` removes these files."""
 import contextlib
+import hashlib
 import os
 import sys
 
@@ -13,7 +15,7 @@ BINARY = os.path.join("bin", manual.NAME)
 PAGE = os.path.join("share", "man", "man1", manual.NAME + ".1")
 COMPLETIONS = os.path.join("share", "bash-completion", "completions", manual.NAME)
 LICENCES = os.path.join("share", "doc", manual.NAME, "LICENSES.txt")
-FILES = (BINARY, PAGE, COMPLETIONS, LICENCES)
+REGISTRIES = os.path.join("share", manual.NAME, "registries")
 
 
 def content(path):
@@ -21,12 +23,25 @@ def content(path):
         return file.read()
 
 
+def registries():
+    """Returns the registries of everyday formats, by the paths at which they are installed."""
+    folder = os.path.join(TOP, "registries")
+    texts = [content(os.path.join(folder, name)) for name in sorted(os.listdir(folder))]
+    return {os.path.join(REGISTRIES, hashlib.md5(text).hexdigest() + ".csv"): text for text in texts}
+
+
+def files():
+    """Returns the paths of the installed files, the program's first."""
+    return [BINARY, PAGE, COMPLETIONS, LICENCES, *registries()]
+
+
 def contents(program):
     """Returns what the installed files have, in their order. It runs the program, so that none is installed that doesn't run."""
     if not manual.said(program, "--version"):
         sys.exit(f"{program} does not run here, so nothing was installed")
     page, completions = manual.page(program), manual.completions(program)
-    return content(program), page.encode(), completions.encode(), content(os.path.join(TOP, "release", "LICENSES.txt"))
+    licences = content(os.path.join(TOP, "release", "LICENSES.txt"))
+    return content(program), page.encode(), completions.encode(), licences, *registries().values()
 
 
 def put(path, content, mode):
@@ -42,7 +57,7 @@ def put(path, content, mode):
 def install(program, folder):
     """Installs all files or none, and returns their paths. A program that runs can't be overwritten, but its file can be
     replaced: so each file is written beside its place, and takes it at the end."""
-    paths, rooms = [os.path.join(folder, file) for file in FILES], []
+    paths, rooms = [os.path.join(folder, file) for file in files()], []
     try:
         for path, text in zip(paths, contents(program)):
             rooms.append(put(path, text, 0o755 if path == paths[0] else 0o644))
@@ -57,7 +72,7 @@ def install(program, folder):
 
 def remove(folder):
     """Removes the installed files that are there, and returns their paths."""
-    there = [path for path in (os.path.join(folder, file) for file in FILES) if os.path.lexists(path)]
+    there = [path for path in (os.path.join(folder, file) for file in files()) if os.path.lexists(path)]
     for path in there:
         os.remove(path)
     return there

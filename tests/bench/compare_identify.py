@@ -6,7 +6,7 @@ Without a word, all three:
 - library: /usr/lib of this machine, beside `find` with a program in C that reads both ends of each file, and beside
   `file --mime-type`, one round;
 - one: one file, from the start to the end of the program, with the everyday formats and with 2,500 others;
-- names: a list of 1,000,000 names, for the memory.
+- names: lists of 20,000 and of 200,000 names, for the memory.
 
 Prints for each the median seconds, and those of a processor, with the ratios and the limits. The rounds of both tools go in
 turns, after one that is not counted.
@@ -20,10 +20,11 @@ from random import Random
 
 from compare_profile import files_below
 from lib.costs import cost_of
+from lib.processes import measured
 from lib.program import PROGRAM
 
 ROUNDS = 5
-# one run of a program takes this many rounds
+# how often one file is identified
 STARTS = 31
 # how many times another tool's seconds `identify` may take, the seconds of one file, and the bytes that it may hold
 LIMIT_FILE = 0.05
@@ -33,8 +34,8 @@ LIMIT_MEMORY = 24_000_000
 
 
 def run(*words):
-    """Runs a command; returns its seconds, those of a processor, and its largest resident memory."""
-    status, *cost = cost_of(words)
+    """Runs a command; returns its seconds, and those of a processor."""
+    status, *cost, _ = cost_of(words)
     if status not in (0, 5):
         sys.exit(f"{words[:4]} ended with status {status}")
     return cost
@@ -84,10 +85,10 @@ def compare_one(work):
 
 
 def compare_names(work):
-    for count in (100_000, 1_000_000):
+    for count in (20_000, 200_000):
         with open(work + "/names", "wb") as file:
             file.write(b"/usr/bin/env\0" * count)
-        seconds, _, memory = run(PROGRAM, "identify", "--files-from", work + "/names", "-0")
+        seconds, memory = measured([PROGRAM, "identify", "--files-from", work + "/names", "-0"], (0,), stdout=subprocess.DEVNULL)
         print(f"identify: a list of {count} names: {seconds:.2f} seconds, {memory} bytes resident, limit {LIMIT_MEMORY}", flush=True)
 
 

@@ -1,6 +1,7 @@
 #!/usr/bin/env python3
 """Installs the program below a temporary folder (tools/install.py), and checks its files: install.py PROGRAM
 groff formats the manual page without a warning, and the completions complete commands and the options of each."""
+import hashlib
 import os
 import re
 import shutil
@@ -14,6 +15,7 @@ PROGRAM = os.path.abspath(sys.argv.pop(1))
 INSTALL = os.path.join(TOP, "tools", "install.py")
 BINARY, COMPLETIONS = "bin/droid_desk", "share/bash-completion/completions/droid_desk"
 LICENCES, PAGE = "share/doc/droid_desk/LICENSES.txt", "share/man/man1/droid_desk.1"
+REGISTRIES = os.path.join(TOP, "registries")
 
 
 def run(*words, **more):
@@ -48,8 +50,16 @@ class Install(unittest.TestCase):
         return run("bash", "-c", script, "bash", *words).split()
 
     def test_files(self):
-        self.assertEqual(self.there(), [BINARY, COMPLETIONS, LICENCES, PAGE])
+        registries = set()
+        for name in os.listdir(REGISTRIES):
+            with open(os.path.join(REGISTRIES, name), "rb") as file:
+                registries.add(f"share/droid_desk/registries/{hashlib.md5(file.read()).hexdigest()}.csv")
+        self.assertTrue(registries)
+        self.assertEqual(self.there(), sorted([BINARY, COMPLETIONS, LICENCES, PAGE, *registries]))
         self.assertEqual(run(self.path(BINARY), "--help"), run(PROGRAM, "--help"))
+        for path in registries:
+            with open(self.path(path), "rb") as file:
+                self.assertEqual(os.path.basename(path), hashlib.md5(file.read()).hexdigest() + ".csv")
 
     def test_manual_page(self):
         with open(self.path(PAGE), encoding="utf-8") as file:

@@ -15,7 +15,7 @@ import unittest
 TOP = os.path.dirname(os.path.dirname(os.path.dirname(os.path.abspath(__file__))))
 # what a copy has; of the crates it has the program's, and links to the rest
 COPIED_FILES = ["Makefile", "crates.txt", "HANDLES"]
-COPIED_FOLDERS = ["tools", "examples", "release", os.path.join("crates", "droid_desk")]
+COPIED_FOLDERS = ["tools", "examples", "registries", "release", os.path.join("crates", "droid_desk")]
 LEFT_OUT = shutil.ignore_patterns("out", "__pycache__")
 # the commands that it may run, so that no `rt` is in reach
 COMMANDS = ("make", "sh", "python3", "git")
@@ -204,7 +204,8 @@ class Install(Copy):
         self.assertEqual(status, 0, err)
         self.assertEqual(read(f"{self.room}/to/bin/droid_desk"), read(self.at("release", "droid_desk")))
         self.assertEqual(read(f"{self.room}/to/share/doc/droid_desk/LICENSES.txt"), read(self.at("release", "LICENSES.txt")))
-        self.assertEqual(out.count(b"installed: "), 4)
+        registries = {read(self.at("registries", name)) for name in os.listdir(self.at("registries"))}
+        self.assertEqual(out.count(b"installed: "), 4 + len(registries))
 
     def test_a_place_where_nothing_can_be_written(self):
         write(f"{self.room}/to", b"")

@@ -5,7 +5,7 @@ import gzip
 import lzma
 import tarfile
 from io import BytesIO
-from zipfile import ZIP_DEFLATED, ZIP_STORED
+from zipfile import ZIP_DEFLATED, ZIP_STORED, ZipFile, ZipInfo
 from zlib import crc32
 
 from documents import cut, package, with_many
@@ -82,6 +82,19 @@ def record(version):
     return b"WARC/" + version + b"\r\n" + head + b"\r\n\r\n\r\n"
 
 
+def siard(namespace, far=0, kind=ZIP_STORED):
+    """A database without content. `far` bytes stand before and behind its metadata."""
+    file = BytesIO()
+    with ZipFile(file, "w", kind) as archive:
+        archive.writestr(ZipInfo("content/schema0/table0/table0.xml"), bytes(far), ZIP_STORED)
+        archive.writestr(ZipInfo("header/metadata.xsd"), b"<xs:schema/>", kind)
+        text = f'<?xml version="1.0" encoding="utf-8"?>\n<siardArchive xmlns="{namespace}" version="1.0"></siardArchive>\n'
+        archive.writestr(ZipInfo("header/metadata.xml"), text, kind)
+    return file.getvalue()
+
+
+SIARD_1 = "http://www.bar.admin.ch/xmlns/siard/1.0/metadata.xsd"
+SIARD_2 = "http://www.bar.admin.ch/xmlns/siard/2/metadata.xsd"
 MANIFEST = "META-INF/MANIFEST.MF"
 CHECKS = (lzma.CHECK_NONE, lzma.CHECK_CRC32, lzma.CHECK_CRC64)
 LAYOUTS = (tarfile.USTAR_FORMAT, tarfile.PAX_FORMAT, tarfile.GNU_FORMAT)
@@ -98,7 +111,7 @@ SAMPLES = [
     ("x-fmt/266", "a.tgz", gzip.compress(tar(tarfile.USTAR_FORMAT), mtime=0)),
     ("x-fmt/268", "a.bz2", bz2.compress(TEXT)),
     ("x-fmt/268", "a.bz2", bz2.compress(b"", 1)),
-    *[("movkrin/xz", "a.xz", lzma.compress(TEXT, check=check)) for check in CHECKS],
+    *[("fmt/1098", "a.xz", lzma.compress(TEXT, check=check)) for check in CHECKS],
     ("movkrin/lzip", "a.lz", lzip()),
     ("movkrin/zstd", "a.zst", zstd_frame()),
     ("movkrin/zstd", "a.zst", le32(0x184D2A53, 4) + b"note" + zstd_frame()),
@@ -108,15 +121,21 @@ SAMPLES = [
     ("movkrin/rar-4", "a.rar", b"Rar!\x1a\7\0" + b"\xcf\x90\x73\0\0\x0d\0" + bytes(6)),
     ("fmt/613", "a.rar", b"Rar!\x1a\7\1\0" + le32(0x6A3DB9C4) + b"\3\1\0\0"),
     ("movkrin/cab", "a.cab", cabinet()),
-    ("movkrin/cpio", "a.cpio", cpio(b"070701")),
-    ("movkrin/cpio", "a.cpio", cpio(b"070702")),
-    ("movkrin/cpio", "a.cpio", portable_cpio()),
+    ("fmt/635", "a.cpio", cpio(b"070701")),
+    ("fmt/635", "a.cpio", cpio(b"070702")),
+    ("fmt/635", "a.cpio", portable_cpio()),
     ("movkrin/ar", "a.a", b"!<arch>\n" + member(b"fox.txt/", TEXT)),
     ("movkrin/deb", "a.deb", debian()),
     ("movkrin/rpm", "a.rpm", b"\xed\xab\xee\xdb\3\0" + be16(0, 1) + b"fox-1.0-1".ljust(66, b"\0") + be16(1, 5) + bytes(16)),
-    ("movkrin/jar", "a.jar", package(MANIFEST, "Fox.class")),
-    ("movkrin/jar", "a.jar", with_many(MANIFEST)),
-    ("movkrin/jar", "a.jar", cut(package(MANIFEST, "Fox.class"))),
+    ("x-fmt/412", "a.jar", package(MANIFEST, "Fox.class")),
+    ("x-fmt/412", "a.jar", with_many(MANIFEST)),
+    ("x-fmt/412", "a.jar", cut(package(MANIFEST, "Fox.class"))),
+    ("movkrin/siard", "a.siard", siard(SIARD_2, kind=ZIP_DEFLATED)),
+    ("movkrin/siard", "a.siard", siard(SIARD_2, 70_000, ZIP_DEFLATED)),
+    ("movkrin/siard", "a.siard", siard(SIARD_2, kind=ZIP_DEFLATED) + bytes(70_000)),
+    ("fmt/161", "a.siard", siard(SIARD_1)),
+    ("fmt/161", "a.siard", siard(SIARD_1, 70_000)),
+    ("fmt/161", "a.siard", siard(SIARD_1) + bytes(70_000)),
     ("movkrin/apk", "a.apk", package("AndroidManifest.xml", "classes.dex", MANIFEST)),
     ("movkrin/apk", "a.apk", with_many("AndroidManifest.xml", "classes.dex")),
     ("movkrin/apk", "a.apk", cut(package("AndroidManifest.xml", "classes.dex"))),

@@ -15,13 +15,15 @@ VERSION = "file-5.44"
 NOT_KNOWN = {"application/octet-stream", "text/plain"}
 NOT_KNOWN_AT_TIMES = """
     dds emf ilbm dvi tzif onenote caf rf64 wavpack swf mpeg-ts dex npy parquet arrow avro netcdf pcapng shp vhd vhdx vmdk
-    pbm kml gpx xslt xsd mathml musicxml plist mbox pem-certificate pem-key webvtt
+    pbm kml gpx mathml musicxml plist pem-certificate pem-key webvtt cr3 rw2 mrw gml type1
 """.split()
-NOT_KNOWN_BY_PUID = {"x-fmt/384", "fmt/569", "fmt/573", "x-fmt/409", "fmt/92", "fmt/278"}
+NOT_KNOWN_BY_PUID = {"x-fmt/384", "fmt/569", "fmt/573", "x-fmt/409", "fmt/92", "fmt/278", "fmt/720", "x-fmt/280", "x-fmt/281"}
 
 # the same type by its name before it was registered, or by another name
 OTHER_NAMES = {
     "movkrin/j2c": "image/x-jp2-codestream",
+    "movkrin/x3f": "image/x-x3f",
+    **{f"fmt/{number}": "image/x-pcx" for number in range(86, 91)},
     "movkrin/qoi": "image/x-qoi",
     "movkrin/pgm": "image/x-portable-greymap",
     "movkrin/odb": "application/vnd.oasis.opendocument.database",
@@ -32,28 +34,48 @@ OTHER_NAMES = {
     "movkrin/bwf": "audio/x-wav",
     "movkrin/rf64": "audio/x-wav",
     "movkrin/m4a": "audio/x-m4a",
+    "movkrin/aac": "audio/x-hx-aac-adts",
+    "movkrin/ac3": "audio/vnd.dolby.dd-raw",
+    "movkrin/eac3": "audio/vnd.dolby.dd-raw",
+    "x-fmt/152": "video/x-dv",
     "fmt/569": "video/x-matroska",
     "fmt/5": "video/x-msvideo",
     "movkrin/swf": "application/x-shockwave-flash",
-    "movkrin/ttf": "font/sfnt",
-    "movkrin/otf": "application/vnd.ms-opentype",
+    "x-fmt/9": "application/x-dbf",
+    "movkrin/dbf": "application/x-dbf",
+    "x-fmt/453": "font/sfnt",
+    "fmt/520": "application/vnd.ms-opentype",
+    "movkrin/pfb": "font/x-postscript-pfb",
 }
 
 WORD = "application/vnd.openxmlformats-officedocument."
 # it gives the format's container, or a wider or a narrower kind
 WIDER_OR_NARROWER = {
-    "movkrin/apng": {"image/png"},
+    "fmt/935": {"image/png"},
     "movkrin/dng": {"image/tiff"},
+    "fmt/202": {"image/tiff"},
+    "fmt/132": {"video/x-ms-asf"},
+    "fmt/133": {"video/x-ms-asf"},
+    "movkrin/arw": {"image/tiff"},
+    "movkrin/pef": {"image/tiff"},
     "movkrin/heic": {"image/heif"},
+    "fmt/126": {"application/x-ole-storage"},
+    "movkrin/pub": {"application/x-ole-storage"},
+    "movkrin/vsd": {"application/x-ole-storage"},
     "fmt/412": {"application/zip"},
     "fmt/214": {"application/zip"},
     "fmt/215": {"application/zip"},
-    "movkrin/docm": {WORD + "wordprocessingml.document"},
-    "movkrin/xlsm": {WORD + "spreadsheetml.sheet"},
-    "movkrin/pptm": {WORD + "presentationml.presentation"},
-    "movkrin/xlsb": {"application/zip"},
-    "movkrin/jar": {"application/zip"},
+    "fmt/523": {WORD + "wordprocessingml.document"},
+    "fmt/445": {WORD + "spreadsheetml.sheet"},
+    "fmt/487": {WORD + "presentationml.presentation"},
+    "fmt/595": {"application/zip"},
+    "x-fmt/412": {"application/zip"},
     "movkrin/apk": {"application/zip"},
+    "movkrin/siard": {"application/zip"},
+    "fmt/161": {"application/zip"},
+    "movkrin/key-09": {"application/zip"},
+    "movkrin/iwork-09": {"application/zip"},
+    "movkrin/iwork": {"application/zip"},
     "movkrin/amr-wb": {"audio/amr"},
     "movkrin/m4a": {"video/mp4"},
     "fmt/199": {"video/x-m4v"},
@@ -68,14 +90,17 @@ WIDER_OR_NARROWER = {
     "movkrin/xhtml": {"text/xml"},
     "fmt/102": {"text/xml", "text/html"},
     "fmt/103": {"text/xml", "text/html"},
-    **{"movkrin/" + name: {"text/xml"} for name in "atom rss kml gpx xslt xsd mathml musicxml plist".split()},
+    "x-fmt/280": {"text/xml"},
+    "x-fmt/281": {"text/xml"},
+    **{"movkrin/" + name: {"text/xml"} for name in "atom rss kml gpx gml mathml musicxml plist fodt fods fodp fodg".split()},
 }
 
-# it goes by the content: a picture within a page, or a title like that of a page
+# it goes by the content: a picture within a page, a title like that of a page, or a sheet in a presentation
 SOMETHING_INSIDE = {
+    "fmt/126": "application/vnd.ms-excel",
     "fmt/96": "image/svg+xml",
     "movkrin/xhtml": "image/svg+xml",
-    "movkrin/xslt": "image/svg+xml",
+    "x-fmt/281": "image/svg+xml",
     "fmt/102": "image/svg+xml",
     "fmt/103": "image/svg+xml",
     "movkrin/atom": "text/html",

@@ -1,4 +1,5 @@
-"""docs/COMMON_REGISTRY.md has each format as the registry has it, and names its specification."""
+"""docs/COMMON_REGISTRY.md has each format as the registry has it, and names its specification; README.md says how many
+there are."""
 
 import os
 import re
@@ -9,6 +10,8 @@ from lib.program import TOP
 
 with open(os.path.join(TOP, "docs", "COMMON_REGISTRY.md"), encoding="utf-8") as file:
     PAGE = file.read().splitlines()
+with open(os.path.join(TOP, "README.md"), encoding="utf-8") as file:
+    README = file.read()
 
 SEQUENCE = re.compile(r"(BOF|EOF) ([0-9]+)(?:-([0-9]+))? `([^`]+)`")
 
@@ -55,6 +58,10 @@ class Page(unittest.TestCase):
         self.assertEqual(list(there), list(had))
         for identifier in had:
             self.assertEqual(there[identifier], had[identifier], identifier)
+
+    def test_numbers(self):
+        pronom = sum(not puid.startswith("movkrin/") for puid in FORMATS)
+        self.assertIn(f"{len(FORMATS)} [everyday formats](docs/COMMON_REGISTRY.md), {pronom} with PRONOM's identifier", README)
 
     def test_priorities(self):
         there = {over.strip("`"): below.replace("`", "").split(", ") for over, below in rows("Identifier", "Stands over")}

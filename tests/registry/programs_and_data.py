@@ -60,6 +60,35 @@ def woff(magic, flavour):
     return magic + flavour + be32(44) + be16(0, 0) + be32(12) + be16(1, 0) + bytes(20)
 
 
+def dbase(version, *fields, end=b"\r"):
+    """A table without records. A field is its name, type and length."""
+    descriptors = b"".join(
+        name.ljust(11, b"\0") + kind + bytes(4) + bytes([length, 0]) + bytes(14) for name, kind, length in fields
+    )
+    lengths = le16(32 + len(descriptors) + len(end), 1 + sum(length for _, _, length in fields))
+    return bytes([version, 126, 1, 31]) + le32(0) + lengths + bytes(20) + descriptors + end + b"\x1a"
+
+
+FIELDS = [(b"NAME", b"C", 20), (b"BORN", b"D", 8), (b"COUNT", b"N", 5), (b"TRUE", b"L", 1), (b"NOTE", b"M", 10)]
+FOX_FIELDS = [(b"ID", b"I", 4), *FIELDS]
+
+
+def part(kind, content):
+    """A segment of a binary font file: 1 for text, 2 for bytes."""
+    return bytes([0x80, kind]) + le32(len(content)) + content
+
+
+def profile(major, kind):
+    """An ICC profile without tags."""
+    header = be32(132) + bytes(4) + bytes([major, 0x20, 0, 0]) + kind + b"RGB XYZ " + be16(2026, 1, 1, 0, 0, 0) + b"acsp"
+    return header.ljust(128, b"\0") + be32(0)
+
+
+DIF = "TABLE\n0,1\n\"\"\nVECTORS\n0,1\n\"\"\nTUPLES\n0,1\n\"\"\nDATA\n0,0\n\"\"\n-1,0\nBOT\n0,5\nV\n-1,0\nEOD\n"
+SYLK = "ID;PFOX\nC;X1;Y1;K5\nE\n"
+SYLK_ROWS = ("B;X1;Y1", "P;PGeneral", "F;W1 1 9", "O;E")
+TYPE_1 = (b"%!PS-AdobeFont-1.0: Fox 1.0\n", b"%!FontType1-1.0: Fox 1.0\n")
+FONT = b"11 dict begin\n/FontName /Fox def\ncurrentfile eexec\n"
 FIXED = be32(0x10000)
 ARRAY = b"{'descr': '<f8', 'fortran_order': False, 'shape': (0,), }"
 SAMPLES = [
@@ -80,8 +109,8 @@ SAMPLES = [
     ("movkrin/mach-o", "a.o", be32(0xFEEDFACE, 18, 0, 1, 0, 0, 0)),
     ("movkrin/mach-o", "a.o", be32(0xFEEDFACF, 0x01000012, 0, 1, 0, 0, 0, 0)),
     ("movkrin/mach-o-fat", "a.dylib", be32(0xCAFEBABE, 2, 0x01000007, 3, 4096, 100, 12, 0x0100000C, 0, 8192, 100, 12)),
-    ("movkrin/java-class", "Fox.class", be32(0xCAFEBABE) + be16(0, 52, 1, 0x21, 0, 0, 0, 0, 0, 0)),
-    ("movkrin/java-class", "Fox.class", be32(0xCAFEBABE) + be16(3, 45, 1, 0x21, 0, 0, 0, 0, 0, 0)),
+    ("x-fmt/415", "Fox.class", be32(0xCAFEBABE) + be16(0, 52, 1, 0x21, 0, 0, 0, 0, 0, 0)),
+    ("x-fmt/415", "Fox.class", be32(0xCAFEBABE) + be16(3, 45, 1, 0x21, 0, 0, 0, 0, 0, 0)),
     ("movkrin/wasm", "a.wasm", b"\0asm" + le32(1)),
     ("movkrin/dex", "classes.dex", b"dex\n035\0" + bytes(104)),
     ("movkrin/dex", "classes.dex", b"dex\n041\0" + bytes(104)),
@@ -101,6 +130,16 @@ SAMPLES = [
     ("movkrin/pcap", "a.pcap", be32(0xA1B23C4D) + be16(2, 4) + be32(0, 0, 65535, 1)),
     ("movkrin/pcapng", "a.pcapng", le32(0x0A0D0D0A, 28, 0x1A2B3C4D) + le16(1, 0) + b"\xff" * 8 + le32(28)),
     ("movkrin/pcapng", "a.pcapng", be32(0x0A0D0D0A, 28, 0x1A2B3C4D) + be16(1, 0) + b"\xff" * 8 + be32(28)),
+    *[("x-fmt/9", "a.dbf", dbase(3, field)) for field in FIELDS[:-1]],
+    ("x-fmt/9", "a.dbf", dbase(0x83, *FIELDS)),
+    ("x-fmt/9", "a.dbf", dbase(3, (b"name", b"F", 10), *FIELDS, end=b"\r\0")),
+    *[("movkrin/dbf", "a.dbf", dbase(version, *FIELDS)) for version in (0x43, 0x63, 0x8B, 0xCB, 0xF5, 0xFB)],
+    *[("movkrin/dbf", "a.dbf", dbase(version, *FOX_FIELDS, end=b"\r" + bytes(263))) for version in (0x30, 0x31, 0x32)],
+    *[("movkrin/sylk", "a.slk", SYLK.replace("\n", end).encode("ascii")) for end in ("\n", "\r\n", "\r")],
+    *[("movkrin/sylk", "a.sylk", SYLK.replace("C;X1;Y1;K5", row).encode("ascii")) for row in SYLK_ROWS],
+    *[("movkrin/dif", "a.dif", DIF.replace("\n", end).encode("ascii")) for end in ("\n", "\r\n", "\r")],
+    *[("movkrin/icc", "a.icc", profile(4, kind)) for kind in (b"scnr", b"mntr", b"prtr", b"link", b"spac", b"abst", b"nmcl")],
+    *[("movkrin/icc", "a.icm", profile(major, b"mntr")) for major in (2, 5)],
     ("movkrin/shp", "a.shp", be32(9994, 0, 0, 0, 0, 0, 50) + le32(1000, 1) + bytes(64)),
     ("movkrin/gettext-mo", "a.mo", le32(0x950412DE, 0, 0, 28, 28, 0, 28)),
     ("movkrin/gettext-mo", "a.mo", be32(0x950412DE, 0x10000, 0, 28, 28, 0, 28) + bytes(20)),
@@ -111,11 +150,13 @@ SAMPLES = [
     ("movkrin/vhdx", "a.vhdx", b"vhdxfile" + "fox".encode("utf-16-le") + bytes(498)),
     ("movkrin/qcow2", "a.qcow2", b"QFI\xfb" + be32(3, 0, 0, 0, 16, 0, 4096) + bytes(72)),
     ("movkrin/vmdk", "a.vmdk", b"KDMV" + le32(1, 3) + bytes(500)),
-    ("movkrin/ttf", "a.ttf", sfnt(FIXED, 11)),
-    ("movkrin/ttf", "a.ttf", sfnt(FIXED, 20)),
-    ("movkrin/otf", "a.otf", sfnt(b"OTTO", 9)),
+    ("x-fmt/453", "a.ttf", sfnt(FIXED, 11)),
+    ("x-fmt/453", "a.ttf", sfnt(FIXED, 20)),
+    ("fmt/520", "a.otf", sfnt(b"OTTO", 9)),
     ("movkrin/ttc", "a.ttc", b"ttcf" + be32(0x10000, 2, 20, 200)),
     ("movkrin/ttc", "a.ttc", b"ttcf" + be32(0x20000, 2, 32, 200, 0, 0, 0)),
     *[("movkrin/woff", "a.woff", woff(b"wOFF", flavour)) for flavour in (FIXED, b"OTTO", b"true")],
+    *[("movkrin/type1", "a.pfa", first + FONT + b"0" * 512 + b"\ncleartomark\n") for first in TYPE_1],
+    *[("movkrin/pfb", "a.pfb", part(1, first + FONT) + part(2, b"abcd") + b"\x80\3") for first in TYPE_1],
     *[("movkrin/woff2", "a.woff2", woff(b"wOF2", flavour)) for flavour in (FIXED, b"OTTO", b"true", b"ttcf")],
 ]

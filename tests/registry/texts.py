@@ -1,4 +1,9 @@
-"""Texts with a signature, by their specifications."""
+"""Texts with a signature, by their specifications, and mail as Python's library writes it."""
+
+import mailbox
+import os
+import tempfile
+from email.mime.text import MIMEText
 
 UTF_8 = b"\xef\xbb\xbf"
 XML = b'<?xml version="1.0" encoding="UTF-8"?>\n'
@@ -43,8 +48,44 @@ def drawn(version):
     return b'<svg width="1" height="1"\n version="' + version + b'" viewBox="0 0 1 1"\n xmlns="http://www.w3.org/2000/svg"/>\n'
 
 
+def flat(kind, quote=b'"'):
+    """A flat OpenDocument file."""
+    namespaces = b'xmlns:office="urn:oasis:names:tc:opendocument:xmlns:office:1.0"\n xmlns:xhtml="http://www.w3.org/1999/xhtml"'
+    said = b" office:version=\"1.2\" office:mimetype=" + quote + b"application/vnd.oasis.opendocument." + kind + quote
+    return b"<office:document " + namespaces + said + b"><office:body/></office:document>\n"
+
+
+def features(prefix, version):
+    """A feature collection, by OGR or a web feature service."""
+    root = prefix + b"FeatureCollection"
+    schema = b' xmlns:xsi="http://www.w3.org/2001/XMLSchema-instance"\n'
+    return b"<" + root + b"\n" + schema + b' xmlns:gml="http://www.opengis.net/gml' + version + b'"></' + root + b">\n"
+
+
 def mail(first, *rest):
     return b"\r\n".join([first, *rest, b"", b"Good morning.", b""])
+
+
+def message():
+    """A message of Python's library."""
+    text = MIMEText("Good morning.\n")
+    text["Subject"], text["From"], text["Date"] = "Morning", "fox@example.org", "Thu, 1 Jan 2026 00:00:00 +0000"
+    return text
+
+
+def written():
+    return message().as_bytes()
+
+
+def gathered():
+    """A mailbox of Python's library."""
+    with tempfile.TemporaryDirectory() as folder:
+        path = os.path.join(folder, "mbox")
+        box = mailbox.mbox(path)
+        box.add(message())
+        box.close()
+        with open(path, "rb") as file:
+            return file.read()
 
 
 def armour(label, body):
@@ -65,7 +106,9 @@ SUBJECT, TRACE = b"Subject: Morning", b"Received: from a.example by b.example; T
 # the first field of a message, by the program that wrote or delivered it
 FIRST = (b"Return-Path: <fox@example.org>", b"Delivered-To: dog@example.org", TRACE, b"Message-ID: <1@example.org>",
          b"Message-Id: <1@example.org>", b"MIME-Version: 1.0", SUBJECT, b"To: dog@example.org", b"Reply-To: fox@example.org",
-         b"X-Mailer: Fox")  # fmt: skip
+         b"X-Mailer: Fox", b"Content-Type: text/plain", b"DKIM-Signature: v=1", b"Authentication-Results: example.org; none",
+         b"ARC-Seal: i=1", b"Sender: fox@example.org", b"Cc: cat@example.org", b"References: <0@example.org>",
+         b"In-Reply-To: <0@example.org>", b"User-Agent: Fox")  # fmt: skip
 
 # vocabularies of XML: each is identified with a declaration and without
 ROOTS = [
@@ -73,18 +116,30 @@ ROOTS = [
     ("movkrin/rss", "a.rss", b'<rss version="2.0"><channel><title>Fox</title></channel></rss>'),
     ("movkrin/kml", "a.kml", b'<kml xmlns="http://www.opengis.net/kml/2.2"><Document/></kml>'),
     ("movkrin/gpx", "a.gpx", b'<gpx version="1.1" creator="Fox" xmlns="http://www.topografix.com/GPX/1/1"/>'),
-    ("movkrin/xslt", "a.xsl", b'<xsl:stylesheet version="1.0" xmlns:xsl="http://www.w3.org/1999/XSL/Transform"/>'),
-    ("movkrin/xslt", "a.xslt", b'<xsl:transform version="1.0" xmlns:xsl="http://www.w3.org/1999/XSL/Transform"/>'),
-    ("movkrin/xsd", "a.xsd", b'<xs:schema xmlns:xs="http://www.w3.org/2001/XMLSchema"/>'),
-    ("movkrin/xsd", "a.xsd", b'<xsd:schema xmlns:xsd="http://www.w3.org/2001/XMLSchema"/>'),
-    ("movkrin/xsd", "a.xsd", b'<schema xmlns="http://www.w3.org/2001/XMLSchema"/>'),
+    ("movkrin/gml", "a.gml", features(b"ogr:", b"")),
+    ("movkrin/gml", "a.gml", features(b"gml:", b"/3.2")),
+    ("movkrin/gml", "a.gml", features(b"wfs:", b"/3.2")),
+    ("movkrin/gml", "a.gml", features(b"", b"/3.2")),
+    ("x-fmt/281", "a.xsl", b'<xsl:stylesheet version="1.0" xmlns:xsl="http://www.w3.org/1999/XSL/Transform"/>'),
+    ("x-fmt/281", "a.xslt", b'<xsl:transform version="1.0" xmlns:xsl="http://www.w3.org/1999/XSL/Transform"/>'),
+    ("x-fmt/280", "a.xsd", b'<xs:schema xmlns:xs="http://www.w3.org/2001/XMLSchema"/>'),
+    ("x-fmt/280", "a.xsd", b'<xsd:schema xmlns:xsd="http://www.w3.org/2001/XMLSchema"/>'),
+    ("x-fmt/280", "a.xsd", b'<schema xmlns="http://www.w3.org/2001/XMLSchema"/>'),
     ("movkrin/mathml", "a.mml", FORMULA),
     ("movkrin/musicxml", "a.musicxml", document(b"score-partwise", b"-//Recordare//DTD MusicXML 4.0 Partwise//EN")),
     ("movkrin/musicxml", "a.musicxml", document(b"score-timewise", b"-//Recordare//DTD MusicXML 4.0 Timewise//EN")),
     ("movkrin/plist", "a.plist", document(b"plist", b"-//Apple//DTD PLIST 1.0//EN")),
     ("movkrin/svg", "a.svg", POINT),
 ]  # fmt: skip
+FLAT = [
+    ("movkrin/fodt", b"text"),
+    ("movkrin/fods", b"spreadsheet"),
+    ("movkrin/fodp", b"presentation"),
+    ("movkrin/fodg", b"graphics"),
+]
 SVG_1_0, SVG_1_1 = b"-//W3C//DTD SVG 1.0//EN", b"-//W3C//DTD SVG 1.1//EN"
+
+SPACES = (b"\n", b"\r\n", b" ", b"\t", b"\n\n", b"\r\n\r\n", b"  ", UTF_8 + b"\n", UTF_8 + b"\r\n")
 
 PAGES = [
     ("fmt/96", "a.html", b"<HTML>\n<HEAD><TITLE>Fox</TITLE></HEAD><BODY>Fox</BODY></HTML>\n"),
@@ -96,6 +151,9 @@ PAGES = [
         for declaration in (XML, XML_1_1)
         for inside in (b"", POINT + FORMULA, drawn(b"1.0") + drawn(b"1.1"))
     ],
+    *[("fmt/96", "a.html", space + b"<html><head></head></html>\n") for space in SPACES],
+    *[("fmt/471", "a.html", space + b"<!DOCTYPE html>\n") for space in SPACES],
+    *[("fmt/102", "a.html", space + page(b"-//W3C//DTD XHTML 1.0 Strict//EN")) for space in SPACES],
     ("fmt/97", "a.html", page(b"-//IETF//DTD HTML 2.0//EN")),
     ("fmt/97", "a.html", page(b"-//IETF//DTD HTML//EN")),
     ("fmt/97", "a.html", page(b"-//IETF//DTD HTML Strict//EN")),
@@ -129,11 +187,14 @@ SAMPLES = [
     *ROOTS,
     *[(puid, name, XML + content) for puid, name, content in ROOTS],
     *[(puid, name, XML_1_1 + content) for puid, name, content in ROOTS],
-    *[("movkrin/xslt", "a.xsl", stylesheet(content)) for _, _, content in ROOTS if not content.startswith(b"<!DOCTYPE")],
-    ("movkrin/xslt", "a.xsl", stylesheet(b"<html><body/></html>")),
-    ("movkrin/xslt", "a.xsl", stylesheet(b"<html " + XHTML + b"><body/></html>")),
-    ("movkrin/xslt", "a.xsl", stylesheet(drawn(b"1.0"))),
-    ("movkrin/xslt", "a.xsl", stylesheet(drawn(b"1.1"))),
+    *[("x-fmt/281", "a.xsl", stylesheet(content)) for _, _, content in ROOTS if not content.startswith(b"<!DOCTYPE")],
+    *[(puid, "a." + puid[-4:], XML + flat(kind)) for puid, kind in FLAT],
+    *[(puid, "a." + puid[-4:], XML + b"\n" + flat(kind, b"'")) for puid, kind in FLAT],
+    *[("x-fmt/281", "a.xsl", stylesheet(flat(kind))) for _, kind in FLAT],
+    ("x-fmt/281", "a.xsl", stylesheet(b"<html><body/></html>")),
+    ("x-fmt/281", "a.xsl", stylesheet(b"<html " + XHTML + b"><body/></html>")),
+    ("x-fmt/281", "a.xsl", stylesheet(drawn(b"1.0"))),
+    ("x-fmt/281", "a.xsl", stylesheet(drawn(b"1.1"))),
     ("fmt/91", "a.svg", picture(SVG_1_0)),
     ("fmt/92", "a.svg", picture(SVG_1_1)),
     ("fmt/91", "a.svg", picture(SVG_1_0).replace(XML, XML_1_1)),
@@ -144,10 +205,12 @@ SAMPLES = [
     *[("fmt/278", "a.eml", mail(first, SENDER, MOMENT, SUBJECT)) for first in FIRST],
     ("fmt/278", "a.eml", mail(SENDER, SUBJECT, MOMENT)),
     ("fmt/278", "a.eml", mail(MOMENT, SENDER)),
-    ("movkrin/mbox", "a.mbox", b"From fox@example.org Thu Jan  1 00:00:00 2026\n" + mail(SENDER, MOMENT).replace(b"\r", b"")),
+    ("fmt/278", "a.eml", written()),
+    ("fmt/720", "a.mbox", gathered()),
+    ("fmt/720", "a.mbox", b"From fox@example.org Thu Jan  1 00:00:00 2026\n" + mail(SENDER, MOMENT).replace(b"\r", b"")),
     ("movkrin/vcard", "a.vcf", b"BEGIN:VCARD\r\nVERSION:4.0\r\nFN:Fox\r\nEND:VCARD\r\n"),
     ("movkrin/vcard", "a.vcf", b"begin:vcard\nversion:3.0\nfn:Fox\nend:vcard\n"),
-    ("movkrin/icalendar", "a.ics", b"BEGIN:VCALENDAR\r\nVERSION:2.0\r\nPRODID:-//Fox//EN\r\nEND:VCALENDAR\r\n"),
+    ("fmt/388", "a.ics", b"BEGIN:VCALENDAR\r\nVERSION:2.0\r\nPRODID:-//Fox//EN\r\nEND:VCALENDAR\r\n"),
     ("movkrin/pem-certificate", "a.pem", pem(b"CERTIFICATE")),
     ("movkrin/pem-key", "a.pem", pem(b"PRIVATE KEY")),
     ("movkrin/pem-key", "a.key", pem(b"ENCRYPTED PRIVATE KEY")),

@@ -5,7 +5,7 @@ use Rattle.std.proofs.lemmas.List.{length-map}
 use Rattle.std.specs.Borrow.{Bor}
 use Rattle.clap.specs.Words.{Row, Text, first_of, one_of, subcommand_rows_of}
 use Rattle.clap.specs.declared.parser.matches.ArgMatches.{ArgMatches}
-use Rattle.droid_arguments.specs.Identifying.{IsForm, IsHashOrNone, IsIdentify, dashes, files_in, form_of, is_dash, misfits}
+use Rattle.droid_arguments.specs.Identifying.{IsForm, IsIdentify, dashes, files_in, form_of, is_dash, misfits}
 use Rattle.droid_arguments.specs.Registries.{names_two}
 use Rattle.droid_arguments.specs.Values.{IsFlag}
 use Rattle.droid_arguments.specs.declared.identify.IdentifyForm.{IdentifyForm}

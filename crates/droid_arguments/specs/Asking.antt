@@ -9,7 +9,6 @@ use Rattle.droid_arguments.specs.declared.arguments.Asked.{Asked}
 use Rattle.droid_arguments.specs.declared.arguments.Asked.TheVariants.{Profile, Submit, Verify, Report, Identify}
 use Rattle.droid_arguments.specs.declared.arguments.Asked.TheVariants.{Registry}
 use Rattle.droid_arguments.specs.declared.arguments.Asked.TheVariants.{Script, Run, Serve, Send, Compact}
-use Rattle.droid_arguments.specs.declared.identify.IdentifyOptions.{IdentifyOptions}
 use Rattle.droid_arguments.specs.declared.registry_options.RegistryOptions.{RegistryOptions}
 use Rattle.droid_arguments.specs.declared.connection_options.ServeOptions.{ServeOptions}
 use Rattle.droid_arguments.specs.declared.profile.ProfileOptions.{ProfileOptions}
@@ -178,5 +177,14 @@ FailsBy app words error =
     fault_of app words ≡ [] → (asked : Asked) → IsAsked (subcommand_of app words) asked
     → kind_of error ≡ parsing.OutOfMemory
 
+-- valid words that ask for something are refused only for lack of memory
 abbrev pub RefusesWords : List Text → NoCommand → Type 0
 RefusesWords words why = fault_of program words ≡ [] → (asked : Asked) → WordsAsk words asked → why ≡ Memory
+
+-- Words without a fault are refused only where memory runs out: so says an error of the parse, and the reason why there
+-- is no command to run.
+abbrev pub FailsFaulty : App → List Text → Error → Type 0
+FailsFaulty app words error = fault_of app words ≡ [] → kind_of error ≡ parsing.OutOfMemory
+
+abbrev pub RefusesFaulty : List Text → NoCommand → Type 0
+RefusesFaulty words why = fault_of program words ≡ [] → why ≡ Memory

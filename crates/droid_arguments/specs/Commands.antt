@@ -1,4 +1,6 @@
--- The program's commands and their options, as a parse reads them (this project's own).
+-- The program's commands and their options, as a parse reads them (this project's own). A `.._option` or `.._flag` is
+-- the rule of the option of that name: which values it takes. A `.._command` is the command of that name with its
+-- rules, in the order in which they are declared; other commands are the first part of one.
 use Rattle.std.specs.Prelude.{true, Some, codes}
 use Rattle.clap.specs.Words.{App, Rule, new_app, with_rule, with_subcommand}
 use Rattle.clap.specs.declared.builder.value_parser.ValueParser.TheVariants.{NonEmptyString}

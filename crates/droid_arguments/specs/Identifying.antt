@@ -32,10 +32,12 @@ is_dash name = bytes_eq name (codes "-")
 abbrev pub dashes : List Text → ℕ
 dashes files = count_by is_dash files
 
+-- the list of files is read from standard input
 abbrev pub is_input : Option Text → Bool
 is_input None = false
 is_input (Some list) = is_dash list
 
+-- the output is lines
 abbrev pub is_lines : IdentifyForm → Bool
 is_lines Lines = true
 is_lines Puids = false
@@ -77,6 +79,7 @@ form_of false true true puid = None
 form_of false true false true = None
 form_of false false true true = None
 
+-- the form that the four flags name
 pub record IsForm (rows : List Row) (form : IdentifyForm) : Type 0 where
   pub csv : Bool
   pub is_csv : IsFlag (one_of (codes "csv") rows) csv

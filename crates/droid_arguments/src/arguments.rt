@@ -153,7 +153,7 @@ fn asked_of<'a>(command: &mut Command<'a>, words: &'a [String]) -> Result<Asked<
     }
 }
 
-/// Says what is wrong with words that match the command, but ask for nothing.
+/// Says what is wrong with words that match the command, but ask for nothing. Without a contract: each text is tested.
 fn mistake_in(matches: &ArgMatches<'_>) -> &'static str {
     if let Some(profile) = matches.subcommand_matches(PROFILE) {
         return match hash_of(profile.get_str(HASH)) {
@@ -176,7 +176,7 @@ fn mistake_in(matches: &ArgMatches<'_>) -> &'static str {
     }
 }
 
-/// Says what is wrong with options of `serve` that ask for nothing.
+/// Says what is wrong with options of `serve` that ask for nothing: two registries, or an end and none.
 fn mistake_in_serve(serve: &ArgMatches<'_>) -> &'static str {
     match source_of(serve) {
         Some(_) => NO_END,
@@ -184,8 +184,8 @@ fn mistake_in_serve(serve: &ArgMatches<'_>) -> &'static str {
     }
 }
 
-/// Reads the matched words. They ask for nothing if they name an unknown hash, two registries, or a list of checksums
-/// without a hash.
+/// Reads the matched words. They ask for nothing if they name an unknown hash or two registries, or if their options do
+/// not fit together.
 fn asked_by<'a>(matches: &ArgMatches<'a>) -> Option<Asked<'a>>
     ensures { Reads result (IsAsked (subcommand_rows_of matches.now)) }
 {

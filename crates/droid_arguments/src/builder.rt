@@ -43,7 +43,8 @@ impl<'a> Builder<'a> {
     }
 }
 
-/// Adds an option to a command, if there was memory for the command.
+/// Adds an option to a command, if there was memory for the command. `with_rule` is the kit's: the command with one
+/// more rule.
 fn add_option<'a>(
     command: Result<Command<'a>, AllocError>,
     option: Arg<'a>,

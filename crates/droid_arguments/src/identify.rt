@@ -1,9 +1,9 @@
 //! The command `identify`: its options, and what they ask for.
 
-ghost use Rattle.std.specs.Prelude.{◌≡◌, ◌&&◌, ◌==◌, not, [], IfOk, codes, false, is_some, map, option_map};
+ghost use Rattle.std.specs.Prelude.{◌≡◌, ◌&&◌, ◌==◌, not, [], IfErr, IfOk, codes, false, is_some, map, option_map};
 ghost use Rattle.std.specs.Prelude.{count_by, string_bytes, true, unwrap_or};
-ghost use Rattle.clap.specs.Words.{app_of, found_of, is_simple, rows_of, rule_of, subcommand_of};
-ghost use Rattle.droid_arguments.specs.Asking.{IsAskedBy};
+ghost use Rattle.clap.specs.Words.{app_of, found_of, is_simple, is_simple_and_free, rows_of, rule_of, subcommand_of};
+ghost use Rattle.droid_arguments.specs.Asking.{FailsFaulty, IsAskedBy, RefusesFaulty};
 ghost use Rattle.droid_arguments.specs.Commands.{files_word, identify_command, program};
 ghost use Rattle.droid_arguments.specs.Rules.{short_flag_named};
 ghost use Rattle.droid_arguments.specs.Identifying.{IsHashOrNone, IsIdentify, NamesFiles, dashes, files_in, form_of};
@@ -68,7 +68,7 @@ const WHY_BESIDE: &str =
     "the option '--why <PUID>' cannot be used with '--csv', '--json', '--json-sf' or '--puid'";
 
 /// How what is said of the files is printed.
-#[derive(Clone, Copy, Debug, PartialEq, Eq)]
+#[derive(Clone, Copy)]
 pub enum IdentifyForm {
     /// A line for each format.
     Lines,
@@ -107,6 +107,7 @@ pub struct IdentifyOptions<'a> {
     pub why: Option<&'a str>,
 }
 
+/// Returns what the options of `identify` ask for.
 pub(crate) fn identify_asked<'a>(identify: &ArgMatches<'a>) -> Option<Asked<'a>>
     ensures { Reads result (IsAskedBy (codes "identify") (rows_of (found_of identify.now))) }
 {
@@ -114,6 +115,7 @@ pub(crate) fn identify_asked<'a>(identify: &ArgMatches<'a>) -> Option<Asked<'a>>
     Some(Asked::Identify(options))
 }
 
+/// Reads the options of `identify`, or returns `None` if they ask for nothing that can be done.
 fn identify_options<'a>(identify: &ArgMatches<'a>) -> Option<IdentifyOptions<'a>>
     ensures { Reads result (IsIdentify (rows_of (found_of identify.now))) }
 {
@@ -205,6 +207,7 @@ fn dashes(files: &[&str]) -> usize
     count_dashes(files)
 }
 
+/// Counts them. The clause is over the files themselves, as the iterator has it; that of `dashes` is over their texts.
 fn count_dashes(files: &[&str]) -> usize
     ensures { result ≡ count_by (λ file. is_dash file.now) files.now }
 {
@@ -240,6 +243,7 @@ fn misfits(
         || asks_why_beside(why, form)
 }
 
+/// Returns whether there is a text.
 fn is_given(value: Option<&str>) -> bool
     ensures { result ≡ is_some (option_map (λ text. text.now) value.entry) }
 {
@@ -294,6 +298,7 @@ fn asks_why_beside(why: Option<&str>, form: IdentifyForm) -> bool
     is_given(why) && !is_lines(form)
 }
 
+/// Returns whether the output is lines: only these have a place for the reason.
 fn is_lines(form: IdentifyForm) -> bool
     ensures { result ≡ is_lines form }
 {
@@ -306,7 +311,7 @@ fn is_lines(form: IdentifyForm) -> bool
     }
 }
 
-/// Says what is wrong with options that ask for nothing.
+/// Says what is wrong with options that ask for nothing. Without a contract: each text is tested.
 pub(crate) fn mistake_in_identify(identify: &ArgMatches<'_>) -> &'static str {
     if names_two(flag_of(identify, EVERYDAY), identify.get_str(REGISTRY)) {
         return TWO_REGISTRIES;
@@ -323,7 +328,7 @@ pub(crate) fn mistake_in_identify(identify: &ArgMatches<'_>) -> &'static str {
     misfit_of(identify)
 }
 
-/// Says which words and options can't be used together.
+/// Says which words and options can't be used together, in the order in which [`misfits`] asks.
 fn misfit_of(identify: &ArgMatches<'_>) -> &'static str {
     let files = files_of(identify);
     let inputs = dashes(files);
@@ -346,7 +351,9 @@ fn misfit_of(identify: &ArgMatches<'_>) -> &'static str {
 /// Returns the files that the words of a command line name, if they ask for `identify`. The words are those of
 /// [`what_is_asked`](crate::what_is_asked).
 pub fn named_files<'a>(alloc: Global, words: &'a [String]) -> Result<Vec<&'a str>, NoCommand>
-    ensures { IfOk result (NamesFiles (subcommand_of program (map string_bytes words.entry.now))) }
+    ensures files { IfOk result (NamesFiles (subcommand_of program (map string_bytes words.entry.now))) }
+    // Valid words are not refused.
+    ensures refused { IfErr result (RefusesFaulty (map string_bytes words.entry.now)) }
 {
     match files_by_program(alloc, words) {
         Ok(files) => Ok(files),
@@ -354,8 +361,10 @@ pub fn named_files<'a>(alloc: Global, words: &'a [String]) -> Result<Vec<&'a str
     }
 }
 
+/// Reads the words by the program's command.
 fn files_by_program<'a>(alloc: Global, words: &'a [String]) -> Result<Vec<&'a str>, Error>
-    ensures { IfOk result (NamesFiles (subcommand_of program (map string_bytes words.entry.now))) }
+    ensures files { IfOk result (NamesFiles (subcommand_of program (map string_bytes words.entry.now))) }
+    ensures refused { IfErr result (FailsFaulty program (map string_bytes words.entry.now)) }
 {
     let mut command = command(alloc)?;
     files_by(alloc, &mut command, words)
@@ -367,8 +376,10 @@ fn files_by<'a>(
     command: &mut Command<'a>,
     words: &'a [String],
 ) -> Result<Vec<&'a str>, Error>
-    ensures { is_simple (app_of command.old) ≡ true
+    ensures files { is_simple (app_of command.old) ≡ true
         → IfOk result (NamesFiles (subcommand_of (app_of command.old) (map string_bytes words.entry.now))) }
+    ensures refused { is_simple_and_free (app_of command.old) ≡ true
+        → IfErr result (FailsFaulty (app_of command.old) (map string_bytes words.entry.now)) }
 {
     let matches = command.try_get_matches_from_mut(words)?;
     match matches.subcommand_matches(IDENTIFY) {
@@ -380,6 +391,7 @@ fn files_by<'a>(
     }
 }
 
+/// Copies the list of files, not their names.
 fn copy_of<'a>(alloc: Global, files: &[&'a str]) -> Result<Vec<&'a str>, AllocError>
     ensures { IfOk result (λ copy. copy.items ≡ files.now) }
 {
@@ -388,6 +400,7 @@ fn copy_of<'a>(alloc: Global, files: &[&'a str]) -> Result<Vec<&'a str>, AllocEr
     Ok(copy)
 }
 
+/// Declares the command `identify`.
 pub(crate) fn identify<'a>(alloc: Global) -> Result<Command<'a>, AllocError>
     ensures { Makes identify_command result }
 {

@@ -1,4 +1,9 @@
 //! The command line of the program: its commands and options, what they ask for, and the help texts.
+//!
+//! Contracts speak of words as the kit's `clap` does. `rows_of (found_of m)` are the options and words that it found in
+//! m, each with its values; `one_of name` is the value of one. `rule_of` is what an option or word takes, and `app_of`
+//! a command with its rules. Which text names a mistake has no contract: `tests/program/cases`,
+//! `tests/program/folders/profile_arguments.py` and `tests/program/submissions/submit_check.py` test them.
 #![tactic(auto)]
 
 mod arguments;

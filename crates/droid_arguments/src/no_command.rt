@@ -34,7 +34,8 @@ impl NoCommand {
         }
     }
 
-    /// Prints the help or the version to standard output, or what is wrong to standard error.
+    /// Prints the help or the version to standard output, or what is wrong to standard error. Without a contract: the
+    /// texts are tested by `tests/program/cases`.
     pub fn print<R: Print + Eprint>(&self, rt: &R) -> io::Result<()> {
         match self {
             NoCommand::Help(error) | NoCommand::Wrong(error) => error.print(rt),

@@ -140,7 +140,7 @@ fn submit_options<'a>(submit: &ArgMatches<'a>) -> Option<SubmitOptions<'a>>
     })
 }
 
-/// Says what is wrong with options that ask for nothing.
+/// Says what is wrong with options that ask for nothing. Without a contract: each text is tested.
 pub(crate) fn mistake_in_submit(submit: &ArgMatches<'_>) -> &'static str {
     match hash_of(submit.get_str(HASH)) {
         Some(_) => NO_HASH_TO_COMPARE,

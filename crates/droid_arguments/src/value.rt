@@ -26,7 +26,7 @@ pub fn hash_of(word: Option<&str>) -> Option<HashKind>
     None
 }
 
-/// Returns whether a flag is set.
+/// Returns whether a flag is set. One that is not given is not.
 pub fn flag_of(matches: &ArgMatches<'_>, name: &str) -> bool
     ensures { IsFlag (one_of name.now (rows_of (found_of matches.now))) result }
 {

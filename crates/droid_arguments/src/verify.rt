@@ -108,7 +108,7 @@ fn verify_options<'a>(verify: &ArgMatches<'a>) -> Option<VerifyOptions<'a>>
     })
 }
 
-/// Says what is wrong with options that ask for nothing.
+/// Says what is wrong with options that ask for nothing. Without a contract: each text is tested.
 pub(crate) fn mistake_in_verify(verify: &ArgMatches<'_>) -> &'static str {
     if reads_nothing(flag_of(verify, QUICK), flag_of(verify, IDENTIFY)) {
         NO_FILE_IS_READ

@@ -1,4 +1,4 @@
-//! The pieces of one unfinished file.
+//! The pieces of one unfinished file: takes them in any order, and makes the file's windows and its hash of them.
 
 ghost use Rattle.std.specs.Prelude.{◌≡◌, ◌+◌, ◌-◌, ◌*◌, ◌^◌, ◌<◌, ◌≤◌, ◌↔◌, ◌++◌, ◌∷◌, [], ℕ, List, length, min, IsOk};
 ghost use Rattle.std.specs.Prelude.{IfOk, IfErr, OnOk, OnErr, IsErrOf, IsTrue, IsSome, None, Some, option_map};
@@ -272,6 +272,7 @@ impl Assembly {
     pub fn windows(&mut self) -> Windows<'_>
         requires complete { IsComplete self.old }
         requires none_pending { self.old.pending ≡ None }
+        // Holds once the loan of the result has ended.
         ensures* unchanged { sem 𝓛 (StaysUnchanged self.entry) }
         ensures first { (pieces : List Piece) → StandsFor self.old pieces
             → result.first.now ≡ first_window self.old.scan_limit (file_bytes (count_of self.old) pieces) }
@@ -327,7 +328,7 @@ impl Assembly {
     }
 }
 
-// Returns the hash of the bytes so far, and keeps it.
+/// Returns the kept hash. If none is kept yet, ends the running hash and keeps its value.
 fn hash_of(kept: &mut Option<HashValue>, front: &mut Front) -> HashValue
     ensures value { (before : List ℕ) → IsHashOf kept.old front.old.hash before
         → result ≡ hash (running_kind front.old.hash) before }

@@ -1,10 +1,10 @@
-//! Copying bytes into memory that is reserved for them.
+//! Copies bytes into memory that is reserved for them.
 
 ghost use Rattle.std.specs.Prelude.{◌≡◌, ◌≤◌, ◌+◌, ◌++◌, length, drop, take, vec_len, vec_capacity};
 
 use std::mem;
 
-/// Appends bytes. There must be room for them, so nothing is allocated.
+/// Appends bytes. There must be room for them, so nothing is allocated. No bytes are passed over at once, for speed.
 #[inline(always)]
 pub(crate) fn append(window: &mut Vec<u8>, bytes: &[u8])
     requires { vec_len window.old + length bytes.now ≤ vec_capacity window.old }
@@ -16,8 +16,8 @@ pub(crate) fn append(window: &mut Vec<u8>, bytes: &[u8])
     }
 }
 
-// Appends at least one byte. `push_reserved` is used because its contract says that the memory stays the same.
-// The buffer is moved into a local variable so that the compiler can vectorize the loop.
+/// Does the work of `append`. `push_reserved` is used because its contract says that the memory stays the same. The
+/// buffer is moved into a local variable so that the compiler can vectorize the loop.
 #[inline(never)]
 fn append_some(window: &mut Vec<u8>, bytes: &[u8])
     requires { vec_len window.old + length bytes.now ≤ vec_capacity window.old }
@@ -46,7 +46,7 @@ pub(crate) fn overwrite(block: &mut [u8], at: usize, bytes: &[u8])
     }
 }
 
-// Does the same by a call of the copy.
+/// Does the work of `overwrite` by a call of the copy.
 #[inline(never)]
 fn copy_over(block: &mut [u8], at: usize, bytes: &[u8])
     requires { at + length bytes.now ≤ length block.old }

@@ -35,7 +35,7 @@ impl From<PutFault> for Refusal {
 }
 
 /// The file is incomplete: `missing` is the index of the first missing piece.
-#[derive(Clone, Copy, Debug, PartialEq, Eq, Error)]
+#[derive(Clone, Copy, Debug, Error)]
 #[error("piece {missing} is missing")]
 pub struct Incomplete {
     pub missing: u32,

@@ -1,4 +1,4 @@
-//! Passing several pieces to the front.
+//! Passes several pieces to the front of a file.
 
 ghost use Rattle.std.specs.Prelude.{◌≡◌, ◌≤◌, ◌++◌, ℕ, List, length};
 ghost use Rattle.std.specs.List.{concat};

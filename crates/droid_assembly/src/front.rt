@@ -1,4 +1,6 @@
 //! The front of a file: the bytes before the first missing piece.
+//!
+//! A clause `ensures*` with `sem 𝓛` is of the kit: it holds once the loan of the result has ended.
 
 ghost use Rattle.std.specs.Prelude.{◌≡◌, ◌++◌, [], ℕ, List, IfOk, vec_capacity};
 ghost use Rattle.droid_assembly.specs.Fronts.{IsFront, FrontKnows};
@@ -73,6 +75,7 @@ impl Front {
 
     /// Returns the two windows. Moves the last bytes so that they are in order in memory.
     pub(crate) fn windows(&mut self) -> Windows<'_>
+        // Holds once the loan of the result has ended.
         ensures* unchanged { sem 𝓛 (StaysUnchanged self.entry) }
         ensures first { result.first.now ≡ self.old.first.items }
         ensures last { result.last.now ≡ self.old.last.items }
@@ -84,7 +87,7 @@ impl Front {
     }
 }
 
-// Moves the bytes of a buffer into one slice, and lends it.
+/// Moves the bytes of a buffer into one slice, and lends it. The buffer then has what was written into the slice.
 fn lend(buffer: &mut HeapCircularBuffer<u8>) -> &mut [u8]
     ensures* writes_back { sem 𝓛 (LendsItems buffer.entry result) }
     ensures value { result.now ≡ buffer.old.items }
@@ -92,7 +95,8 @@ fn lend(buffer: &mut HeapCircularBuffer<u8>) -> &mut [u8]
     buffer.make_contiguous()
 }
 
-// Does the same, and lends the slice to be read. A function of its own, since its proof by hand follows its body.
+/// Moves the bytes of a buffer into one slice, and lends it to be read. A function of its own, since its proof by hand
+/// follows its body.
 fn straight(buffer: &mut HeapCircularBuffer<u8>) -> &[u8]
     ensures* unchanged { sem 𝓛 (BufferStays buffer.entry) }
     ensures value { result.now ≡ buffer.old.items }

@@ -1,4 +1,4 @@
-//! Pieces that an assembly no longer needs.
+//! The pieces that an assembly no longer needs, as `settle` returns them.
 
 ghost use Rattle.std.specs.Prelude.{◌≡◌, ◌↔◌, ◌∷◌, [], IsTrue, length};
 ghost use Rattle.std.specs.Option.{option_copied};

@@ -1,4 +1,4 @@
-//! The places of pieces that wait for an earlier piece.
+//! The places of pieces that wait for an earlier piece: a piece is at its index modulo 16.
 
 ghost use Rattle.std.specs.Prelude.{◌≡◌, ◌<◌, ◌≤◌, ◌+◌, ◌%◌, ◌-◌, ◌^◌, [], ℕ, List, length, min, None, Some, IfOk};
 ghost use Rattle.std.specs.Prelude.{IsSome, IsTrue, replicate, slice_set, vec_capacity};
@@ -74,8 +74,8 @@ pub(crate) fn arrive(
     Spent::none()
 }
 
-// Takes the consecutive pieces from this index on out of their places, passes them to the front, and returns them.
-// This is a function of its own so that the usual case doesn't pay for clearing the array of `Several`.
+/// Takes the consecutive pieces from this index on out of their places, passes them to the front, and returns them.
+/// This is a function of its own so that the usual case doesn't pay for clearing the array of `Several`.
 #[inline(always)]
 fn pass(waiting: &mut [Option<Blob>], front: &mut Front, from: &mut u32) -> Spent
     requires places { length waiting.old ≡ 16 }
@@ -98,7 +98,7 @@ fn pass(waiting: &mut [Option<Blob>], front: &mut Front, from: &mut u32) -> Spen
     Spent::several(several)
 }
 
-// Does the work of `pass`, and puts the pieces into `several`.
+/// Does the work of `pass`, and puts the pieces into `several`.
 #[inline(never)]
 fn pass_several(waiting: &mut [Option<Blob>], front: &mut Front, from: u32, several: &mut Several)
     requires places { length waiting.old ≡ 16 }
@@ -124,8 +124,8 @@ fn pass_several(waiting: &mut [Option<Blob>], front: &mut Front, from: u32, seve
     }
 }
 
-// Takes the consecutive pieces from this index on out of their places. Returns the number of their bytes, or the
-// largest `usize` if there are more.
+/// Takes the consecutive pieces from this index on out of their places, into `several`. Returns the number of their
+/// bytes, or the largest `usize` if there are more.
 #[inline(always)]
 fn gather(waiting: &mut [Option<Blob>], from: u32, several: &mut Several) -> usize
     requires places { length waiting.old ≡ 16 }
@@ -152,7 +152,7 @@ fn gather(waiting: &mut [Option<Blob>], from: u32, several: &mut Several) -> usi
     total
 }
 
-// Returns whether the piece of this index waits.
+/// Returns whether the piece of this index waits.
 fn waits(waiting: &[Option<Blob>], index: u32) -> bool
     requires { length waiting.now ≡ 16 }
     ensures there { IsTrue result → IsSome (slot waiting.now index) }
@@ -161,7 +161,7 @@ fn waits(waiting: &[Option<Blob>], index: u32) -> bool
     waiting[(index % AHEAD) as usize].is_some()
 }
 
-// Takes the piece of this index out of its place.
+/// Takes the piece of this index out of its place.
 fn take_out(waiting: &mut [Option<Blob>], index: u32) -> Option<Blob>
     requires { length waiting.old ≡ 16 }
     ensures piece { result ≡ slot waiting.old index }

@@ -1,4 +1,4 @@
-//! Small pieces, joined.
+//! Joins the bytes of small pieces.
 
 ghost use Rattle.std.specs.Prelude.{◌≡◌, ◌+◌, ◌≤◌, ◌++◌, [], length};
 

@@ -21,11 +21,13 @@ pub record Core : Type 0 where
   pub first : ℕ
   pub slots : List Slot
 
+-- before anything is submitted
 abbrev pub new_core : ℕ → ℕ → Core
 new_core client first = record { client = client; first = first; slots = [] }
 
 -- ---- submitting
 
+-- the number that the next request gets
 abbrev pub next_number : Core → ℕ
 next_number core = core.first + length core.slots
 
@@ -40,9 +42,11 @@ frame_of version client number request =
       body = request_body version request;
     }
 
+-- the frame of the next request
 abbrev pub next_frame : Core → ℕ → Request → Frame
 next_frame core version request = frame_of version core.client (next_number core) request
 
+-- a request that was just submitted: neither answered nor refused
 abbrev pub new_slot : Frame → Slot
 new_slot frame = record { version = frame.version; kind = frame.kind; state = Pending frame; refusal = None }
 
@@ -74,6 +78,7 @@ abbrev pub heard_pending : Reply → Heard
 heard_pending (Refused refusal) = heard.Refused
 heard_pending _ = heard.Answered
 
+-- the same, by whether the request has an answer
 abbrev pub heard_in : State → Reply → Heard
 heard_in (Pending frame) reply = heard_pending reply
 heard_in (Answered answer) reply = heard.Repeated
@@ -86,6 +91,7 @@ belongs_at slot version reply = (version == slot.version) && belongs slot.kind r
 abbrev pub heard_at : Slot → ℕ → Reply → Heard
 heard_at slot version reply = if belongs_at slot version reply then heard_in slot.state reply else heard.Stranger
 
+-- the same, by whether anything was submitted under the number
 abbrev pub heard_by : Option Slot → ℕ → Reply → Heard
 heard_by None version reply = heard.Stranger
 heard_by (Some slot) version reply = heard_at slot version reply
@@ -110,6 +116,7 @@ slot_after slot reply heard.Stranger = slot
 abbrev pub slot_hearing : Slot → ℕ → Reply → Slot
 slot_hearing slot version reply = slot_after slot reply (heard_at slot version reply)
 
+-- only the slot of the number hears the reply
 abbrev pub slots_hearing : Core → ℕ → ℕ → Reply → Option Slot → List Slot
 slots_hearing core version number reply None = core.slots
 slots_hearing core version number reply (Some slot) =
@@ -123,10 +130,12 @@ core_hearing core version client number reply =
 
 -- ---- what a core returns
 
+-- the reply that answers the request, if one came
 abbrev pub answer_in : State → Option Reply
 answer_in (Pending frame) = None
 answer_in (Answered answer) = Some answer
 
+-- the same, of a number under which nothing may have been submitted
 abbrev pub slot_answer : Option Slot → Option Reply
 slot_answer None = None
 slot_answer (Some slot) = answer_in slot.state
@@ -135,6 +144,7 @@ slot_answer (Some slot) = answer_in slot.state
 abbrev pub answer_of : Core → ℕ → Option Reply
 answer_of core number = slot_answer (slot_at core number)
 
+-- the last refusal, of a number under which nothing may have been submitted
 abbrev pub slot_refusal : Option Slot → Option Refusal
 slot_refusal None = None
 slot_refusal (Some slot) = slot.refusal
@@ -143,10 +153,12 @@ slot_refusal (Some slot) = slot.refusal
 abbrev pub refusal_of : Core → ℕ → Option Refusal
 refusal_of core number = slot_refusal (slot_at core number)
 
+-- the frame of the request, which is kept until the answer comes
 abbrev pub pending_in : State → Option Frame
 pending_in (Pending frame) = Some frame
 pending_in (Answered answer) = None
 
+-- the kept frames, in order
 abbrev pub frames_pending : List Slot → List Frame
 frames_pending slots = filter_map (λ slot. pending_in slot.state) slots
 

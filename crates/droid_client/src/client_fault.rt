@@ -6,7 +6,7 @@ use std::alloc::AllocError;
 use thiserror::Error;
 
 /// Why a request was not submitted. The client is unchanged.
-#[derive(Clone, Copy, Debug, PartialEq, Eq, Error)]
+#[derive(Clone, Copy, Debug, Error)]
 pub enum SubmitFault {
     /// The next number would be 2^63.
     #[error("all numbers are used up")]
@@ -27,7 +27,7 @@ impl From<AllocError> for SubmitFault {
 }
 
 /// Why a reply was not taken. The client is unchanged.
-#[derive(Clone, Copy, Debug, PartialEq, Eq, Error)]
+#[derive(Clone, Copy, Debug, Error)]
 pub enum HearFault {
     /// The frame holds no reply.
     #[error("the frame holds no reply")]

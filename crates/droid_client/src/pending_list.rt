@@ -36,7 +36,7 @@ pub(crate) fn hear_at(
     }
 }
 
-/// Takes a request that was just answered off the list.
+/// Takes a request that was just answered off the list, which is in order.
 fn settle(pending: &mut VecDeque<usize>, place: usize)
     ensures { (slots : List Slot) (slot : Slot) → pending.old.items ≡ places_from 0 slots → IsPendingAt slots place
         → pending_in slot.state ≡ None → pending.new.items ≡ places_from 0 (slice_set slots place slot) }

@@ -5,6 +5,7 @@ use Rattle.droid_frame.specs.declared.hash_kind.HashKind.{HashKind}
 use Rattle.droid_frame.specs.declared.hash_kind.HashKind.TheVariants.{Nothing, Md5, Sha256}
 use Rattle.droid_report.specs.declared.texts.TheConstants as texts
 
+-- which hash the CSV has, in words
 abbrev pub hash_words : HashKind → List ℕ
 hash_words Nothing = texts.NO_HASHES.now
 hash_words Md5 = texts.MD5_HASHES.now

@@ -10,6 +10,7 @@ IsBegun true None = ⊥
 IsBegun false (Some text) = ⊥
 IsBegun false None = ⊤
 
+-- what is known to be kept and written, if anything is kept
 abbrev pub kept_by : Option (Vec ℕ Global) → Option (List ℕ) → Option (List ℕ)
 kept_by (Some text) contents = Some text.items
 kept_by None contents = contents

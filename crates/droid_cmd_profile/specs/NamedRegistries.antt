@@ -21,6 +21,7 @@ IsReadFrom bytes (Err fault) = fault ≢ faults.Memory → File bytes (Err fault
 
 -- ---- what is printed
 
+-- the path of its file, or that it is the built-in one
 abbrev pub source_text : Option (List ℕ) → List ℕ
 source_text (Some path) = shown_text path
 source_text None = codes "the built-in registry of everyday formats"
@@ -30,5 +31,6 @@ abbrev pub registry_text : RegistryName → List ℕ
 registry_text name =
     source_text (option_map (λ text. text.now) name.path) ++ (codes ", MD5 " ++ shown_text (encode_lower name.md5))
 
+-- the line on standard error
 abbrev pub registry_line : RegistryName → List ℕ
 registry_line name = codes "registry: " ++ (registry_text name ++ 10 ∷ [])

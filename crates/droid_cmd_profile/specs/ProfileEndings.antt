@@ -63,6 +63,7 @@ told_unprofiled faults.Numbers options = by table.too_many (of_path options.fold
 told_unprofiled faults.Csv options = told_unwritten options files.Csv
 told_unprofiled faults.Manifest options = told_unwritten options files.Manifest
 
+-- how the command ends if what was skipped could not be written
 abbrev pub told_unlisted : SkippedFault → ProfileOptions → Told
 told_unlisted skipping.Memory options = by table.memory []
 told_unlisted (skipping.Write why) options = told_unwritten options files.Skipped

@@ -167,7 +167,8 @@ type Parts<'a, R, O> = (
     Option<Output<'a, R>>,
 );
 
-/// Takes the outputs apart, for a walk that writes to each.
+/// Takes the writers apart once the walk is over: the CSV's output and what was kept of it, the list, and what was
+/// skipped.
 fn parts_of<'a, R: Files, O: Drop>(writers: Writers<'a, R, O>) -> Parts<'a, R, O> {
     let Writers {
         csv,
@@ -251,7 +252,7 @@ fn begin_skipped<S: SteadyWrite>(alloc: Global, output: Option<S>) -> Option<Ski
     }
 }
 
-/// Returns where the CSV of what was skipped was written, if there is a file for it.
+/// Returns the file for what was skipped, without its fault, if there is one.
 fn output_in<S>(file: Option<SkippedFile<S>>) -> Option<S> {
     match file {
         Some(SkippedFile { output, .. }) => Some(output),

@@ -59,6 +59,8 @@ impl<O: Write> Write for Keeping<O> {
 
 /// Writes bytes, and keeps those that were taken. They are kept before they are written, so that nothing is written
 /// that can't be kept.
+///
+/// The clauses are the kit's of any writer, twice: of the output, and of the text that is kept.
 fn write_and_keep<O: Write>(
     output: &mut O,
     text: &mut Vec<u8>,

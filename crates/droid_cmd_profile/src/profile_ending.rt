@@ -1,11 +1,12 @@
-//! How the profile of a folder ends.
+//! How the profile of a folder ends, and what is told of it.
 
 ghost use Rattle.std.specs.Prelude.{◌≡◌};
 ghost use Rattle.droid_cmd_profile.specs.ProfileEndings.{Tells, ending_of, is_written, lacking_memory, path_of};
 ghost use Rattle.droid_cmd_profile.specs.ProfileEndings.{told_unlisted, told_unprofiled, told_unwritten, with_page};
 ghost use Rattle.droid_terminal.specs.Endings.{told};
 
-use crate::pages::page_fault::{PageFault, told_output};
+use crate::output_told::told_output;
+use crate::pages::page_fault::PageFault;
 use crate::profile_outputs::OutputFile;
 use crate::skipped_file::SkippedFault;
 use droid_arguments::ProfileOptions;
@@ -48,7 +49,8 @@ impl ProfileEnding {
         }
     }
 
-    /// Returns the ending where the CSV was also kept: if there was no memory for that, its writer did not fail.
+    /// Returns the ending, given whether a write failed because the CSV could not be kept: then memory ran out, though
+    /// the walk says that the CSV's writer stopped.
     pub(crate) fn lacking(self, memory: bool) -> ProfileEnding
         ensures { result ≡ lacking_memory self memory }
     {

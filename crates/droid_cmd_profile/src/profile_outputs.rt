@@ -1,4 +1,7 @@
 //! The files that a profile writes: each is complete, or as it was before.
+//!
+//! Nothing here has a contract: files are up to the machine, and what is done to which is tested in
+//! `tests/program/folders` (`profile_output.py`, `output_calls.py`, `profile_arguments.py`).
 
 use crate::profile_ending::ProfileEnding;
 use droid_arguments::ProfileOptions;
@@ -116,7 +119,7 @@ pub(crate) fn create_page<'a, R: Files<File = File> + AllocGlobal>(
     create(rt, options.report, OutputFile::Page)
 }
 
-/// Checks that the second of two files that may be named is not the first.
+/// Checks that the second of two files that may be named is not the first. `file` is the second, which the fault names.
 fn see_other<R: Files + AllocGlobal>(
     rt: &R,
     first: Option<&str>,

@@ -1,4 +1,5 @@
-//! The page of a profile that was just written.
+//! The page of a profile that was just written. The calls below are proved, and what joins them here, without
+//! contracts, is tested by `tests/program/folders/profile_report.py`.
 
 use crate::named_registry::RegistryName;
 use crate::pages::csv_report::{page_now, put_page, title_of};

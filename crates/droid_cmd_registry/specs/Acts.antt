@@ -4,6 +4,7 @@ use Rattle.droid_cmd_registry.specs.declared.registry_places.Part.{Part}
 use Rattle.droid_cmd_registry.specs.declared.registry_places.Unput.{Unput}
 use Rattle.droid_cmd_registry.specs.declared.registry_places.Unread.{Unread}
 
+-- a call of `Places`, with what came of it
 pub data Act : Type 0 where
   -- the signature file has these bytes
   Got : (bytes : List ℕ) → Act

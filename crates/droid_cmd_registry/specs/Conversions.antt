@@ -47,6 +47,7 @@ IsEndingOf bytes (endings.NoSignatures fault) = Reads bytes (Err fault)
 IsEndingOf bytes endings.LongRegistry = (file : FileRecord) × Reads bytes (Ok file) × IsTooLong file
 IsEndingOf bytes other = ⊥
 
+-- what comes of the bytes: all that is made of them, or why nothing is
 abbrev pub Converts : Bool → List ℕ → Result Conversion RegistryEnding → Type 0
 Converts quiet bytes (Ok it) = IsConversionOf quiet bytes it
 Converts quiet bytes (Err ending) = IsEndingOf bytes ending

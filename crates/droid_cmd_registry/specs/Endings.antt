@@ -25,7 +25,7 @@ unconverted files.Memory = NoMemory
 unconverted (files.Document problem line) = NoSignatures (files.Document problem line)
 unconverted (files.NotASignatureFile wrong) = NoSignatures (files.NotASignatureFile wrong)
 
--- the rows of the table
+-- the row of a problem of the document
 abbrev pub problem_row : Problem → Said
 problem_row problems.NotWellFormed = table.not_well_formed
 problem_row problems.Doctype = table.doctype
@@ -33,11 +33,13 @@ problem_row problems.TooDeep = table.too_deep
 problem_row problems.TooManyAttributes = table.too_many_attributes
 problem_row problems.Encoding = table.encoding
 
+-- the row of a document that is no signature file
 abbrev pub wrong_row : Wrong → Said
 wrong_row wrongs.Root = table.other_root
 wrong_row wrongs.Number = table.wrong_number
 wrong_row wrongs.Sequence = table.wrong_sequence
 
+-- the row of a file that could not be written
 abbrev pub unput_row : Unput → Said
 unput_row unput.SameFile = table.signature_file_itself
 unput_row unput.Refused = table.registry_refused

@@ -26,6 +26,7 @@ reason_text reasons.LongPattern = codes "a pattern of more than 4,096 bytes"
 reason_text reasons.LongPatterns = codes "patterns of more than 16,384 bytes in all"
 reason_text reasons.GapAtEnd = codes "a gap at the end of a pattern"
 
+-- why something is not in the registry
 unfoldable pub why_text : Why → List ℕ
 why_text whys.NoPuid = codes "it has no PUID"
 why_text whys.BadPuid = codes "its PUID is not of 1 to 32 ASCII letters, digits, / and -"

@@ -29,10 +29,11 @@ unfoldable pub note_text : FileRecord → List ℕ → List ℕ
 note_text file digest =
     codes "signature file: " ++ (described file ++ (codes "; registry: MD5 " ++ (digest ++ 10 ∷ [])))
 
--- lines of the numbers
+-- the line of the signature file
 unfoldable pub described_line : FileRecord → List ℕ
 described_line file = codes "signature file: " ++ (described file ++ 10 ∷ [])
 
+-- the line of what was taken
 unfoldable pub taken_line : Taken → List ℕ
 taken_line taken =
     codes "taken: "
@@ -43,9 +44,11 @@ taken_line taken =
     ++ (decimal taken.extensions
     ++ (codes " extensions, " ++ (decimal taken.priorities ++ (codes " priorities" ++ 10 ∷ []))))))))
 
+-- a name and a number
 unfoldable pub count_line : List ℕ → ℕ → List ℕ
 count_line name count = name ++ (codes ": " ++ (decimal count ++ 10 ∷ []))
 
+-- the line of the registry's MD5
 unfoldable pub digest_line : List ℕ → List ℕ
 digest_line digest = codes "registry: MD5 " ++ (digest ++ 10 ∷ [])
 
@@ -57,11 +60,12 @@ numbers_text file taken left digest =
     ++ (count_line (codes "left out") (length left)
     ++ (count_line (codes "unknown names") (length file.unknown) ++ digest_line digest)))
 
--- a name that is not known, and how often it stands there
+-- an element or an attribute
 abbrev pub part_text : UnknownPart → List ℕ
 part_text parts.Element = codes "element"
 part_text parts.Attribute = codes "attribute"
 
+-- a name that is not known, and how often it stands there
 unfoldable pub unknown_line : UnknownName → List ℕ
 unknown_line it =
     codes "unknown "
@@ -78,10 +82,11 @@ abbrev pub subject_by : Option (List ℕ) → ℕ → List ℕ
 subject_by (Some puid) id = shown_text puid
 subject_by None id = codes "format " ++ decimal id
 
+-- how a format is named in a line
 abbrev pub subject_of : FormatRecord → List ℕ
 subject_of format = subject_by format.puid format.id
 
--- with what stands behind it
+-- the same with what stands behind it, if there is a format
 abbrev pub subject : Option FormatRecord → List ℕ
 subject (Some format) = subject_of format ++ codes ": "
 subject None = []
@@ -91,6 +96,7 @@ abbrev pub extension_by : Option (List ℕ) → List ℕ
 extension_by (Some extension) = codes "extension " ++ (shown_text extension ++ codes ": ")
 extension_by None = []
 
+-- the extension at a place among a format's
 abbrev pub extension_text : Option FormatRecord → ℕ → List ℕ
 extension_text (Some format) at = extension_by (slice_get format.extensions at)
 extension_text None at = []
@@ -112,6 +118,7 @@ unfoldable pub left_text : Option FormatRecord → LeftOut → List ℕ
 left_text format it =
     codes "left out: " ++ (subject format ++ (item_text format it.item ++ (why_text it.why ++ 10 ∷ [])))
 
+-- the line of something that is left out
 abbrev pub left_line : List FormatRecord → LeftOut → List ℕ
 left_line formats it = left_text (format_at formats it.format) it
 
@@ -125,6 +132,7 @@ abbrev pub unless_quiet : Bool → List ℕ → List ℕ
 unless_quiet true text = []
 unless_quiet false text = text
 
+-- the numbers, and the lines unless they are not wanted
 unfoldable pub report_text : Bool → FileRecord → Taken → List LeftOut → List ℕ → List ℕ
 report_text quiet file taken left digest =
     numbers_text file taken left digest ++ unless_quiet quiet (lines_text file left)

@@ -1,4 +1,6 @@
-//! The files of this machine.
+//! The files of this machine. Proved is that no file of more than 67,108,864 bytes is read. What is done to which file
+//! has no contract: `tests/program/signatures` (`registry_command`) and `tests/program/folders/output_calls.py` test
+//! it.
 
 ghost use Rattle.std.specs.Prelude.{◌≤◌, length, IfOk};
 ghost use Rattle.droid_cmd_registry.specs.Machines.{MayDo};
@@ -144,7 +146,7 @@ fn is_same_file<R: Files>(rt: &R, first: &str, second: &str) -> bool {
     }
 }
 
-/// Returns the device of a file and its number there, if there is one.
+/// Returns the device of a file and its number there: `None` if nothing is at the path.
 fn identity_of<R: Files>(rt: &R, path: &str) -> Option<(u64, u64)> {
     match fs::metadata(rt, path) {
         Ok(found) => Some((found.dev(), found.ino())),

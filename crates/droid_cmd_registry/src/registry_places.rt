@@ -7,7 +7,7 @@ use std::alloc::Global;
 use std::io::ErrorKind;
 
 /// What the command writes.
-#[derive(Clone, Copy, PartialEq, Eq)]
+#[derive(Clone, Copy)]
 pub enum Part {
     /// The registry file.
     Registry,

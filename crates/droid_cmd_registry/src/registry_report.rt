@@ -1,4 +1,7 @@
 //! The report on a registry, for standard error.
+//!
+//! `output` of each `Display` is the exact text. Where a line is written for each item, the clause is the kit's
+//! `WritesOnOk`: after `Ok` exactly this text was written.
 
 ghost use Rattle.std.specs.Prelude.{◌≡◌, Some, flat_map};
 ghost use Rattle.std.specs.Fmt.{WritesOnOk};
@@ -289,7 +292,7 @@ impl Display for LeftOutLines<'_> {
     }
 }
 
-/// Writes a line for each thing left out.
+/// Writes a line for each thing that was left out.
 fn write_left_out<W: Write>(
     f: &mut Formatter<W>,
     formats: &[FileFormat],
@@ -303,7 +306,7 @@ fn write_left_out<W: Write>(
     Ok(())
 }
 
-/// Writes the line of a thing left out.
+/// Writes the line of one thing that was left out.
 fn write_one<W: Write>(f: &mut Formatter<W>, formats: &[FileFormat], it: LeftOut) -> fmt::Result
     ensures { WritesOnOk W.write_str_gives f.old result (left_line formats.now it) f.new }
 {

@@ -1,11 +1,8 @@
 -- How the program ends (this project's own).
-use Rattle.std.specs.Prelude.{◌≡◌, ℕ, ◌<◌, ◌==◌, if◌then◌else◌, List, [], codes, Option, IfSome, Result, Ok, Err}
+use Rattle.std.specs.Prelude.{◌≡◌, ℕ, ◌<◌, ◌==◌, if◌then◌else◌, List, [], Option, IfSome, Result, Ok, Err}
 use Rattle.std.specs.List.{count_by}
 use Rattle.std.specs.Io.KnownBytes.{Keeps}
 use Rattle.droid_cmd_serve.specs.declared.exit.Ending.{Ending}
-use Rattle.droid_cmd_serve.specs.declared.journal_fault.JournalFault.{JournalFault}
-use Rattle.droid_cmd_serve.specs.declared.journal_fault.JournalFault.TheVariants as journal_faults
-use Rattle.droid_journal.specs.declared.journal_fault.Fault.TheVariants as faults
 use Rattle.droid_cmd_serve.specs.declared.exit.Ending.TheVariants.{Done, Registry, NoService, Script, Stream, Send}
 use Rattle.droid_cmd_serve.specs.declared.exit.Ending.TheVariants.{Socket, Journal, BadLine}
 use Rattle.droid_script.specs.declared.script_fault.ScriptFault.{ScriptFault}
@@ -20,41 +17,7 @@ use Rattle.droid_pronom.specs.Registry.{Contents}
 use Rattle.droid_pronom.specs.RegistryFile.{File}
 use Rattle.droid_pronom.specs.declared.registry.fault.RegistryFault.{RegistryFault}
 use Rattle.droid_pronom.specs.declared.registry.fault.RegistryFault.TheVariants as registry_faults
-use Rattle.droid_store.specs.declared.fault.StoreFault.{StoreFault}
-use Rattle.droid_store.specs.declared.fault.StoreFault.TheVariants as store_faults
-use Rattle.droid_wire.specs.declared.serve_fault.ServeFault.{ServeFault}
-use Rattle.droid_wire.specs.declared.serve_fault.ServeFault.TheVariants as serve_faults
-use Rattle.droid_lines.specs.Faults.{frame_fault_name}
 use Rattle.droid_script.specs.Scripts.{RunsAll, RunsFront, IsTooLong, is_bad}
-
--- the exit status if a journal ends the program: 3 if the file is none of this registry and these limits, or damaged
-abbrev pub journal_status_of : JournalFault → ℕ
-journal_status_of (journal_faults.Closed faults.Header) = 3
-journal_status_of (journal_faults.Closed (faults.Record number)) = 3
-journal_status_of (journal_faults.Closed (faults.Damage records)) = 3
-journal_status_of fault = 4
-
--- the exit status
-abbrev pub status_of : Ending → ℕ
-status_of Done = 0
-status_of (Registry fault) = 3
-status_of (NoService fault) = 6
-status_of (Script fault) = 4
-status_of (Stream fault) = 4
-status_of (Send fault) = 4
-status_of Socket = 4
-status_of (Journal fault) = journal_status_of fault
-status_of BadLine = 5
-
--- the name of a fault of the database: as the refusal of a request for the same cause
-abbrev pub name_of : StoreFault → List ℕ
-name_of store_faults.Memory = codes "Memory"
-name_of store_faults.Refused = codes "Store"
-
--- the name of a fault of a stream of frames
-abbrev pub stream_name_of : ServeFault → List ℕ
-stream_name_of (serve_faults.Frame fault) = frame_fault_name fault
-stream_name_of (serve_faults.Write written) = codes "Write"
 
 -- all lines were handled
 abbrev pub after_lines : Tally → Ending

@@ -61,6 +61,7 @@ left_ending_of (Some (departures.Frame fault)) = Stream (serve_faults.Frame faul
 left_ending_of (Some departures.Memory) = Stream (serve_faults.Frame frame_faults.Memory)
 left_ending_of _ = Stream (serve_faults.Write 0)
 
+-- how the end of a stream ends the program, by how serving it ended
 abbrev pub stream_journal_ending_of : Served → Option Departure → Option Fault → Ending
 stream_journal_ending_of ways.All departure fault = left_ending_of departure
 stream_journal_ending_of ways.Stopped departure fault = Socket

@@ -1,9 +1,13 @@
 pub mod Endings
 pub mod Fresh
 pub mod JournalEndings
+pub mod JournalFaults
 pub mod Journals
 pub mod Many
 pub mod Sample
 pub mod Sends
 pub mod SmallerJournals
 pub mod Streams
+pub mod ToldEndings
+pub mod ToldJournals
+pub mod ToldRegistries

@@ -1,4 +1,5 @@
-//! The file beside a journal that a smaller one is written into.
+//! The file beside a journal that a smaller one is written into. What happens to files has no contract:
+//! `tests/program/journal` (`journal_compact.py`, `journal_operation.py`) tests it.
 
 use droid_journal::{DiskFault, FileDrive};
 use std::fs::{File, Files, Metadata, OpenOptions};

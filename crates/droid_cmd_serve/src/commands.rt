@@ -1,4 +1,6 @@
-//! The commands of a service, over files, standard streams and ports of this machine.
+//! The commands of a service, over files, standard streams and ports of this machine. `run` and `serve` are proved to
+//! end as their calls say. What has no contract joins proved calls to the machine, and is tested by
+//! `tests/program/cases.sh` and `tests/program/wire`.
 
 ghost use Rattle.std.specs.Prelude.{◌<◌, ◌^◌};
 ghost use Rattle.droid_cmd_serve.specs.JournalEndings.{IsAnsweringEnd, ServingEndsAs};
@@ -147,7 +149,8 @@ where
     }
 }
 
-/// Sends the lines of standard input over a connection, and prints the replies.
+/// Sends the lines of standard input over a connection, and prints the replies: all that `send_lines` promises, over
+/// these streams.
 fn send_over<R: Input + Print + AllocGlobal>(
     rt: &R,
     stream: &TcpStream,

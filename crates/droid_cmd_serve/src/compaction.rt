@@ -1,7 +1,12 @@
 //! The command `compact`, and making a large journal smaller before it is served.
+//!
+//! `make_smaller` is proved: at any moment one journal or the other has the name. What is here decides when that is
+//! done, on files of this machine, mostly without contracts, and is tested by `tests/program/journal`
+//! (`journal_compact.py`, `journal_smaller.py`, `journal_operation.py`).
 
-ghost use Rattle.std.specs.Prelude.{IfErr};
+ghost use Rattle.std.specs.Prelude.{◌≡◌, IfErr};
 ghost use Rattle.droid_cmd_serve.specs.JournalEndings.{IsCompactionEnd, IsUnopened};
+ghost use Rattle.droid_cmd_serve.specs.JournalFaults.{ComesOfShortening, needs_opening};
 
 use crate::beside::open_beside;
 use crate::command_end::Ended;
@@ -20,7 +25,8 @@ use droid_journal::{DiskLog, Fault, FileDrive};
 use std::fs;
 use std::fs::{File, Files};
 
-/// A journal with more bytes is made smaller before it is served, if most of them are of files that have ended.
+/// A journal with more bytes is made smaller before it is served, if most of them are of files that have ended. No
+/// clause needs the number: a smaller journal has the same history.
 const LARGE: u64 = 67_108_864;
 
 /// How large a journal was and is.
@@ -106,9 +112,11 @@ where
     put_smaller(rt, path, journal.file(), registry)
 }
 
-/// Returns whether a journal has to be opened to report or mend what is wrong with it: it has no whole header, or bytes
-/// behind its records.
-fn needs_opening(fault: JournalFault) -> bool {
+/// Returns whether a journal has to be opened to report or mend what is wrong with it: its header is another one,
+/// perhaps not whole, or bytes stand behind its records, a torn end or damage.
+fn needs_opening(fault: JournalFault) -> bool
+    ensures { result ≡ needs_opening fault }
+{
     matches!(
         fault,
         JournalFault::Closed(Fault::Header) | JournalFault::Closed(Fault::Damage(_))
@@ -186,6 +194,7 @@ fn put_smaller<R>(
 ) -> Result<Sizes, JournalFault>
 where
     R: Files<File = File> + Eprint + AllocGlobal,
+    ensures { IfErr result ComesOfShortening }
 {
     let Ok(beside) = format!(in rt.alloc(); "{path}.new") else {
         return Err(JournalFault::Closed(Fault::Memory));

@@ -1,4 +1,7 @@
 //! The commands of a service with a journal, over files, standard streams and ports of this machine.
+//!
+//! Proved is how they end, and that the service has the registry that was read. What has no contract opens files of
+//! this machine, and is tested by `tests/program/journal` (`journal_files.py`, `journal_calls.py`).
 
 ghost use Rattle.std.specs.Prelude.{◌≡◌, Some, IfErr, IfOk, IfSome};
 ghost use Rattle.droid_cmd_serve.specs.Fresh.{IsMadeOf};
@@ -246,7 +249,7 @@ where
     }
 }
 
-/// Reads 16 random bytes of the system.
+/// Reads 16 random bytes of the system, for the header of a new journal. No clause needs them to be random.
 pub(crate) fn random_bytes<R: Files>(rt: &R) -> Result<[u8; 16], ErrorKind> {
     let mut bytes = [0u8; 16];
     let file = match fs::open(rt, RANDOM) {

@@ -53,7 +53,7 @@ fn end_of(served: Served, fault: Option<Fault>) -> Ending
     }
 }
 
-/// Maps the end of answering a stream to the end of the program.
+/// Maps the end of answering a stream, with or without a journal, to the end of the program.
 pub(crate) fn stream_end_of(
     served: Served,
     departure: Option<Departure>,

@@ -3,7 +3,6 @@
 //! Also reads the registry that `profile` uses.
 #![tactic(auto)]
 
-mod advice;
 mod beside;
 mod client;
 mod command_end;
@@ -22,6 +21,9 @@ mod sample;
 mod scripts;
 mod smaller_journal;
 mod stream;
+mod told;
+mod told_journal;
+mod told_registry;
 
 pub use command_end::Ended;
 pub use commands::{run_command, script_command, send_command, serve_command};

@@ -65,6 +65,7 @@ where
     Ended::at(ending, port)
 }
 
+/// Returns what is printed on standard error about connections.
 pub(crate) fn verbosity_of(options: ServeOptions) -> Verbosity
     ensures verbose { options.verbose ≡ true → result ≡ Verbosity.Verbose }
     ensures quiet { options.verbose ≡ false → result ≡ Verbosity.Quiet }

@@ -112,7 +112,8 @@ pub fn no_registry<'a>(source: RegistrySource<'a>, fault: RegistryFault) -> Ende
     Ended::over(Ending::Registry(fault), source)
 }
 
-/// Opens a registry file. The error says why it could not be opened, or that it is a folder.
+/// Opens a registry file. The error says why it could not be opened, or that it is a folder. Files are up to the
+/// machine, so it has no contract: `tests/program/registry.sh` tests it.
 pub(crate) fn open_registry<R: Files>(rt: &R, path: &str) -> Result<R::File, ErrorKind> {
     let file = match fs::open(rt, path) {
         Ok(file) => file,
@@ -126,7 +127,8 @@ pub(crate) fn open_registry<R: Files>(rt: &R, path: &str) -> Result<R::File, Err
     Ok(file)
 }
 
-/// Notes on standard error that a registry file has no formats.
+/// Notes on standard error that a registry file has no formats. Without a contract: `tests/program/registry.sh` tests
+/// it.
 pub fn note_formats<R: Eprint>(rt: &R, path: &str, formats: Option<usize>) {
     if let Some(0) = formats {
         let _ = eprintln!(rt; "registry: {path} has no formats, so no file will be identified");

@@ -15,11 +15,12 @@ use Rattle.droid_tree.specs.declared.skip_reason.Skipped.{Skipped}
 use Rattle.droid_tree.specs.declared.skip_reason.Skipped.TheVariants as reasons
 use Rattle.droid_cmd_submit.specs.declared.difference_line.DifferenceLine.{DifferenceLine}
 
--- the path of what is known at a place
+-- the path of what is known, if anything is
 abbrev pub known_path : Option Known → List ℕ
 known_path None = []
 known_path (Some one) = one.path
 
+-- the path of what is known at a place
 abbrev pub path_at : List Known → ℕ → List ℕ
 path_at known place = known_path (slice_get known place)
 
@@ -48,12 +49,13 @@ is_suggested skipped = list_any (λ entry. is_older entry.why) skipped
 
 -- ---- words
 
--- the words before the path, and those after it
+-- the words before the path
 abbrev pub words_before : Difference → List ℕ
 words_before (Other place column number) = codes "differs: "
 words_before (Missing place) = codes "not in the profile: "
 words_before (More number path) = codes "not in the folder: "
 
+-- the words after the path
 abbrev pub words_after : HashKind → Difference → List ℕ
 words_after hash (Other place column number) =
     codes ": the profile has another " ++ (name_of hash column ++ (codes " (record " ++ (decimal number ++ codes ")")))

@@ -27,12 +27,14 @@ known_of_node node = record {
   found = node.found;
 }
 
+-- what is known of all that was submitted, in order
 abbrev pub known_of_nodes : List Node → List Known
 known_of_nodes nodes = map known_of_node nodes
 
--- the files that are in the profile and were not read in this run
+-- the file is in the profile and was not read in this run
 abbrev pub is_unread : Node → Bool
 is_unread node = not node.is_read
 
+-- how many there are
 abbrev pub unread_in : List Node → ℕ
 unread_in nodes = count_by is_unread nodes

@@ -20,11 +20,12 @@ abbrev pub with_page : {V : Type 0} → SubmissionEnding → Result V PageFault 
 with_page ending (Ok value) = ending
 with_page ending (Err fault) = NoPage fault
 
--- the ending of a submission whose profile could not be compared
+-- the ending of a submission whose CSV could not be compared
 abbrev pub unchecked : TextFault → SubmissionEnding
 unchecked checking.Memory = NoMemory
 unchecked (checking.Wrong number column) = WrongExport number column
 
+-- the ending of a submission whose profile could not be compared
 abbrev pub uncompared : ComparisonFault → SubmissionEnding
 uncompared (comparing.NoExport fault) = NoExport fault
 uncompared (comparing.TooLong total) = TooLong total

@@ -24,11 +24,12 @@ use Rattle.droid_cmd_submit.specs.declared.submission_ending.SubmissionEnding.Th
 use Rattle.droid_cmd_submit.specs.declared.submission_ending.SubmissionEnding.TheVariants.{NoExport, TooLong, Disturbed}
 use Rattle.droid_cmd_submit.specs.declared.submission_ending.SubmissionEnding.TheVariants.{WrongExport, NoPage}
 
--- the path of a file that a submission writes
+-- a file's path as it is printed
 abbrev pub export_name : Option (List ℕ) → List ℕ
 export_name (Some path) = path
 export_name None = codes "the export"
 
+-- the path of a file that a submission writes
 abbrev pub path_of : SubmitOptions → OutputFile → List ℕ
 path_of options files.Export = export_name (option_map (λ path. path.now) options.export)
 path_of options files.Skipped = export_name (option_map (λ path. path.now) options.skipped)

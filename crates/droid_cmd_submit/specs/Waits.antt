@@ -1,5 +1,5 @@
 -- How long a connection is waited for (this project's own).
-use Rattle.std.specs.Prelude.{◌≡◌, ℕ, ◌*◌, Bool, min, nat_le}
+use Rattle.std.specs.Prelude.{◌≡◌, ℕ, ◌-◌, ◌*◌, Bool, min, nat_le}
 use Rattle.droid_remote.specs.Events.{Event, Paused, Started}
 use Rattle.droid_cmd_submit.specs.declared.loopback.Loopback.{Loopback}
 
@@ -16,6 +16,10 @@ abbrev pub pause_after : ℕ → Event → ℕ
 pause_after pause Paused = next_pause pause
 pause_after pause Started = 50
 pause_after pause _ = pause
+
+-- what is left of a frame's time, in milliseconds
+abbrev pub time_left : ℕ → ℕ → ℕ
+time_left limit awaited = limit - awaited
 
 -- the port and both times stay, and the pauses grow as defined
 pub record WaitsOn {R : Type 0} (old : Loopback R) (event : Event) (new : Loopback R) : Type 0 where

@@ -1,13 +1,12 @@
 //! The line for a difference between the profile and the folder.
 
 ghost use Rattle.std.specs.Prelude.{◌≡◌, Some};
-ghost use Rattle.droid_cmd_submit.specs.DifferenceLines.{is_older, line_text, path_at, path_of, words_after};
+ghost use Rattle.droid_cmd_submit.specs.DifferenceLines.{line_text, path_at, path_of, words_after};
 ghost use Rattle.droid_cmd_submit.specs.DifferenceLines.{words_before};
 
-use droid_frame::{HashKind, Refusal};
+use droid_frame::HashKind;
 use droid_lists::{Difference, Known, column_name};
 use droid_terminal::Shown;
-use droid_tree::Skipped;
 use std::fmt;
 use std::fmt::{Display, Formatter, Write};
 
@@ -88,17 +87,5 @@ fn path_at(known: &[Known], place: usize) -> &[u8]
     match known.get(place) {
         Some(one) => one.path.as_str().as_bytes(),
         None => b"",
-    }
-}
-
-/// Returns whether the profile has the folder or file that was skipped as it was before.
-pub(crate) fn is_older(why: Skipped) -> bool
-    ensures { result ≡ is_older why }
-{
-    match why {
-        Skipped::Refused(Refusal::NumberReused) => true,
-        Skipped::Refused(Refusal::NameTaken) => true,
-        Skipped::OtherHash => true,
-        _ => false,
     }
 }

@@ -54,7 +54,8 @@ fn known_of_node(node: Node) -> Known
     }
 }
 
-/// Returns the kind of a node for an entry of a folder.
+/// Returns the kind of a node for an entry of a folder. Only folders and files are submitted, so the other kinds never
+/// come.
 fn node_kind(kind: EntryKind) -> NodeKind
     ensures { result ≡ node_kind kind }
 {

@@ -16,6 +16,7 @@ mod submission;
 mod submission_ending;
 mod submission_told;
 mod submit_settings;
+mod timely;
 mod told_transfer;
 
 pub use audience::Audience;

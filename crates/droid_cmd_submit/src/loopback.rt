@@ -1,8 +1,13 @@
 //! Connections to a port of this machine.
+//!
+//! Proved is what [`Open`] asks for: when waiting begins anew, and how pauses grow. What the clock shows and what a
+//! connection delivers is up to the machine: those functions have no contract, and `tests/program/submissions`
+//! (`submit_waits.py`, `submit_broken.py`) tests them.
 
 ghost use Rattle.std.specs.Prelude.{◌≡◌};
 ghost use Rattle.droid_cmd_submit.specs.Waits.{OpensOne, WaitsOn, is_over, next_pause};
 
+use crate::timely::Timely;
 use droid_frame::Noted;
 use droid_remote::{Broken, Open};
 use droid_terminal::Verbosity;
@@ -24,7 +29,7 @@ pub struct LoopbackSettings {
     pub port: u16,
     /// For how many seconds connecting is tried.
     pub wait: u32,
-    /// How many seconds a read or a write may take before the connection counts as broken.
+    /// How many seconds a reply or a write may take before the connection counts as broken.
     pub timeout: u32,
     /// Whether it is printed that nobody listens yet, and how.
     pub verbosity: Verbosity,
@@ -82,13 +87,14 @@ impl<'a, R: Clock> Loopback<'a, R> {
     }
 }
 
-impl<R: Clock + Eprint + Net<Listener = TcpListener, Stream = TcpStream>> Open<Noted<TcpStream>>
-    for Loopback<'_, R> {
+impl<'a, R: Clock + Eprint + Net<Listener = TcpListener, Stream = TcpStream>> Open<
+    Noted<Timely<'a, R>>,
+> for Loopback<'a, R> {
     ghost opens = { λ old stream new. OpensOne old new };
 
     ghost waits = { WaitsOn };
 
-    fn open(&mut self) -> Result<Noted<TcpStream>, Broken> {
+    fn open(&mut self) -> Result<Noted<Timely<'a, R>>, Broken> {
         match connect(self.runtime, self.settings) {
             Ok(stream) => {
                 self.failed = None;
@@ -115,35 +121,36 @@ impl<R: Clock + Eprint + Net<Listener = TcpListener, Stream = TcpStream>> Open<N
         true
     }
 
+    fn await_frame(&self, stream: &mut Noted<Timely<'a, R>>) {
+        stream.stream.await_frame();
+    }
+
     fn start_wait(&mut self) {
         self.begun = Instant::now(self.runtime).ok();
         self.pause = SHORTEST_PAUSE;
     }
 }
 
-/// Connects to the port. A read or a write then fails when it takes longer than the timeout.
-fn connect<R: Net<Listener = TcpListener, Stream = TcpStream>>(
+/// Connects to the port. A reply or a write then fails when it takes longer than the timeout.
+fn connect<R: Clock + Net<Listener = TcpListener, Stream = TcpStream>>(
     rt: &R,
     settings: LoopbackSettings,
-) -> Result<TcpStream, ErrorKind> {
+) -> Result<Timely<'_, R>, ErrorKind> {
     match connected(rt, settings) {
         Ok(stream) => Ok(stream),
         Err(error) => Err(error.kind()),
     }
 }
 
-/// Connects to the port, with the time limits of reads and writes.
-fn connected<R: Net<Listener = TcpListener, Stream = TcpStream>>(
+/// Connects to the port, with the time limits of replies and writes.
+fn connected<R: Clock + Net<Listener = TcpListener, Stream = TcpStream>>(
     rt: &R,
     settings: LoopbackSettings,
-) -> io::Result<TcpStream> {
+) -> io::Result<Timely<'_, R>> {
     let stream = TcpStream::connect(rt, (Ipv4Addr::LOCALHOST, settings.port))?;
-    let timeout = Duration::from_secs(u64::from(settings.timeout));
-    stream.set_read_timeout(Some(timeout))?;
-    stream.set_write_timeout(Some(timeout))?;
     // A request's frame is two writes, and its reply may be waited for: don't delay the second.
     let _ = stream.set_nodelay(true);
-    Ok(stream)
+    Timely::new(rt, stream, u64::from(settings.timeout) * 1_000)
 }
 
 /// Prints that nobody listens on the port yet, if that is why it could not be connected to.

@@ -1,4 +1,5 @@
-//! The files that a submission writes: each is complete, or as it was before.
+//! The files that a submission writes: each is complete, or as it was before. Nothing here has a contract, since files
+//! are up to the machine: `tests/program/submissions/submit_outputs.py` tests it.
 
 use crate::submission_ending::{OutputFile, SubmissionEnding};
 use droid_arguments::SubmitOptions;
@@ -27,7 +28,7 @@ pub(crate) fn see_outputs<R: Files<File = File> + AllocGlobal>(
     Ok(())
 }
 
-/// Checks that two files are not the same, if both are named.
+/// Checks that two files are not the same, if both are named. `file` is the second, which the fault names.
 fn see_other<R: Files + AllocGlobal>(
     rt: &R,
     first: Option<&str>,

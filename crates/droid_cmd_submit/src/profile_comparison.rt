@@ -143,7 +143,7 @@ pub(crate) fn compare_with(
     })
 }
 
-/// Returns whether the profile is the tree.
+/// Returns whether the profile is the tree: nothing was skipped, which `whole` says, and nothing differs.
 fn is_whole(whole: bool, differences: &[Difference]) -> bool
     ensures { result ≡ is_whole whole differences.now }
 {

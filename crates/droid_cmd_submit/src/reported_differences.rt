@@ -1,13 +1,15 @@
 //! Which differences between the profile and the folder are reported, and what is suggested.
 
 ghost use Rattle.std.specs.Prelude.{◌≡◌, ◌++◌, ℕ, [], ◌∷◌, List, IfOk, OnOk, map};
-ghost use Rattle.droid_cmd_submit.specs.DifferenceLines.{is_reported, is_suggested};
+ghost use Rattle.droid_cmd_submit.specs.DifferenceLines.{is_older, is_reported, is_suggested};
 ghost use Rattle.droid_terminal.specs.SkippedPaths.{has_path, is_held};
 ghost use Rattle.droid_terminal.specs.declared.skipped.skipped_entry.SkippedEntry.{SkippedEntry};
 
-use crate::difference_line::{is_older, path_of};
+use crate::difference_line::path_of;
+use droid_frame::Refusal;
 use droid_lists::{Difference, Known};
 use droid_terminal::{SkippedEntry, SkippedPaths, holds_above, paths_of};
+use droid_tree::Skipped;
 use std::alloc::{AllocError, Global};
 
 /// Returns of each difference whether it is reported: unless its path, or a folder above it, was reported as skipped.
@@ -52,4 +54,16 @@ pub(crate) fn is_suggested(skipped: &[SkippedEntry]) -> bool
         suggested = suggested || is_older(entry.why);
     }
     suggested
+}
+
+/// Returns whether the profile has the folder or file that was skipped as it was before.
+fn is_older(why: Skipped) -> bool
+    ensures { result ≡ is_older why }
+{
+    match why {
+        Skipped::Refused(Refusal::NumberReused) => true,
+        Skipped::Refused(Refusal::NameTaken) => true,
+        Skipped::OtherHash => true,
+        _ => false,
+    }
 }

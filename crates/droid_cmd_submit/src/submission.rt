@@ -1,4 +1,5 @@
-//! The submission of a folder of this machine to a service on a port.
+//! The submission of a folder of this machine to a service on a port. `submit_and_check` is proved. What is here joins
+//! it to the machine, without contracts, and is tested by `tests/program/submissions`.
 
 use crate::begun_options::begun_of;
 use crate::checked_submission::{CommandFault, submit_and_check};
@@ -8,6 +9,7 @@ use crate::output_files::{see_outputs, write_export, write_report, write_skipped
 use crate::profile_comparison::{Compared, ComparisonFault};
 use crate::submission_ending::SubmissionEnding;
 use crate::submit_settings::{connection_of, sender_of, submission_name, walk_options};
+use crate::timely::Timely;
 use droid_arguments::SubmitOptions;
 use droid_disk::{Folder, System};
 use droid_frame::{Noted, Refusal};
@@ -26,7 +28,7 @@ const ANOTHER_NAME: &str =
     "a file differs: give another --name to submit the folder as it is now, as a new profile";
 
 /// A sender over connections to a port of this machine.
-type PortSender<'a, R> = Sender<Streams<Loopback<'a, R>, Noted<TcpStream>>>;
+type PortSender<'a, R> = Sender<Streams<Loopback<'a, R>, Noted<Timely<'a, R>>>>;
 
 /// All that the submission of a folder works with.
 type FolderUpload<'a, R> = Upload<
@@ -195,6 +197,7 @@ where
     SubmissionEnding::uncompared(fault)
 }
 
+/// Prints the profile's number on standard output, where a script reads it.
 fn print_profile<R: Print>(rt: &R, profile: u32) {
     let _ = println!(rt; "profile {profile}");
 }

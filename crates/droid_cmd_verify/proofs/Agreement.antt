@@ -55,12 +55,12 @@ pub record AreOfRecords (shown : List Record) (checked : Checked) : Type 0 where
   pub listed_are : IsPermutation (exports.items_of shown) checked.listed
   pub found_are : IsPermutation (exports.items_of shown) checked.found
 
-pub of_records : (bytes : List _) (shown : List Record) (listed : List Item) (checked : Checked) → Lists bytes (exports.items_of shown) → Says Profile bytes (Ok listed)
+pub of_records : (bytes : List _) (formats : Bool) (shown : List Record) (listed : List Item) (checked : Checked) → Lists bytes (exports.items_of shown) → Says Profile formats bytes (Ok listed)
     → IsInventory (readable_in [] listed) checked.listed → IsInventory (readable_in [] (items_of false shown)) checked.found → AreOfRecords shown checked
-of_records bytes shown listed checked lists says readable found =
+of_records bytes formats shown listed checked lists says readable found =
     let items = exports.items_of shown in
     let comes = says lists.0 lists.1 in
-    let read : comes.0 ≡ items = one_list (of_profile (profile_of lists.0)) comes.0 items comes.1 (ap of_profile lists.2) in
+    let read : comes.0 ≡ items = one_list (of_profile (profile_of formats lists.0)) comes.0 items comes.1 (ap of_profile (lists.2 formats)) in
     let first : IsPermutation items listed = subst (λ (its : List Item). IsPermutation its listed) read comes.2.same in
     let second : IsPermutation listed checked.listed = subst (λ (its : List Item). IsPermutation its checked.listed) (all_read listed) readable.same in
     record {
@@ -69,11 +69,11 @@ of_records bytes shown listed checked lists says readable found =
     }
 
 module _ (agree : (items listed found : List Item) (differences : List Difference) → profile.IsInventory items listed → profile.IsInventory items found → IsReport listed found differences → differences ≡ []) where
-  pub no_difference : (bytes : List _) (shown : List Record) (listed : List Item) (checked : Checked) → Lists bytes (exports.items_of shown) → Says Profile bytes (Ok listed)
+  pub no_difference : (bytes : List _) (formats : Bool) (shown : List Record) (listed : List Item) (checked : Checked) → Lists bytes (exports.items_of shown) → Says Profile formats bytes (Ok listed)
       → IsInventory (readable_in [] listed) checked.listed → IsInventory (readable_in [] (items_of false shown)) checked.found → IsReport checked.listed checked.found checked.differences.items → checked.differences.items ≡ []
-  no_difference bytes shown listed checked lists says readable found report =
+  no_difference bytes formats shown listed checked lists says readable found report =
       let items = exports.items_of shown in
-      let are = of_records bytes shown listed checked lists says readable found in
+      let are = of_records bytes formats shown listed checked lists says readable found in
       let first : profile.IsInventory items checked.listed = record { same = are.listed_are; in_order = readable.in_order } in
       let second : profile.IsInventory items checked.found = record { same = are.found_are; in_order = found.in_order } in
       agree items checked.listed checked.found checked.differences.items first second report

@@ -1,5 +1,5 @@
 -- The rows of an export give its files the formats of its records.
-use Rattle.std.proofs.Common.{◌≡◌, ◌∙◌, ◌++◌, ◌&&◌, ◌||◌, ◌==◌, ℕ, Bool, true, false, not, cond, List, [], ◌∷◌, append-nil, length, map, filter, refl, sym, ap, arith}
+use Rattle.std.proofs.Common.{◌≡◌, ◌∙◌, ◌++◌, ◌&&◌, ◌||◌, ◌==◌, ℕ, Bool, true, false, not, cond, List, [], ◌∷◌, Option, append-nil, length, map, filter, refl, sym, ap, arith}
 use Rattle.std.specs.List.{AllByRecursion, IsDistinct, flat_map}
 use Rattle.std.specs.Prelude.{codes, if◌then◌else◌}
 use Rattle.std.specs.Str.{bytes_eq}
@@ -17,9 +17,12 @@ use Rattle.droid_frame.specs.declared.hash_kind.HashKind.{HashKind}
 use Rattle.droid_frame.specs.declared.node_kind.NodeKind.{NodeKind}
 use Rattle.droid_frame.specs.declared.node_kind.NodeKind.TheVariants.{File, Folder}
 use Rattle.droid_frame.specs.declared.record.Record.{Record}
-use Rattle.droid_lists.specs.Formats.{HasRows, change_if, changes_in, differ, file_of, format_rows, formats_at, has_all, is_among, joined, or_none, rows_of}
+use Rattle.droid_lists.specs.FormatRows.{HasRows, file_rows, rows_of}
+use Rattle.droid_lists.specs.Formats.{change_if, changes_in, differ, file_of, formats_at, has_all, is_among, joined, or_none}
 use Rattle.droid_lists.specs.declared.format_lists.format_change.FormatChange.{FormatChange}
-use Rattle.droid_lists.specs.declared.format_lists.format_row.FormatRow.{FormatRow}
+use Rattle.droid_lists.specs.declared.csv_items.format_row.FormatRow.{FormatRow}
+use Rattle.droid_export.specs.declared.header.Header.{Header}
+use Rattle.droid_export.proofs.WholeHeaders.{header_is}
 use Rattle.droid_export.specs.Filters.{meets}
 use Rattle.droid_frame.specs.Filters.{is_file}
 use Rattle.droid_pronom.specs.Registry.{Contents}
@@ -28,6 +31,10 @@ use Rattle.droid_export.specs.Text.{chosen_rows, shown_rows, text}
 use Rattle.droid_cmd_verify.specs.CheckedTrees.{formats_of}
 
 -- ---- the rows of a record
+
+-- the rows of files among rows with all columns
+abbrev its_rows : List (List (List ℕ)) → List FormatRow
+its_rows rows = flat_map rows_of rows
 
 abbrev row_of : Record → List ℕ → FormatRow
 row_of node puid = record { path = node.path; puid = puid }
@@ -52,10 +59,10 @@ cond_more : (file : Bool) (one : FormatRow) (more : List FormatRow) → cond fil
 cond_more true one more = refl
 cond_more false one more = refl
 
-each_read : (registry : Contents) (node : Record) (puids : List (List ℕ)) → format_rows (map fields (map (λ one. row node (shown registry one)) puids)) ≡ rows_here node puids
+each_read : (registry : Contents) (node : Record) (puids : List (List ℕ)) → its_rows (map fields (map (λ one. row node (shown registry one)) puids)) ≡ rows_here node puids
 each_read registry node [] = sym (cond_same (is_file node.kind) [])
 each_read registry node (puid ∷ puids) =
-    ap (λ (front : List FormatRow). front ++ format_rows (map fields (map (λ one. row node (shown registry one)) puids))) (row_read node (shown registry puid))
+    ap (λ (front : List FormatRow). front ++ its_rows (map fields (map (λ one. row node (shown registry one)) puids))) (row_read node (shown registry puid))
     ∙ (ap (λ (more : List FormatRow). cond (is_file node.kind) (row_of node puid ∷ []) [] ++ more) (each_read registry node puids)
     ∙ cond_more (is_file node.kind) (row_of node puid) (map (row_of node) puids))
 
@@ -65,7 +72,7 @@ some_long puid puids = false_from_ne_true _ (λ is. let none : length (puid ∷ 
 or_some : (puid : List ℕ) (puids : List (List ℕ)) → or_none (puid ∷ puids) ≡ puid ∷ puids
 or_some puid puids = ap (λ (b : Bool). if b then [] ∷ [] else puid ∷ puids) (some_long puid puids)
 
-record_read : (registry : Contents) (node : Record) (puids : List (List ℕ)) → format_rows (map fields (rows_by registry node puids)) ≡ rows_here node (or_none puids)
+record_read : (registry : Contents) (node : Record) (puids : List (List ℕ)) → its_rows (map fields (rows_by registry node puids)) ≡ rows_here node (or_none puids)
 record_read registry node [] = append-nil (rows_of (fields (row node no_format))) ∙ row_read node no_format
 record_read registry node (puid ∷ puids) = each_read registry node (puid ∷ puids) ∙ ap (λ (some : List (List ℕ)). rows_here node some) (sym (or_some puid puids))
 
@@ -73,19 +80,14 @@ record_read registry node (puid ∷ puids) = each_read registry node (puid ∷ p
 abbrev all_rows : List Record → List FormatRow
 all_rows nodes = flat_map (λ node. rows_here node (or_none node.puids)) nodes
 
-rows_read : (registry : Contents) (nodes : List Record) → format_rows (map fields (flat_map (rows registry) nodes)) ≡ all_rows nodes
+rows_read : (registry : Contents) (nodes : List Record) → its_rows (map fields (flat_map (rows registry) nodes)) ≡ all_rows nodes
 unfolding rows
 rows_read registry [] = refl
 rows_read registry (node ∷ nodes) =
-    ap format_rows (map-append fields (rows registry node) (flat_map (rows registry) nodes))
+    ap its_rows (map-append fields (rows registry node) (flat_map (rows registry) nodes))
     ∙ (flat_map-append rows_of (map fields (rows registry node)) (map fields (flat_map (rows registry) nodes))
-    ∙ (ap (λ (front : List FormatRow). front ++ format_rows (map fields (flat_map (rows registry) nodes))) (record_read registry node node.puids)
+    ∙ (ap (λ (front : List FormatRow). front ++ its_rows (map fields (flat_map (rows registry) nodes))) (record_read registry node node.puids)
     ∙ ap (λ (more : List FormatRow). rows_here node (or_none node.puids) ++ more) (rows_read registry nodes)))
-
--- the names of the columns are no row of a file
-header_read : (hash : HashKind) → rows_of (fields (header hash)) ≡ []
-unfolding field_at
-header_read hash = refl
 
 -- ---- the formats of a path
 
@@ -216,5 +218,5 @@ no_format_differs registry criteria hash nodes given back distinct has =
     let chosen : List Record = filter (meets criteria) nodes in
     let is : given ≡ all_rows chosen
     = has (map fields (shown_rows registry criteria hash nodes)) back
-    ∙ (ap (λ (front : List FormatRow). front ++ format_rows (map fields (chosen_rows registry criteria nodes))) (header_read hash) ∙ rows_read registry chosen) in
+    ∙ (ap (λ (found : Option Header). file_rows found (map fields (chosen_rows registry criteria nodes))) (header_is hash) ∙ rows_read registry chosen) in
     ap (λ (some : List FormatRow). changes_in some (formats_of true chosen)) is ∙ none_differs (all_rows chosen) chosen (each_has chosen (some_distinct (meets criteria) nodes distinct))

@@ -29,9 +29,10 @@ pub record Agree (listed found : List Item) : Type 0 where
   pub each_listed : EachListedIsSame listed found
   pub each_found : EachFoundIsSame listed found
 
--- each file of these records has a hash
+-- a file has a hash
 abbrev pub HasHash : Record → Type 0
 HasHash node = is_file node.kind ≡ true → IsTrue (not (hash_kind_number (hash_value_kind node.hash) == 0))
 
+-- each file of these records has a hash
 abbrev pub HaveHashes : List Record → Type 0
 HaveHashes nodes = AllByRecursion HasHash nodes

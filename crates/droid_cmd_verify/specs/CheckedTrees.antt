@@ -43,6 +43,7 @@ is_unreadable reasons.Unreadable = true
 is_unreadable reasons.Changed = true
 is_unreadable reasons.OtherHash = true
 
+-- what counts as unreadable of all that was skipped
 abbrev pub unreadable_in : List SkippedEntry → List SkippedEntry
 unreadable_in skipped = filter (λ entry. is_unreadable entry.why) skipped
 
@@ -58,10 +59,11 @@ readable_in unreadable items = filter (is_readable unreadable) items
 abbrev pub options_for : Options → HashKind → Options
 options_for options hash = record options { hash = hash }
 
--- the items of records, and the formats of the files among them
+-- the items of records
 abbrev pub items_of : Bool → List Record → List Item
 items_of files_only shown = flat_map (items_by files_only) shown
 
+-- the formats of the files among records, if formats are kept
 abbrev pub formats_of : Bool → List Record → List FileFormats
 formats_of identify shown = flat_map (formats_by identify) shown
 

@@ -1,16 +1,16 @@
 -- What a list says, and the formats that it gives files (this project's own).
 use Rattle.std.specs.Prelude.{◌≡◌, ◌&&◌, ◌++◌, ℕ, Bool, true, false, not, List, Option, Some, None, Result, Ok, Err}
-use Rattle.std.specs.Prelude.{Vec, ⊤, codes}
+use Rattle.std.specs.Prelude.{Vec, ⊤, codes, if◌then◌else◌}
 use Rattle.std.specs.declared.alloc.Global.{Global}
 use Rattle.droid_frame.specs.declared.hash_kind.HashKind.{HashKind}
 use Rattle.droid_frame.specs.declared.hash_kind.HashKind.TheVariants as kinds
-use Rattle.droid_lists.specs.Formats.{HasRows}
+use Rattle.droid_lists.specs.FormatRows.{HasRows}
 use Rattle.droid_arguments.specs.declared.verify.VerifyOptions.{VerifyOptions}
 use Rattle.droid_lists.specs.ListForms.{form_of, names_files_alone}
 use Rattle.droid_lists.specs.Listings.{ListSays}
 use Rattle.droid_cmd_verify.specs.declared.measure.Measure.{Measure}
 use Rattle.droid_cmd_verify.specs.declared.measure.Measure.TheVariants.{Hashes, Sizes, Moments}
-use Rattle.droid_lists.specs.declared.format_lists.format_row.FormatRow.{FormatRow}
+use Rattle.droid_lists.specs.declared.csv_items.format_row.FormatRow.{FormatRow}
 use Rattle.droid_lists.specs.declared.list_form.ListForm.{ListForm}
 use Rattle.droid_lists.specs.declared.list_form.ListForm.TheVariants.{Profile, Checksum}
 use Rattle.droid_lists.specs.declared.list_content.Listed.{Listed}
@@ -52,24 +52,23 @@ AreRows true text None = ⊥
 AreRows false text (Some rows) = ⊥
 AreRows false text None = ⊤
 
--- a text that is read as a list comes to the list with its rows. It has none for formats to be compared with, if it
--- names files alone; and memory may run out.
-abbrev pub GivesLists : Measure → Bool → Listed → List ℕ → Result Lists VerifyEnding → Type 0
-GivesLists how identify listed text (Ok lists) =
-    (lists.listed ≡ listed) × AreRows identify text lists.rows × (lists.how ≡ how)
-GivesLists how identify listed text (Err NoFormats) = (identify ≡ true) × (names_files_alone listed.form ≡ true)
-GivesLists how identify listed text (Err NoMemory) = ⊤
-GivesLists how identify listed text (Err _) = ⊥
+-- a list comes with its rows, if formats are compared; a list that names files alone has none for that
+abbrev pub GivesLists : Measure → Bool → Listed → Vec FormatRow Global → Result Lists VerifyEnding → Type 0
+GivesLists how identify listed rows (Ok lists) =
+    (lists.listed ≡ listed) × (lists.rows ≡ (if identify then Some rows else None)) × (lists.how ≡ how)
+    × ((identify && names_files_alone listed.form) ≡ false)
+GivesLists how identify listed rows (Err NoFormats) = (identify ≡ true) × (names_files_alone listed.form ≡ true)
+GivesLists how identify listed rows (Err _) = ⊥
 
 -- What comes of a text: the list that it is, with its rows; or why it is none. Sizes alone are not compared where it
 -- has a hash.
 abbrev pub ListsSay : Bool → Measure → Bool → List ℕ → Result Lists VerifyEnding → Type 0
 ListsSay in_bag how identify text (Ok lists) =
-    ListSays in_bag text (Ok lists.listed) × AreRows identify text lists.rows × (lists.how ≡ how)
+    ListSays in_bag identify text (Ok lists.listed) × AreRows identify text lists.rows × (lists.how ≡ how)
     × (may_measure how lists.listed.hash ≡ true)
 ListsSay in_bag how identify text (Err HasHashes) =
-    (listed : Listed) × ListSays in_bag text (Ok listed) × (may_measure how listed.hash ≡ false)
-ListsSay in_bag how identify text (Err (NoList fault)) = ListSays in_bag text (Err fault)
+    (listed : Listed) × ListSays in_bag identify text (Ok listed) × (may_measure how listed.hash ≡ false)
+ListsSay in_bag how identify text (Err (NoList fault)) = ListSays in_bag identify text (Err fault)
 ListsSay in_bag how identify text (Err NoFormats) = (identify ≡ true) × (names_files_alone (form_of in_bag text) ≡ true)
 ListsSay in_bag how identify text (Err NoMemory) = ⊤
 ListsSay in_bag how identify text (Err _) = ⊥

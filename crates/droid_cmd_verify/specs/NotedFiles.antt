@@ -15,6 +15,7 @@ use Rattle.droid_lists.specs.Nodes.{item_of}
 use Rattle.droid_core_spec.specs.Conditions.{is_moment}
 use Rattle.droid_cmd_verify.specs.declared.noted_files.NotedFiles.{NotedFiles}
 
+-- a regular file
 abbrev pub is_regular : EntryKind → Bool
 is_regular kinds.Folder = false
 is_regular kinds.File = true
@@ -30,6 +31,7 @@ is_noted entry = is_regular entry.kind && is_utf8 entry.name && is_moment entry.
 abbrev pub noted_item : List ℕ → FolderEntry → Item
 noted_item path entry = item_of (below path entry.name) nodes.File entry.len entry.modified hashes.Nothing
 
+-- the item of an entry, if it is noted
 abbrev pub items_of_entry : List ℕ → FolderEntry → List Item
 items_of_entry path entry = if is_noted entry then noted_item path entry ∷ [] else []
 

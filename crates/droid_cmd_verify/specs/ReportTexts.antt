@@ -29,6 +29,7 @@ difference_name (New f) = codes "new"
 difference_name (Moved l f) = codes "moved"
 difference_name (Touched l f) = codes "changed"
 
+-- the first column
 abbrev pub name_of : Kind → List ℕ
 name_of (Differs difference) = difference_name difference
 name_of (Unchecked pair) = codes "unchecked"
@@ -42,7 +43,7 @@ reason_of (Unchecked pair) = codes "no hash to compare"
 reason_of (Unreadable why) = cause_text why
 reason_of Formats = []
 
--- the item of the list, and that of the tree, that a finding is about
+-- the item of the list that a finding is about
 abbrev pub listed_of : List Item → Kind → Option Item
 listed_of listed (Differs (Changed l f changes)) = slice_get listed l
 listed_of listed (Differs (Missing l)) = slice_get listed l
@@ -53,6 +54,7 @@ listed_of listed (Unchecked pair) = slice_get listed pair.listed
 listed_of listed (Unreadable why) = None
 listed_of listed Formats = None
 
+-- the item of the tree that a finding is about
 abbrev pub found_of : List Item → Kind → Option Item
 found_of found (Differs (Changed l f changes)) = slice_get found f
 found_of found (Differs (Missing l)) = None
@@ -68,6 +70,7 @@ abbrev pub length_text : Option ℕ → List ℕ
 length_text None = []
 length_text (Some n) = decimal n
 
+-- the length of an item, if there is one and it is known
 abbrev pub size_text : Option Item → List ℕ
 size_text None = []
 size_text (Some item) = length_text item.length
@@ -81,6 +84,7 @@ hash_of (Some item) = item.hash
 abbrev pub hash_text : Option Item → List ℕ
 hash_text item = encode_lower (hash_bytes (hash_of item))
 
+-- the path of an item, if there is one
 abbrev pub path_text : Option Item → List ℕ
 path_text None = []
 path_text (Some item) = item.path
@@ -95,6 +99,7 @@ record_with finding size hash found_path found_size found_hash =
 abbrev pub record_by : Finding → Option Item → Option Item → List (List ℕ)
 record_by finding a b = record_with finding (size_text a) (hash_text a) (path_text b) (size_text b) (hash_text b)
 
+-- the record of a finding, whose kind names the items by their places
 abbrev pub record_of : List Item → List Item → Finding → List (List ℕ)
 record_of listed found finding = record_by finding (listed_of listed finding.kind) (found_of found finding.kind)
 

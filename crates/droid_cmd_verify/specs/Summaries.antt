@@ -47,17 +47,19 @@ known_bytes (Some length) = length
 abbrev pub length_at : List Item → ℕ → ℕ
 length_at items place = option_map_or (λ item. known_bytes item.length) (slice_get items place) 0
 
--- how many files are at these places, and how many bytes they have together, up to the greatest number of 64 bits;
--- behind those that were counted before
+-- how many files are at these places, behind those that were counted before, up to the greatest number of 64 bits
 abbrev pub files_from : ℕ → List ℕ → ℕ
 files_from n places = fold (λ n place. one_more n) n places
 
+-- how many bytes the files at these places have together, counted in the same way
 abbrev pub bytes_from : List Item → ℕ → List ℕ → ℕ
 bytes_from found n places = fold (λ bytes place. min (bytes + length_at found place) (2 ^ 64 - 1)) n places
 
+-- how many files are at these places
 abbrev pub files_at : List ℕ → ℕ
 files_at places = files_from 0 places
 
+-- how many bytes they have together
 abbrev pub bytes_at : List Item → List ℕ → ℕ
 bytes_at found places = bytes_from found 0 places
 
@@ -73,12 +75,13 @@ format_line identify count = if identify then count_line (codes "format") count 
 unfoldable pub unchecked_line : Measure → ℕ → List ℕ
 unchecked_line how count = if by_hashes how then count_line (codes "unchecked") count else []
 
--- by what the files were compared is said of their number and of their bytes
+-- the name of the number of files, by what they were compared by
 abbrev pub files_name : Measure → List ℕ
 files_name Hashes = codes "files compared"
 files_name Sizes = codes "files compared by size alone"
 files_name Moments = codes "files compared by size and modification time alone"
 
+-- the name of the number of their bytes
 abbrev pub bytes_name : Measure → List ℕ
 bytes_name Hashes = codes "bytes compared"
 bytes_name Sizes = codes "bytes not compared"

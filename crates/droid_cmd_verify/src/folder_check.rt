@@ -1,10 +1,11 @@
-//! The comparison of a folder of this machine.
+//! The comparison of a folder of this machine. `verify_as` is proved. What is here joins it to the machine's files,
+//! mostly without contracts, and is tested by `tests/program/folders` (`verify_*.py`).
 
 ghost use Rattle.std.specs.Prelude.{◌≡◌, ◌++◌, IfOk, codes, string_bytes};
 ghost use Rattle.droid_cmd_verify.specs.Lists.{is_identified, listed_folder};
 
-use crate::lists::{Lists, measure_of, read_lists};
-use crate::measure::Measure;
+use crate::lists::{Lists, read_lists};
+use crate::measure::{Measure, measure_of};
 use crate::verification::{ClearLine, Verified, verify_as};
 use crate::verify_ending::VerifyEnding;
 use droid_arguments::VerifyOptions;
@@ -83,7 +84,7 @@ fn is_identified(options: VerifyOptions<'_>) -> bool
     options.identify && !options.quick
 }
 
-/// Reads the list.
+/// Reads the file of the list, and what it says. An unreadable file ends the command.
 fn lists_of<R>(rt: &R, options: VerifyOptions<'_>) -> Result<Lists, VerifyEnding>
 where
     R: Files<File = File> + AllocGlobal,
@@ -159,7 +160,7 @@ fn has_no_hash(lists: &Lists) -> bool {
         && has_file(lists.listed.items.as_slice())
 }
 
-/// Returns whether one of the items is a file.
+/// Returns whether one of the items is a file. Without one there is nothing to warn of.
 fn has_file(items: &[Item]) -> bool {
     items.iter().any(|item| item.kind == NodeKind::File)
 }

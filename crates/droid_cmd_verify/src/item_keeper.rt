@@ -104,7 +104,7 @@ fn add_item(items: &mut Vec<Item>, item: Item) -> Result<(), AllocError>
     Ok(())
 }
 
-/// Returns the item of a record.
+/// Returns the item of a record. There always is one, since the moment of its last change can be written.
 #[tactic(auto, using(crate::proofs::Moments::moment_written))]
 fn item_of(alloc: Global, next: &Record) -> Result<Item, AllocError>
     requires { IsTrue (is_moment next.now.modified) }

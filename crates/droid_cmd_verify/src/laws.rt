@@ -21,8 +21,9 @@ ghost use Rattle.droid_terminal.specs.declared.skipped.skipped_entry.SkippedEntr
 ghost use Rattle.droid_export.specs.Filters.{meets};
 ghost use Rattle.droid_export.specs.Rows.{fields};
 ghost use Rattle.droid_export.specs.Text.{shown_rows, text};
-ghost use Rattle.droid_lists.specs.Formats.{HasRows, changes_in};
-ghost use Rattle.droid_lists.specs.declared.format_lists.format_row.FormatRow.{FormatRow};
+ghost use Rattle.droid_lists.specs.FormatRows.{HasRows};
+ghost use Rattle.droid_lists.specs.Formats.{changes_in};
+ghost use Rattle.droid_lists.specs.declared.csv_items.format_row.FormatRow.{FormatRow};
 ghost use Rattle.droid_lists.specs.declared.format_lists.format_change.FormatChange.{FormatChange};
 ghost use Rattle.droid_fixity.specs.FilePairs.{AreFilePairs};
 ghost use Rattle.droid_fixity.specs.Inventories.{AreInOrder};
@@ -73,16 +74,16 @@ pub fn a_profile_agrees_with_its_tree()
     ensures form { (registry : Contents) (criteria : Filter) (hash : HashKind) (nodes : List Record) (in_bag : Bool)
         → form_of in_bag (text registry criteria hash nodes) ≡ Profile }
     ensures agrees { (registry : Contents) (criteria : Filter) (hash : HashKind) (nodes : List Record) (in_bag : Bool)
-        (listed : Listed) (checked : Checked)
+        (formats : Bool) (listed : Listed) (checked : Checked)
         → AreRecordsOf hash nodes
-        → ListSays in_bag (text registry criteria hash nodes) (Ok listed)
+        → ListSays in_bag formats (text registry criteria hash nodes) (Ok listed)
         → IsInventory (readable_in [] listed.items) checked.listed
         → IsInventory (readable_in [] (items_of false (filter (meets criteria) nodes))) checked.found
         → IsReport checked.listed checked.found checked.differences.items → checked.differences.items ≡ [] }
     ensures hashed { (registry : Contents) (criteria : Filter) (hash : HashKind) (nodes : List Record) (in_bag : Bool)
-        (listed : Listed) (checked : Checked)
+        (formats : Bool) (listed : Listed) (checked : Checked)
         → AreRecordsOf hash nodes → HaveHashes nodes
-        → ListSays in_bag (text registry criteria hash nodes) (Ok listed)
+        → ListSays in_bag formats (text registry criteria hash nodes) (Ok listed)
         → IsInventory (readable_in [] listed.items) checked.listed
         → IsInventory (readable_in [] (items_of false (filter (meets criteria) nodes))) checked.found
         → AreFilePairs checked.listed checked.found checked.files.items

@@ -1,12 +1,12 @@
 //! What a list says, the formats that it gives files, and by what its files are compared.
 
 ghost use Rattle.std.specs.Prelude.{◌≡◌};
-ghost use Rattle.droid_cmd_verify.specs.Lists.{GivesLists, ListsSay, may_measure, measure_of};
+ghost use Rattle.droid_cmd_verify.specs.Lists.{GivesLists, ListsSay, may_measure};
 
 use crate::measure::Measure;
 use crate::verify_ending::VerifyEnding;
 use droid_frame::HashKind;
-use droid_lists::{FormatRow, Listed, read_formats, read_list};
+use droid_lists::{FormatRow, Listed, read_list};
 use std::alloc::Global;
 
 /// What a list says.
@@ -32,26 +32,25 @@ pub fn read_lists(
 ) -> Result<Lists, VerifyEnding>
     ensures { ListsSay in_bag how identify text.now result }
 {
-    match read_list(alloc, in_bag, text) {
-        Ok(listed) => {
+    match read_list(alloc, in_bag, identify, text) {
+        Ok((listed, rows)) => {
             if !may_measure(how, listed.hash) {
                 return Err(VerifyEnding::HasHashes);
             }
-            with_formats(alloc, how, identify, listed, text)
+            with_formats(how, identify, listed, rows)
         }
         Err(fault) => Err(VerifyEnding::unlisted(fault)),
     }
 }
 
-/// Reads the formats of a list, if they are compared. A list of checksums has none.
+/// Adds the formats of a list, if they are compared. A list of checksums has none.
 fn with_formats(
-    alloc: Global,
     how: Measure,
     identify: bool,
     listed: Listed,
-    text: &[u8],
+    rows: Vec<FormatRow>,
 ) -> Result<Lists, VerifyEnding>
-    ensures { GivesLists how identify listed text.now result }
+    ensures { GivesLists how identify listed rows result }
 {
     if !identify {
         return Ok(Lists {
@@ -63,28 +62,14 @@ fn with_formats(
     if listed.form.names_files_alone() {
         return Err(VerifyEnding::NoFormats);
     }
-    match read_formats(alloc, text) {
-        Ok(rows) => Ok(Lists {
-            listed,
-            rows: Some(rows),
-            how,
-        }),
-        Err(_) => Err(VerifyEnding::NoMemory),
-    }
+    Ok(Lists {
+        listed,
+        rows: Some(rows),
+        how,
+    })
 }
 
-/// Returns by what files are compared, as the options say.
-pub(crate) fn measure_of(quick: bool, sizes_only: bool) -> Measure
-    ensures { result ≡ measure_of quick sizes_only }
-{
-    match (quick, sizes_only) {
-        (true, _) => Measure::Moments,
-        (false, true) => Measure::Sizes,
-        (false, false) => Measure::Hashes,
-    }
-}
-
-/// Returns whether files may be compared so that have hashes of this kind: by sizes alone, only if they have none.
+/// Returns whether files that have hashes of this kind may be compared so: by sizes alone, only if they have none.
 fn may_measure(how: Measure, hash: HashKind) -> bool
     ensures { result ≡ may_measure how hash }
 {

@@ -2,6 +2,7 @@
 
 ghost use Rattle.std.specs.Prelude.{◌≡◌};
 ghost use Rattle.droid_cmd_verify.specs.Compared as compared;
+ghost use Rattle.droid_cmd_verify.specs.Lists.{measure_of};
 
 /// By what the files of a list and of a tree are compared.
 #[derive(Clone, Copy, PartialEq, Eq)]
@@ -33,5 +34,16 @@ pub fn by_hashes(how: Measure) -> bool
         Measure::Hashes => true,
         Measure::Sizes => false,
         Measure::Moments => false,
+    }
+}
+
+/// Returns by what files are compared, as the options say.
+pub(crate) fn measure_of(quick: bool, sizes_only: bool) -> Measure
+    ensures { result ≡ measure_of quick sizes_only }
+{
+    match (quick, sizes_only) {
+        (true, _) => Measure::Moments,
+        (false, true) => Measure::Sizes,
+        (false, false) => Measure::Hashes,
     }
 }

@@ -53,8 +53,10 @@ impl<T: Tree> Tree for NotedFiles<T> {
     }
 }
 
-/// Notes the files among these entries of the folder at this path, and removes them. They are sorted by name first: the
-/// names of one folder take less time than whole paths, and the comparison then meets files in order.
+/// Notes the files among these entries of the folder at this path, and removes them.
+///
+/// They are sorted by name first, for speed alone: the names of one folder take less time than whole paths, and the
+/// comparison then meets files in order. No clause needs the order.
 fn take_files(
     alloc: Global,
     files: &mut Vec<Item>,

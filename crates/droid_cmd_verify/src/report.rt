@@ -194,7 +194,7 @@ fn size_text(alloc: Global, item: Option<&Item>) -> Result<String, AllocError>
     }
 }
 
-/// Returns the text of a size, which is empty for a folder.
+/// Returns the text of a length, which is empty if it is not known, as that of a folder.
 fn length_text(alloc: Global, length: Option<u64>) -> Result<String, AllocError>
     ensures { IfOk result (λ text. string_bytes text ≡ texts.length_text length) }
 {

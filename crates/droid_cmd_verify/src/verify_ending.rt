@@ -119,6 +119,7 @@ fn told_no_list<'a>(fault: &'a UnreadList, list: &'a str) -> Ending<'a>
     }
 }
 
+/// Returns the ending where a list is a profile's CSV, and a malformed one.
 fn told_no_profile<'a>(fault: ListFault, list: &'a str) -> Ending<'a>
     ensures { told result ≡ told_no_profile fault list.now }
 {
@@ -126,22 +127,32 @@ fn told_no_profile<'a>(fault: ListFault, list: &'a str) -> Ending<'a>
     match fault {
         ListFault::Memory => Ending::by(faults::MEMORY, About::Nothing),
         ListFault::Header => Ending::by(faults::LIST_OTHER, about),
+        ListFault::Missing { column } => Ending::detailed(
+            faults::LIST_LACKS,
+            about,
+            Detail::Words(column.names()),
+        ),
         ListFault::Fields { record } => {
             Ending::detailed(faults::LIST_FIELDS, about, Detail::Number(record))
         }
-        ListFault::Column { record, column } => Ending::detailed(
+        ListFault::Column {
+            record,
+            column,
+            hash,
+        } => Ending::detailed(
             faults::LIST_WRONG,
             about,
-            Detail::Numbered(record, ": ", column.name()),
+            Detail::Numbered(record, ": ", column.name(hash)),
         ),
         ListFault::Contradiction { record, column } => Ending::detailed(
             faults::LIST_CONTRADICTS,
             about,
-            Detail::Numbered(record, ": ", column.name()),
+            Detail::Numbered(record, ": ", column.names()),
         ),
     }
 }
 
+/// Returns the ending where a list of checksums is malformed or names no file.
 fn told_no_manifest<'a>(fault: ManifestFault, list: &'a str) -> Ending<'a>
     ensures { told result ≡ told_no_manifest fault list.now }
 {

@@ -10,6 +10,7 @@ use droid_profile::Options;
 const MOST_SCANNED: u32 = 65_536;
 
 /// Returns how the tree is walked. If formats are not compared (`identify`), a file is searched as little as can be.
+/// The hash is chosen later, by the list.
 pub(crate) fn walk_options(identify: bool, limit: u32, match_all: bool) -> Options
     ensures options { result ≡ walk_options identify limit match_all }
     ensures within { result.scan_limit ≤ 65536 }

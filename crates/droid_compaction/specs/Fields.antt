@@ -4,9 +4,11 @@ use Rattle.std.specs.Prelude.{ℕ, ◌+◌, ◌*◌, ◌==◌, ◌||◌, if◌th
 use Rattle.std.specs.Prelude.{slice_index}
 use Rattle.std.specs.Int.{w32, w64, from_be_bytes}
 
+-- a big-endian number of four bytes
 abbrev pub client_at : List ℕ → ℕ
 client_at bytes = from_be_bytes w32 (take 4 bytes)
 
+-- one of eight bytes
 abbrev pub number_at : List ℕ → ℕ
 number_at bytes = from_be_bytes w64 (take 8 bytes)
 
@@ -29,11 +31,12 @@ is_about kind request reply =
 abbrev pub is_end : List ℕ → List ℕ → Bool
 is_end request reply = is_about 5 request reply || is_about 6 request reply
 
--- the same by the request's kind and the lengths of both
+-- `is_about` by the request's kind and the lengths of both
 abbrev pub is_about_by : ℕ → ℕ → ℕ → ℕ → Bool
 is_about_by kind own request reply =
     if nat_lt request 26 then false else if nat_lt 4194386 request then false else if nat_lt 1048658 reply then false
     else own == kind
 
+-- `is_end` likewise
 abbrev pub is_end_by : ℕ → ℕ → ℕ → Bool
 is_end_by own request reply = is_about_by 5 own request reply || is_about_by 6 own request reply

@@ -38,6 +38,7 @@ once before [] = []
 once before (it ∷ its) =
     if has_stamp before (stamp_in it.request) then once (before ++ it ∷ []) its else it ∷ once (before ++ it ∷ []) its
 
+-- the records of the journal that is made smaller when these files have ended
 abbrev pub smaller_by : (ℕ → Bool) → List Record → List Record
 smaller_by ended its = map (smaller ended) (once [] its)
 

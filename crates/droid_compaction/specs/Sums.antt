@@ -30,9 +30,10 @@ abbrev pub request_or_none : Option (List ℕ) → List ℕ
 request_or_none (Some request) = request
 request_or_none None = []
 
--- the byte of its kind, and its body
+-- the byte of its kind
 abbrev pub kind_in : Form → List ℕ → List ℕ
 kind_in form bytes = take 1 (drop 1 (request_or_none (request_in form bytes)))
 
+-- its body
 abbrev pub body_in : Form → List ℕ → List ℕ
 body_in form bytes = drop 18 (request_or_none (request_in form bytes))

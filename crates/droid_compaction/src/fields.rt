@@ -33,7 +33,7 @@ pub(crate) fn file_of(request: &[u8]) -> u128
     u128::from(number_of(&request[18..]))
 }
 
-/// Reads the first four bytes.
+/// Reads a client from the first four bytes.
 fn client_of(bytes: &[u8]) -> u32
     requires { 4 ≤ length bytes.now }
     ensures { result ≡ specs.client_at bytes.now }
@@ -42,7 +42,7 @@ fn client_of(bytes: &[u8]) -> u32
     u32::from_be_bytes([front[0], front[1], front[2], front[3]])
 }
 
-/// Reads the first eight bytes.
+/// Reads a number from the first eight bytes.
 fn number_of(bytes: &[u8]) -> u64
     requires { 8 ≤ length bytes.now }
     ensures { result ≡ specs.number_at bytes.now }

@@ -1,4 +1,8 @@
-//! A name in a folder of this machine.
+//! A name in a folder of this machine, by the calls of the system.
+//!
+//! Nothing has a contract of its own here, as nothing is assumed of what the system does. The tests in
+//! `tests/program/journal` hold it: journal_calls.py which calls are made, in which order, and what comes of each that
+//! fails, and journal_compact.py what a kill at any moment leaves.
 
 use crate::exchange::Exchange;
 use droid_journal::{FileError, LogFile, sync_folder};
@@ -32,13 +36,14 @@ fn file_result(answer: io::Result<()>) -> Result<(), FileError> {
     }
 }
 
-// The clauses hold since nothing is assumed of where a name leads. That the system renames in one step, and that a
+// The clauses hold since `leads` and `may_lead` hold of no bytes. That the system renames in one step, and that a
 // synced folder keeps its names, is trusted.
 impl<'a, F: LogFile, R: Files<File = File>> Exchange<F> for Folder<'a, R> {
     ghost leads = { λ folder bytes. ⊥ };
 
     ghost may_lead = { λ folder bytes. ⊥ };
 
+    /// Renames by name: the new file must be the one beside the old.
     fn rename(&mut self, _new: &F) -> Result<(), FileError> {
         file_result(fs::rename(self.runtime, self.beside, self.path))
     }

@@ -1,4 +1,4 @@
-//! Numbers that were seen.
+//! Numbers that were seen: of files, or of requests.
 
 ghost use Rattle.std.specs.Prelude.{◌≡◌, ◌==◌, ◌||◌, ℕ, false, OnOk};
 ghost use Rattle.droid_compaction.specs.Numbers.{has_number};
@@ -13,7 +13,7 @@ pub(crate) struct Numbers {
 }
 
 impl Numbers {
-    /// None were seen yet. Allocates nothing.
+    /// Starts with none. Allocates nothing.
     pub(crate) fn new(alloc: Global) -> Numbers
         ensures { (n : ℕ) → has_number result n ≡ false }
     {

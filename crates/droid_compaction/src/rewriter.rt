@@ -141,6 +141,7 @@ pub(crate) fn flush<N: LogFile>(
     ensures bytes { IfOk result (λ now. now ≡ bytes + length out.old.items) }
     ensures fault { IfErr result (λ fault. fault ≡ RewriteFault.Write) }
 {
+    // No file is so long that this fails.
     let Some(now) = bytes.checked_add(out.len() as u64) else {
         return Err(RewriteFault::Write);
     };
@@ -160,6 +161,7 @@ impl<N: LogFile> Taker for Rewriter<N> {
 
     ghost took = { λ aim rewriter its. IsWriting N.has aim rewriter its };
 
+    /// Leaves out a request that came again. Writes once enough was collected.
     fn take(&mut self, request: &[u8], sum: [u8; 16], reply: &[u8]) -> Result<(), RewriteFault> {
         let stamp = stamp_of(request);
         if self.stamps.has(stamp) {
@@ -183,6 +185,7 @@ impl<N: LogFile> Taker for Rewriter<N> {
             Ok(check) => check,
             Err(_) => return Err(RewriteFault::Memory),
         };
+        // No file is so long that this fails.
         let Some(next) = place.behind(self.out.len() - before, check) else {
             return Err(RewriteFault::Write);
         };

@@ -130,7 +130,8 @@ fn front_at<F: LogFile>(file: &F, form: Form, at: u64) -> Result<Option<Front>, 
     }
 }
 
-/// Returns whether a record can have a request and a reply of these lengths.
+/// Returns whether a record can have a request and a reply of these lengths. Of those that none has, no clause needs
+/// the answer.
 fn can_be(request: u32, reply: u32) -> bool
     ensures { 18 ≤ request → request + reply + 25 ≤ 8388608 → result ≡ true }
 {
@@ -166,6 +167,7 @@ fn skim_one<F: LogFile>(
     let Some(front) = front else {
         return Ok(None);
     };
+    // Behind the request stands the length of the reply.
     let Some(place) = at.checked_add(u64::from(front.request) + u64::from(front.ahead) + 4) else {
         return Err(RewriteFault::Read);
     };
@@ -179,6 +181,7 @@ fn skim_one<F: LogFile>(
     if !can_be(front.request, reply) {
         return Ok(None);
     }
+    // Behind that length, of four bytes, stand the reply and a check value of 16.
     let Some(next) = place.checked_add(u64::from(reply) + 20) else {
         return Err(RewriteFault::Read);
     };
@@ -203,6 +206,7 @@ pub(crate) fn skim<F: LogFile>(
     ensures fault { IfErr result IsOfReading }
 {
     let mut at = from;
+    // The bound is never reached. With it the loop ends, whatever the file does.
     for _ in 0..u64::MAX {
         let next = match skim_one(file, form, ended, at) {
             Ok(next) => next,

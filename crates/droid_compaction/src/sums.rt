@@ -1,4 +1,6 @@
-//! Checksums of eight long requests, computed side by side.
+//! Checksums of eight long requests, computed side by side. This is for speed; no clause needs it. Where the functions
+//! that choose the eight requests have no contract, only the time depends on them: a checksum is used only where
+//! exactly as many bytes are left as where it was computed.
 
 ghost use Rattle.std.specs.Prelude.{◌≡◌, ◌<◌, ◌++◌, ℕ, [], IfSome, length, slice_index, slice_index_or};
 ghost use Rattle.droid_compaction.specs.Sums.{AreSumsIn, body_in, kind_in, last_in, request_or_none};
@@ -39,7 +41,7 @@ fn request_at(form: Form, bytes: &[u8]) -> &[u8]
     }
 }
 
-/// Returns the byte of a request's kind.
+/// Returns the byte of the kind of the request at the front, if it has one.
 fn kind_at(form: Form, bytes: &[u8]) -> &[u8]
     ensures { result.now ≡ kind_in form bytes.now }
 {
@@ -50,7 +52,7 @@ fn kind_at(form: Form, bytes: &[u8]) -> &[u8]
     &request[1..2]
 }
 
-/// Returns the body of a request.
+/// Returns the body of the request at the front.
 fn body_at(form: Form, bytes: &[u8]) -> &[u8]
     ensures { result.now ≡ body_in form bytes.now }
 {
@@ -69,8 +71,7 @@ fn last_of(bytes: &[u8], count: usize) -> &[u8]
 }
 
 /// Returns how many bytes are left behind the record that begins where `left` bytes are left, by its lengths alone, or
-/// 0 if there is no whole request. Only the time depends on it: a checksum is used only where exactly as many bytes are
-/// left.
+/// 0 if there is no whole request.
 fn left_behind(form: Form, bytes: &[u8], left: usize) -> usize {
     let rest = last_of(bytes, left);
     let Some(request) = request_of(form, rest) else {

@@ -12,8 +12,8 @@ use crate::sums::{Sums, is_long};
 use crate::taker::Taker;
 use droid_journal::{Found, Key, LogFile, Place, record_by};
 
-/// Reads the record at the front of bytes. If its request is long and its checksum isn't computed, computes those of
-/// the next eight long requests.
+/// Reads the record at the front of bytes. If its request is long and its checksum isn't computed, first computes those
+/// of the next eight long requests, for speed.
 fn next_of<'a>(key: Key, place: Place, bytes: &'a [u8], sums: &mut Sums) -> Option<Found<'a>>
     requires sums { AreSumsIn key.form bytes.now sums.old }
     requires at { place.at + length bytes.now < 18446744073709551616 }
@@ -105,6 +105,7 @@ pub(crate) fn take_all<F: LogFile, T: Taker>(
     ensures fault { IfErr result IsOfReading }
 {
     let mut place = from;
+    // The bound is never reached. With it the loop ends, whatever the file does.
     for _ in 0..u64::MAX {
         let next = match take_some(file, taker, key, place, buffer) {
             Ok(next) => next,

@@ -50,8 +50,10 @@ impl Taker for Weight {
 
     ghost took = { λ files weight its. AreWeighed files weight.files weight.bytes its };
 
+    /// Adds the bytes of the record if it is a piece of one of the files.
     fn take(&mut self, request: &[u8], _sum: [u8; 16], reply: &[u8]) -> Result<(), RewriteFault> {
         let weight = weight_of(&self.files, request, reply);
+        // No file is so long that this fails.
         match self.bytes.checked_add(weight) {
             Some(bytes) => self.bytes = bytes,
             None => return Err(RewriteFault::Memory),

@@ -58,7 +58,7 @@ fn end_at<F: LogFile>(file: &F, key: Key, at: u64) -> Result<Option<bool>, Rewri
     Ok(end)
 }
 
-/// Returns the same of the first 18 bytes behind the records.
+/// Does the work of [`end_at`] with the bytes that were read, of which there are at most 18.
 fn end_in(key: Key, at: u64, seen: &[u8]) -> Option<bool>
     ensures there { (rest : List ℕ) → seen.now ≡ take 18 rest
         → IfSome result (λ ahead. rest ≡ (if ahead then turn_mark key at else [])) }

@@ -56,6 +56,8 @@ pub record TakesOne (setting : Setting) (after : World) (old new : Holdings) (st
   pub world_is : IsIn setting after new
   pub replies : new.store.replies ≡ old.store.replies ++ stamped stamp reply ∷ []
 
+-- what the service keeps after a verdict: a command that was accepted is kept, with its reply; after any other request
+-- nothing has changed
 abbrev pub Leaves : Setting → World → Holdings → Holdings → Stamp → Verdict → Type 0
 Leaves setting world old new stamp (Accepted reply after) = TakesOne setting after old new stamp reply
 Leaves setting world old new stamp (Answered reply) = Stays setting world old new

@@ -24,6 +24,7 @@ node_in (Ok (Some row)) = Ok row
 node_in (Ok None) = Err NoSuchNode
 node_in (Err fault) = Err Memory
 
+-- the state that the row of such a file says
 abbrev pub state_of : Content → NodeState
 state_of content = if content.finished then Finished else Unfinished
 

@@ -20,6 +20,7 @@ of_node counted profile (Some (File parent modified name content)) =
     if content.finished then None else Some (counted profile content)
 of_node counted profile (Some Abandoned) = None
 
+-- a count of the file with this number, if the profile is there and the file is unfinished
 abbrev pub in_profile : (Profile → Content → ℕ) → Option Profile → ℕ → Option ℕ
 in_profile counted None id = None
 in_profile counted (Some profile) id = of_node counted profile (node_at profile.nodes id)
@@ -28,6 +29,7 @@ in_profile counted (Some profile) id = of_node counted profile (node_at profile.
 abbrev pub kept_bytes_of : World → ℕ → ℕ → Option ℕ
 kept_bytes_of world profile id = in_profile bytes_kept (numbered world.profiles profile) id
 
+-- the bound of that count, likewise
 abbrev pub most_bytes_of : World → ℕ → ℕ → Option ℕ
 most_bytes_of world profile id = in_profile most_bytes (numbered world.profiles profile) id
 

@@ -73,6 +73,7 @@ pub record AreShort (called way : List ℕ) : Type 0 where
   pub name : length called ≤ 255
   pub path : length way ≤ 4096
 
+-- the name and the path of this row are
 abbrev pub IsShort : rows.Node → Type 0
 IsShort node = AreShort node.name node.path
 
@@ -91,6 +92,7 @@ abbrev pub stored_in : Setting → ℕ → Profile → ℕ → Option Node → O
 stored_in setting profile its id None = None
 stored_in setting profile its id (Some node) = node_row setting profile its id node
 
+-- the row of the node with this number, if the profile is there and has such a node that was not abandoned
 abbrev pub stored : Setting → ℕ → ℕ → Option Profile → Option rows.Node
 stored setting profile id None = None
 stored setting profile id (Some its) = stored_in setting profile its id (numbered its.nodes id)

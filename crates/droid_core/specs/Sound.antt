@@ -5,6 +5,7 @@ use Rattle.std.specs.List.{AllByRecursion}
 use Rattle.droid_core_spec.specs.Conditions.{is_moment, is_piece_size, is_scan_limit, is_too_large}
 use Rattle.droid_core_spec.specs.World.{Node, Folder, File, Abandoned, Profile, World, node_at}
 
+-- there is a node, and it is a folder
 abbrev pub is_folder : Option Node → Bool
 is_folder None = false
 is_folder (Some (Folder parent modified name)) = true
@@ -28,9 +29,11 @@ IsSoundNode nodes (File parent modified name content) =
     IsPlace nodes parent × IsTrue (is_moment modified) × IsSized content.size content.piece_size
 IsSoundNode nodes Abandoned = Unit {0}
 
+-- its scan limit is in range, and each of its nodes is sound
 pub record IsSoundProfile (profile : Profile) : Type 0 where
   pub scan_limit : IsTrue (is_scan_limit profile.scan_limit)
   pub nodes : AllByRecursion (IsSoundNode profile.nodes) profile.nodes
 
+-- each profile is sound
 abbrev pub IsSoundWorld : World → Type 0
 IsSoundWorld world = AllByRecursion IsSoundProfile world.profiles

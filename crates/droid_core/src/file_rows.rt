@@ -29,7 +29,7 @@ pub struct FileRow {
 }
 
 impl FileRow {
-    /// Whether the file is unfinished.
+    /// Returns whether the file is unfinished.
     pub fn is_unfinished(&self) -> bool
         ensures { result ≡ is_unfinished self.now.node.state }
     {

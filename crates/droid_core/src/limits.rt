@@ -1,7 +1,7 @@
 //! The limits that a service is made with.
 
 /// The limits of a service. A request past a limit is refused with the limit's name.
-#[derive(Clone, Copy, PartialEq, Eq)]
+#[derive(Clone, Copy)]
 pub struct Limits {
     /// The most profiles of the service, itself at most 64.
     pub profiles: u32,

@@ -62,7 +62,7 @@ pub fn answer_again(alloc: Global, entry: Entry, stamp: Stamp) -> Reply
     }
 }
 
-/// Whether the row has the version and the mark of this stamp.
+/// Returns whether the row has the version and the mark of this stamp.
 fn is_row_of(entry: &Entry, stamp: Stamp) -> bool
     ensures { result ≡ is_row_of entry.now stamp }
 {

@@ -1,7 +1,7 @@
 //! The stamp of a request.
 
 /// The client and the number of a request, the version in which it was sent, and its mark.
-#[derive(Clone, Copy, PartialEq, Eq)]
+#[derive(Clone, Copy)]
 pub struct Stamp {
     /// The client that sent the request.
     pub client: u32,

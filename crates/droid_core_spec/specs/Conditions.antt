@@ -48,6 +48,7 @@ unfoldable pub is_missing : List Node → ℕ → Bool
 is_missing nodes zero = false
 is_missing nodes (suc place) = is_none (node_at nodes (suc place))
 
+-- there is a node, and it is a file
 unfoldable pub is_file : Option Node → Bool
 is_file None = false
 is_file (Some (Folder parent modified name)) = false
@@ -58,6 +59,7 @@ is_file (Some Abandoned) = false
 unfoldable pub is_too_deep : List Node → ℕ → List ℕ → Bool
 is_too_deep nodes parent name = nat_lt 4096 (length (path nodes parent) + 1 + length name)
 
+-- the hash kind is MD5
 abbrev pub is_md5 : HashKind → Bool
 is_md5 hashes.Nothing = false
 is_md5 hashes.Md5 = true

@@ -12,6 +12,7 @@ use Rattle.droid_core_spec.specs.World.{Profile}
 abbrev pub part : ℕ → List ℕ → ℕ → ℕ → Reply
 part accepted text from max = replies.Part accepted (length text) (take max (drop from text))
 
+-- the reply to an Export of this profile: that part of the text of its records that the filter keeps
 abbrev pub part_of : Setting → ℕ → Profile → ℕ → ℕ → Filter → Reply
 part_of setting accepted profile from max filter =
     part accepted (setting.export_text (records setting profile) filter profile.hash) from max

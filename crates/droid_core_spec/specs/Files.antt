@@ -41,6 +41,7 @@ is_too_far content index = nat_le (missing_of content + 16) index
 abbrev pub with_piece : Content → ℕ → List ℕ → Content
 with_piece content index bytes = record content { pieces = content.pieces ++ (index, bytes) ∷ [] }
 
+-- the same file, finished
 abbrev pub as_finished : Content → Content
 as_finished content = record content { finished = true }
 
@@ -87,6 +88,7 @@ progress_of content =
 
 -- ---- files of the whole world
 
+-- the node is a file that has not been finished
 abbrev pub is_unfinished : Node → Bool
 is_unfinished (Folder parent modified name) = false
 is_unfinished (File parent modified name content) = not content.finished

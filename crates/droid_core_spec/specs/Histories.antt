@@ -41,6 +41,7 @@ AsksNothing frame = (request : Request) → Asks frame request → ⊥
 unfoldable pub command : Frame → Option Request
 command frame = request_in frame
 
+-- the mark by which the frame's request is known again: a digest of its kind and its body
 abbrev pub frame_mark : Frame → List ℕ
 frame_mark frame = mark_of frame.kind frame.body
 
@@ -85,6 +86,7 @@ abbrev pub GoesOn : Setting → History → History → Type 0
 GoesOn setting before [] = Unit {0}
 GoesOn setting before (entry ∷ entries) = IsNext setting before entry × GoesOn setting (before ++ entry ∷ []) entries
 
+-- each entry may come after those before it, and the first one into the empty world
 abbrev pub IsLegal : Setting → History → Type 0
 IsLegal setting history = GoesOn setting [] history
 
@@ -99,6 +101,7 @@ is_same_request accepted_version accepted_mark version mark =
 abbrev pub is_request_of : Entry → Frame → Bool
 is_request_of entry frame = is_same_request entry.frame.version entry.mark frame.version (frame_mark frame)
 
+-- what a request meets
 pub data Meeting : Type 0 where
   -- the frame asks nothing
   Nothing : Meeting
@@ -114,6 +117,7 @@ abbrev pub meeting_under : Setting → History → Option Entry → Frame → Re
 meeting_under setting history (Some entry) frame request = if is_request_of entry frame then Repeat entry else Reuse
 meeting_under setting history None frame request = New (judge setting (world_of setting history) frame.version request)
 
+-- by the request that the frame asks, if it asks one
 abbrev pub meeting_asked : Setting → History → Frame → Option Request → Meeting
 meeting_asked setting history frame None = Nothing
 meeting_asked setting history frame (Some request) =
@@ -125,11 +129,13 @@ meeting setting history frame = meeting_asked setting history frame (command fra
 
 -- ---- the answer to a request, and the history after it
 
+-- the reply that tells the verdict
 abbrev pub verdict_reply : Verdict → Reply
 verdict_reply (Accepted reply after) = reply
 verdict_reply (Answered reply) = reply
 verdict_reply (Refuses refusal) = Refused refusal
 
+-- the reply to a request, by what it met
 abbrev pub reply_to : Meeting → Reply
 reply_to Nothing = Refused Malformed
 reply_to (Repeat entry) = entry.reply
@@ -140,6 +146,7 @@ reply_to (New verdict) = verdict_reply verdict
 unfoldable pub answer : Setting → History → Frame → Reply
 answer setting history frame = reply_to (meeting setting history frame)
 
+-- the entry of an accepted command, by its frame and the reply to it
 abbrev pub entry_of : Frame → Reply → Entry
 entry_of frame reply = record { frame = frame; mark = frame_mark frame; reply = reply }
 

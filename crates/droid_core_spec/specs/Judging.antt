@@ -76,6 +76,7 @@ node_set profile id node = record profile { nodes = slice_set profile.nodes (id 
 
 -- ---- checks, in their order
 
+-- of a CreateProfile
 abbrev pub create_checks : Limits → World → ℕ → List Check
 create_checks limits world scan_limit =
     (not (is_scan_limit scan_limit), BadOption)
@@ -92,6 +93,7 @@ place_checks nodes parent name =
     ∷ (is_taken nodes parent name, NameTaken)
     ∷ []
 
+-- of an AddFolder
 abbrev pub folder_checks : Limits → List Node → ℕ → ℤ → List ℕ → List Check
 folder_checks limits nodes parent modified name =
     place_checks nodes parent name
@@ -99,7 +101,7 @@ folder_checks limits nodes parent modified name =
     ∷ (nat_le limits.nodes (length nodes), LimitReached reached.Nodes)
     ∷ []
 
--- the limit of unfinished files is that of the whole service; version 2 allows larger pieces
+-- of an AddFile: the limit of unfinished files is that of the whole service, and version 2 allows larger pieces
 abbrev pub file_checks : Limits → World → ℕ → List Node → ℕ → ℤ → ℕ → ℕ → List ℕ → List Check
 file_checks limits world version nodes parent modified size piece_size name =
     place_checks nodes parent name
@@ -109,6 +111,7 @@ file_checks limits world version nodes parent modified size piece_size name =
     ∷ (nat_le limits.unfinished (unfinished_in world), LimitReached reached.Unfinished)
     ∷ []
 
+-- of a Piece of this file
 abbrev pub piece_checks : Content → ℕ → List ℕ → List Check
 piece_checks content index bytes =
     (content.finished, AlreadyFinished)
@@ -125,14 +128,17 @@ finish_checks version hash content =
     ∷ (nat_lt (missing_of content) (count_of content), Incomplete (missing_of content))
     ∷ []
 
+-- of an Abandon of this file
 abbrev pub abandon_checks : Content → List Check
 abandon_checks content = (content.finished, AlreadyFinished) ∷ []
 
+-- of an Export, which asks for up to this many bytes
 abbrev pub export_checks : ℕ → List Check
 export_checks max = (not (is_part_size max), BadOption) ∷ []
 
 -- ---- requests, each by its kind; profiles and nodes are numbered from 1, in order of acceptance
 
+-- a CreateProfile, which adds an empty profile
 unfoldable pub judge_create : Setting → World → ℕ → Bool → HashKind → Verdict
 judge_create setting world scan_limit match_all hash =
     unless_refused (refusal_of (create_checks setting.limits world scan_limit))
@@ -140,6 +146,7 @@ judge_create setting world scan_limit match_all hash =
     (world_with world
     (world.profiles ++ record { scan_limit = scan_limit; match_all = match_all; hash = hash; nodes = [] } ∷ [])))
 
+-- an AddFolder, which adds a folder to the profile
 unfoldable pub judge_folder : Setting → World → ℕ → ℕ → ℤ → List ℕ → Verdict
 judge_folder setting world profile parent modified name =
     in_profile (numbered world.profiles profile) (λ its.
@@ -147,6 +154,7 @@ judge_folder setting world profile parent modified name =
     (Accepted (replies.Node (length its.nodes + 1))
     (world_set world profile (with_node its (Folder parent modified name)))))
 
+-- an AddFile, which adds an unfinished file without pieces to the profile
 unfoldable pub judge_file : Setting → World → ℕ → ℕ → ℕ → ℤ → ℕ → ℕ → List ℕ → Verdict
 judge_file setting world version profile parent modified size piece_size name =
     in_profile (numbered world.profiles profile) (λ its.
@@ -155,6 +163,7 @@ judge_file setting world version profile parent modified size piece_size name =
     (Accepted (replies.Node (length its.nodes + 1)) (world_set world profile (with_node its
     (File parent modified name (record { size = size; piece_size = piece_size; pieces = []; finished = false }))))))
 
+-- a Piece, which the file takes last
 unfoldable pub judge_piece : World → ℕ → ℕ → ℕ → List ℕ → Verdict
 judge_piece world profile file index bytes =
     in_profile (numbered world.profiles profile) (λ its.
@@ -163,6 +172,7 @@ judge_piece world profile file index bytes =
     (Accepted (replies.Taken (length content.pieces + 1))
     (world_set world profile (node_set its file (File parent modified name (with_piece content index bytes)))))))
 
+-- a Finish, which says what the file is found to be
 unfoldable pub judge_finish : Setting → World → ℕ → ℕ → ℕ → Verdict
 judge_finish setting world version profile file =
     in_profile (numbered world.profiles profile) (λ its.
@@ -171,6 +181,7 @@ judge_finish setting world version profile file =
     (Accepted (finished_reply (finding_of setting its name content))
     (world_set world profile (node_set its file (File parent modified name (as_finished content)))))))
 
+-- an Abandon, after which the file's number is still taken, but no node has it
 unfoldable pub judge_abandon : World → ℕ → ℕ → Verdict
 judge_abandon world profile file =
     in_profile (numbered world.profiles profile) (λ its.
@@ -178,12 +189,14 @@ judge_abandon world profile file =
     unless_refused (refusal_of (abandon_checks content))
     (Accepted replies.Abandoned (world_set world profile (node_set its file Abandoned)))))
 
+-- a Status, which says how many pieces the file has
 unfoldable pub judge_status : World → ℕ → ℕ → Verdict
 judge_status world profile file =
     in_profile (numbered world.profiles profile) (λ its.
     in_file (node_at its.nodes file) (λ parent modified name content.
     Answered (progress_of content)))
 
+-- an Export, which says a part of the profile's text
 unfoldable pub judge_export : Setting → World → ℕ → ℕ → ℕ → Filter → Verdict
 judge_export setting world profile from max filter =
     in_profile (numbered world.profiles profile) (λ its.

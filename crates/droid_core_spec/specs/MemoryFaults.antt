@@ -27,6 +27,7 @@ is_out_of_memory_of (refusals.TooFarAhead missing) = false
 is_out_of_memory_of (refusals.Incomplete missing) = false
 is_out_of_memory_of (refusals.LimitReached which) = false
 
+-- the reply is the refusal Memory
 abbrev pub is_out_of_memory : Reply → Bool
 is_out_of_memory (Made profile) = false
 is_out_of_memory (Node id) = false

@@ -55,6 +55,7 @@ record_of setting profile id (File parent modified name content) =
     else None
 record_of setting profile id Abandoned = None
 
+-- the item alone, or no item
 abbrev pub option_list : {A : Type 0} → Option A → List A
 option_list None = []
 option_list (Some x) = x ∷ []

@@ -22,6 +22,7 @@ Identify = (name bytes : List ℕ) (scan_limit : ℕ) (match_all : Bool) → Ide
 abbrev pub ExportText : Type 0
 ExportText = (records : List Record) (filter : Filter) (hash : HashKind) → List ℕ
 
+-- the limits, how a file is identified, and how an export is spelled
 pub record Setting : Type 0 where
   pub limits : Limits
   pub identify : Identify

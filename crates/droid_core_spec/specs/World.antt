@@ -43,13 +43,14 @@ abbrev pub numbered : {A : Type 0} → List A → ℕ → Option A
 numbered items zero = None
 numbered items (suc place) = slice_get items place
 
--- the node with this number, unless it was abandoned
+-- the node, if there is one that was not abandoned
 abbrev pub unless_abandoned : Option Node → Option Node
 unless_abandoned None = None
 unless_abandoned (Some Abandoned) = None
 unless_abandoned (Some (Folder parent modified name)) = Some (Folder parent modified name)
 unless_abandoned (Some (File parent modified name content)) = Some (File parent modified name content)
 
+-- the node with this number, unless it was abandoned
 abbrev pub node_at : List Node → ℕ → Option Node
 node_at nodes id = unless_abandoned (numbered nodes id)
 
@@ -59,6 +60,7 @@ is_called parent name (Folder its_parent modified its_name) = (its_parent == par
 is_called parent name (File its_parent modified its_name content) = (its_parent == parent) && bytes_eq its_name name
 is_called parent name Abandoned = false
 
+-- a node lies in this folder under this name
 unfoldable pub is_taken : List Node → ℕ → List ℕ → Bool
 is_taken nodes parent name = list_any (is_called parent name) nodes
 

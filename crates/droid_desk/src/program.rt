@@ -1,4 +1,6 @@
 //! Reads the command line, runs the command that it asks for, and returns the exit status.
+//!
+//! Nothing here has a contract: each command and each ending has its own, and `tests/program` runs the program.
 
 use droid_arguments::{
     Asked, IdentifyOptions, NoCommand, ProfileOptions, RegistryOptions, RegistrySource,
@@ -113,6 +115,7 @@ fn identify(rt: &HostRuntime, words: &[String], options: IdentifyOptions<'_>) ->
     }
 }
 
+/// Runs `identify` by this registry, whose name it gives with the answer.
 fn identify_by(
     rt: &HostRuntime,
     registry: &NamedRegistry<'_>,
@@ -172,8 +175,7 @@ fn registry(rt: &HostRuntime, options: RegistryOptions<'_>) -> ExitCode {
 
 /// Says how a command of a service ended, and returns its status.
 fn end(rt: &HostRuntime, ended: &Ended<'_>) -> ExitCode {
-    let _ = ended.print(rt);
-    ExitCode::from(ended.status())
+    end_by(rt, ended.told())
 }
 
 /// Prints what an ending says, and returns its status.

@@ -2,6 +2,7 @@
 use Rattle.std.specs.Prelude.{ℕ, List, Option}
 use Rattle.droid_disk.specs.declared.disk.FileMetadata.{FileMetadata}
 
+-- what a call of a file system may say
 pub data Said : Type 0 where
   -- the folder at this path has these names
   Names : (path : List ℕ) (names : List (List ℕ)) → Said

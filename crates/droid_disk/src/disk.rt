@@ -8,7 +8,7 @@ use droid_tree::{EntryKind, TreeFault};
 use std::alloc::{AllocError, Global};
 
 /// What a file system says of a path.
-#[derive(Clone, Copy, PartialEq, Eq)]
+#[derive(Clone, Copy)]
 pub struct FileMetadata {
     /// The type of the entry.
     pub kind: EntryKind,

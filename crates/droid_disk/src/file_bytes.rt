@@ -1,4 +1,5 @@
-//! Reads bytes of an open file into a buffer.
+//! Reads bytes of an open file into a buffer. Proved is how many there may be and which faults; which bytes come is up
+//! to the machine, and `tests/program/folders/profile_reads.py` tests it.
 
 ghost use Rattle.std.specs.Prelude.{◌≡◌, ◌≢◌, ◌≤◌, ◌+◌, IfErr, IfOk, OnOk, length, take};
 ghost use Rattle.droid_tree.specs.declared.fault.TreeFault.TheVariants.{Changed};
@@ -57,7 +58,8 @@ fn fill(file: &File, len: u64, from: u64, buffer: &mut [u8]) -> Result<usize, Tr
     Ok(filled)
 }
 
-/// Returns whether `count` bytes from this offset on reach the end of a file of this length.
+/// Returns whether `count` bytes from this offset on reach the end of a file of this length. For speed, since then no
+/// further read has to show the end: no clause needs it.
 fn is_end(len: u64, place: u64, count: usize) -> bool {
     len.saturating_sub(place) <= count as u64
 }
@@ -72,7 +74,7 @@ fn place_after(from: u64, count: usize) -> Result<u64, TreeFault>
     }
 }
 
-/// Reads once. Tries again if the read was interrupted.
+/// Reads once, and again after each interruption, up to 65 times.
 fn read_some(file: &File, from: u64, buffer: &mut [u8]) -> Result<usize, TreeFault>
     ensures within { IfOk result (λ count. count ≤ length buffer.new) }
     ensures known { IfErr result (λ fault. fault ≢ Changed) }

@@ -1,4 +1,5 @@
-//! The mark of an unfinished file, by which a later run knows what an ended one left.
+//! The mark of an unfinished file, by which a later run knows what an ended one left. Nothing here has a contract:
+//! `tests/program/folders/unfinished_files.py` tests it.
 
 use std::fs::{self, File, Files, Metadata, OpenFile, OpenOptions, Permissions};
 use std::io;
@@ -64,7 +65,7 @@ fn is_at<R: Files>(rt: &R, path: &str, file: &File) -> bool {
     is_same_file(&there, &found) && found.mode() & MARK != 0
 }
 
-/// Returns whether these are the metadata of one file, by device and inode.
+/// Returns whether these are the metadata of one file, by device and inode: another file may have come to the path.
 fn is_same_file(first: &Metadata, second: &Metadata) -> bool {
     first.dev() == second.dev() && first.ino() == second.ino()
 }

@@ -88,7 +88,7 @@ fn without_slashes(path: &str) -> &str
     path.trim_end_matches('/')
 }
 
-/// Returns the path, or the error for running out of memory.
+/// Returns the path. Out of memory for it is the fault of a tree.
 pub(crate) fn kept(path: Result<Text, AllocError>) -> Result<Text, TreeFault>
     ensures same { IfOk result (λ text. path ≡ Ok text) }
     ensures memory { IfErr result (λ fault. fault ≡ Memory) }
@@ -99,7 +99,7 @@ pub(crate) fn kept(path: Result<Text, AllocError>) -> Result<Text, TreeFault>
     }
 }
 
-/// Returns the path of something below the top.
+/// Returns both texts joined: the path of something below the top.
 pub(crate) fn place_of(alloc: Global, top: &str, path: &str) -> Result<Text, AllocError>
     ensures { IfOk result (λ text. text ≡ top.now ++ path.now) }
 {

@@ -8,10 +8,10 @@ use droid_tree::TreeFault;
 use std::alloc::{AllocError, Global};
 use std::io::Read;
 
-/// How many bytes the names of one folder can have together, each with its zero byte.
+/// How many bytes the names of one folder can have together, each with its zero byte. A folder with more is unreadable.
 const NAMES_LIMIT: usize = 67_108_863;
 
-/// Reads the names of an open folder. It reads as names that each end with a zero byte.
+/// Reads the names of an open folder. The kit gives them as bytes: each name, and a zero byte after it.
 pub(crate) fn read_names<D: Read + Drop>(alloc: Global, dir: D) -> Result<Vec<Blob>, TreeFault>
     ensures { IfOk result (λ names. IfSome (D.remaining dir) (λ bytes. names.items ≡ names_of bytes)) }
 {
@@ -37,7 +37,7 @@ fn names_in(alloc: Global, bytes: &[u8]) -> Result<Vec<Blob>, AllocError>
     Ok(names)
 }
 
-/// Appends a name if it is that of an entry.
+/// Appends a name, unless it is empty, `.` or `..`.
 #[tactic(auto, using(crate::proofs::FilteredParts::none_more, crate::proofs::FilteredParts::one_more))]
 fn add_entry(alloc: Global, names: &mut Vec<Blob>, name: &[u8]) -> Result<(), AllocError>
     ensures { OnOk result (names.new.items ≡ names.old.items ++ filter is_entry (name.now ∷ [])) }

@@ -1,4 +1,7 @@
 //! A folder that stays open while its entries are looked at and opened.
+//!
+//! Proved is which paths are reached through it. That it is the folder at its path is up to the machine: those
+//! functions have no contract, and `tests/program/folders/working_folder.py` and `folder_calls.py` test them.
 
 ghost use Rattle.std.specs.Prelude.{◌≡◌, ◌++◌, ◌∷◌, [], IfSome, IsTrue};
 ghost use Rattle.droid_disk.specs.Places.{IsPlaceOf};
@@ -122,7 +125,7 @@ fn with_slash(alloc: Global, path: &str) -> Option<Text> {
     }
 }
 
-/// Returns whether both are folders, and the same one.
+/// Returns whether both are folders, and the same one by device and inode.
 pub(crate) fn is_same_folder(first: &Metadata, second: &Metadata) -> bool {
     first.is_dir() && second.is_dir() && first.dev() == second.dev() && first.ino() == second.ino()
 }

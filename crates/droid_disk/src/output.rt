@@ -1,4 +1,7 @@
 //! An output file that is either complete or not there.
+//!
+//! What happens to files has no contract: in `tests/program/folders` `output_calls.py` lets each call fail, and
+//! `profile_output.py` and `unfinished_files.py` test the rest.
 
 ghost use Rattle.std.specs.Prelude.{◌≡◌, [], Err, None};
 
@@ -9,16 +12,13 @@ use std::alloc::Global;
 use std::fs::{File, Files, OpenFile};
 use std::io::{ErrorKind, Write};
 use std::{fs, io};
-use thiserror::Error;
 
 /// Why an output file could not be written.
-#[derive(Clone, Copy, Debug, PartialEq, Eq, Error)]
+#[derive(Clone, Copy)]
 pub enum OutputFault {
     /// Out of memory.
-    #[error("Memory")]
     Memory,
     /// No file could be created in the folder, or the path is empty or has something that is no regular file.
-    #[error("Output")]
     Refused,
 }
 
@@ -111,7 +111,8 @@ fn sync_folder<R: Files<File = File>>(runtime: &R, path: &str) -> io::Result<()>
     }
 }
 
-/// Returns whether the path is taken by something that must not be replaced: a folder, a link or a device.
+/// Returns whether the path is taken by something that must not be replaced: a folder, a link or a device. A regular
+/// file may be.
 fn is_taken<R: Files>(runtime: &R, place: &str) -> bool {
     match fs::symlink_metadata(runtime, place) {
         Ok(metadata) => !metadata.is_file(),

@@ -1,4 +1,7 @@
 //! The folder in which the process was started, to which it goes back from a listed folder.
+//!
+//! Nearly nothing here has a contract, since working folders are up to the machine:
+//! `tests/program/folders/working_folder.py` tests it.
 
 ghost use Rattle.std.specs.Prelude.{◌≢◌};
 

@@ -1,4 +1,8 @@
 //! The file system of this machine.
+//!
+//! Proved is what [`Disk`] asks for: that metadata are such as the machine gave, that no more bytes come than are asked
+//! for, and that the process is back in its own folder. Which names, metadata and bytes the machine gives is tested, in
+//! `tests/program/folders`; functions that only pass that on have no contract.
 
 ghost use Rattle.std.specs.Prelude.{◌≡◌, ◌≢◌, ◌++◌, ◌∷◌, [], IfErr, IfOk, IfSome, IsSomeAnd, IsTrue};
 ghost use Rattle.std.specs.Fs.{file_type};
@@ -75,7 +79,8 @@ impl<'a, R: Files<File = File>> System<'a, R> {
         }
     }
 
-    /// Returns the path of something through the folder that was listed last, if it lies in it.
+    /// Returns the path of something through the folder that was listed last, if it lies in it and there is memory for
+    /// the path.
     fn place(&self, path: &str) -> Option<Text> {
         match &self.listed {
             Some(folder) => folder.place(path),
@@ -145,6 +150,7 @@ impl<R: Files<File = File> + Env> Disk for System<'_, R> {
     ghost metadata_of = { λ opened. opened.metadata };
 
     fn names(&mut self, alloc: Global, path: &str) -> Result<Vec<Blob>, TreeFault> {
+        // A path that does not begin with `/` leads from the folder in which the process was started.
         if !self.go_back() {
             return Err(TreeFault::Unreadable);
         }
@@ -154,6 +160,7 @@ impl<R: Files<File = File> + Env> Disk for System<'_, R> {
         let Some((folder, names)) = names_through(self.runtime, alloc, process, path) else {
             return names_at(self.runtime, alloc, path);
         };
+        // In the folder, `look_in` asks for an entry by its name alone: for speed, no clause needs it.
         if !names.is_empty() {
             self.stand = enter(self.runtime, &self.start, &folder);
         }
@@ -352,7 +359,8 @@ fn metadata_from(metadata: &Metadata) -> FileMetadata
     }
 }
 
-/// Returns the nanoseconds of a second, which are below 1,000,000,000.
+/// Returns the nanoseconds of a second, which are below 1,000,000,000. A number that is no such one becomes one that no
+/// machine gives.
 fn nanos_from(nanos: i64) -> u32 {
     match u32::try_from(nanos) {
         Ok(nanos) => nanos,

@@ -1,4 +1,5 @@
 //! A file beside the path of an output file, created when that is asked for or the first bytes are written to it.
+//! Nothing here has a contract: `tests/program/folders/unfinished_files.py` and `output_calls.py` test it.
 
 use crate::file_mark::{create_marked, remove_left};
 use crate::output::OutputFault;
@@ -9,14 +10,14 @@ use std::io::{Error, ErrorKind, Write};
 use std::os::unix::fs::MetadataExt;
 use std::{fs, io};
 
-/// How many file names are tried.
+/// How many file names are tried. If none is free, no file can be created.
 const NAMES: u32 = 1_000;
 
 /// What earlier runs left is looked for until this many file names in a row are free.
 const FREE: u32 = 16;
 
 /// Which file it is: its device, and its number on that device.
-#[derive(Clone, Copy, PartialEq, Eq)]
+#[derive(Clone, Copy)]
 pub struct FileId {
     /// The device.
     pub device: u64,

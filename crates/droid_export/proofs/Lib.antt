@@ -7,7 +7,10 @@ pub mod FlagMarks
 pub mod IndexContents
 pub mod Lines
 pub mod ListPlaces
+mod NamesLeft
+pub mod Numbers
 pub mod RecordReading
 pub mod Records
 pub mod TextConcatenation
+pub mod WholeHeaders
 pub mod WriterStops

@@ -3,6 +3,7 @@ pub mod Columns
 pub mod Csv
 pub mod CsvBuffer
 pub mod ExportOutcome
+pub mod Fields
 pub mod Filters
 pub mod Headers
 pub mod Index

@@ -3,6 +3,7 @@ use Rattle.std.specs.Prelude.{⊤}
 use Rattle.csv.specs.declared.error.ErrorKind.{ErrorKind}
 use Rattle.csv.specs.declared.error.ErrorKind.TheVariants as csv
 
+-- only these two kinds can come
 abbrev pub EndsReading : ErrorKind → Type 0
 EndsReading csv.OutOfMemory = ⊤
 EndsReading (csv.Io e) = ⊤

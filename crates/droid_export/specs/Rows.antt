@@ -64,6 +64,7 @@ shown_by puid format = record {
   version = of_format format (λ it. it.version);
 }
 
+-- what a row shows of the format with this PUID
 abbrev pub shown : Contents → List ℕ → Shown
 shown registry puid = shown_by puid (format_of registry puid)
 
@@ -115,5 +116,6 @@ abbrev pub rows_by : Contents → Record → List (List ℕ) → List Row
 rows_by registry node [] = row node no_format ∷ []
 rows_by registry node (puid ∷ puids) = map (λ one. row node (shown registry one)) (puid ∷ puids)
 
+-- the rows of a record, by its own formats
 unfoldable pub rows : Contents → Record → List Row
 rows registry node = rows_by registry node node.puids

@@ -44,6 +44,11 @@ name_of hash MimeType = codes "MIME_TYPE"
 name_of hash FormatName = codes "FORMAT_NAME"
 name_of hash FormatVersion = codes "FORMAT_VERSION"
 
+-- the name, or the names that the column of the hashes may have
+abbrev pub names_of : Column → List ℕ
+names_of Hash = codes "MD5_HASH, SHA256_HASH or HASH"
+names_of column = name_of hashes.Nothing column
+
 -- how many columns stand before a column
 abbrev pub place_of : Column → ℕ
 place_of Id = 0
@@ -76,3 +81,7 @@ column_at place = slice_get columns place
 -- the field at a place of a record, or nothing past the last
 abbrev pub field_or : List (List ℕ) → ℕ → List ℕ
 field_or row place = unwrap_or (field_at row place) []
+
+-- what a column says, in a record with all columns
+abbrev pub said : List (List ℕ) → Column → List ℕ
+said row column = field_or row (place_of column)

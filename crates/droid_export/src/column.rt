@@ -6,7 +6,7 @@ ghost use Rattle.droid_export.specs.Table as table;
 use droid_frame::HashKind;
 
 /// A column of a profile's CSV. The order of the variants is that of the columns.
-#[derive(Clone, Copy, Debug, PartialEq, Eq)]
+#[derive(Clone, Copy, Debug)]
 pub enum Column {
     /// The number of the folder or file.
     Id,
@@ -92,6 +92,16 @@ impl Column {
             Column::MimeType => "MIME_TYPE",
             Column::FormatName => "FORMAT_NAME",
             Column::FormatVersion => "FORMAT_VERSION",
+        }
+    }
+
+    /// Returns the name, or the names that the column of the hashes may have, to tell a person what is missing.
+    pub fn names(self) -> &'static str
+        ensures { result.now ≡ table.names_of self }
+    {
+        match self {
+            Column::Hash => "MD5_HASH, SHA256_HASH or HASH",
+            column => column.name(HashKind::Nothing),
         }
     }
 

@@ -1,5 +1,9 @@
 //! Records of CSV.
 
+ghost use Rattle.std.specs.Prelude.{◌≡◌};
+ghost use Rattle.droid_export.specs.Table.{said};
+
+use crate::column::Column;
 use csv::ByteRecord;
 
 /// A record of CSV.
@@ -34,4 +38,11 @@ impl Row for ByteRecord {
             None => &[],
         }
     }
+}
+
+/// Returns the field of a column, in a record with all columns.
+pub fn said<R: Row>(row: &R, column: Column) -> &[u8]
+    ensures { result.now ≡ said (R.fields row.now) column }
+{
+    row.field(column.place())
 }

@@ -7,7 +7,7 @@ use std::alloc::AllocError;
 use thiserror::Error;
 
 /// Why an export could not be written. The specification names it, as the fault of `export`.
-#[derive(Clone, Copy, Debug, PartialEq, Eq, Error)]
+#[derive(Clone, Copy, Debug, Error)]
 pub enum ExportFault {
     /// Out of memory. Nothing was written.
     #[error("out of memory")]

@@ -110,7 +110,7 @@ fn taken(named: &mut Places, alloc: Global, text: &str) -> Vec<usize>
     named.remove(text).unwrap_or(Vec::new(alloc))
 }
 
-/// Adds a place at the end, unless it is already the last one.
+/// Adds a place at the end, unless it is already the last one: a list may have a text twice.
 fn note(places: &mut Vec<usize>, place: usize) -> Result<(), AllocError>
     ensures { OnOk result ((at : ℕ)
         → list_any (λ other. other == at) places.new.items

@@ -2,9 +2,11 @@
 #![tactic(auto)]
 
 mod column;
+mod csv_error;
 mod csv_row;
 mod extension;
 mod fault;
+mod fields;
 mod filter;
 mod flags;
 mod hash_text;
@@ -23,11 +25,13 @@ mod text;
 mod writer;
 
 pub use column::{COLUMNS, Column};
-pub use csv_row::Row;
+pub use csv_error::no_memory;
+pub use csv_row::{Row, said};
 pub use fault::ExportFault;
+pub use fields::{kind_of, number_of};
 pub use filter::meets;
 pub use hash_text::HashText;
-pub use header::hash_of_header;
+pub use header::{Header, hash_of_header};
 pub use laws::{text_goes_by_records, text_is_read_back};
 pub use moment::{moment_bytes, moment_text};
 pub use node_uri::uri;

@@ -74,7 +74,8 @@ fn date_of(modified: i64) -> Civil
     }
 }
 
-/// Returns the date that lies this number of days after 1970-01-01, or before it.
+/// Returns the date that lies this number of days after 1970-01-01, or before it. `epoch_day` is that number in the
+/// kit's calendar, `jiff`.
 fn date_of_day(days: i64) -> Date
     requires { IsEpochDay days }
     ensures { epoch_day result ≡ days }

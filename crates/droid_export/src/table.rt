@@ -44,7 +44,8 @@ fn add_byte(text: &mut Vec<u8>, byte: u8) -> Result<(), AllocError>
     Ok(())
 }
 
-/// Returns whether there is no double quote in the field.
+/// Returns whether there is no double quote in the field. For speed alone: such a field is appended at once, and the
+/// clause says no more than that it may be.
 #[tactic(auto, using(crate::proofs::Lines::plain_field))]
 fn has_no_quote(field: &[u8]) -> bool
     ensures { IsTrue result → flat_map doubled field.now ≡ field.now }

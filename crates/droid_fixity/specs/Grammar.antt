@@ -86,6 +86,7 @@ pub record IsBagLine (line : List ℕ) (hash : HashValue) (name : List ℕ) : Ty
   pub dotted : MayStand (codes "./") dot
   pub spells : decoded text ≡ name
 
+-- a line that names a file, by the form of the list
 abbrev pub IsLine : ManifestForm → List ℕ → HashValue → List ℕ → Type 0
 IsLine Checksums line hash name =
     (IsPlainLine line hash name ⊎ IsEscapedLine line hash name)

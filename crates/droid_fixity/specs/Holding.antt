@@ -36,12 +36,13 @@ holder_after (Some holder) place = Many
 abbrev pub bears_at : List Item → List ℕ → ℕ → Bool
 bears_at items hash place = option_map_or (bears hash) (slice_get items place) false
 
--- the place in the list of a pair that was not found, and of a pair that is not in the list
+-- the place in the list of a pair of which nothing was found
 abbrev pub only_listed : Pair → Option ℕ
 only_listed (Both l f) = None
 only_listed (Listed l) = Some l
 only_listed (Found f) = None
 
+-- the place among the items found of a pair that the list does not have
 abbrev pub only_found : Pair → Option ℕ
 only_found (Both l f) = None
 only_found (Listed l) = None
@@ -99,15 +100,17 @@ difference_at listed found missing new (Listed l) =
 difference_at listed found missing new (Found f) =
     option_and_then (λ item. or_new (move_of listed found missing new item) f) (slice_get found f)
 
--- the files at a pair, if both have one
+-- the two places of a file
 abbrev pub pair_at : ℕ → ℕ → FilePair
 pair_at l f = record { listed = l; found = f }
 
+-- the places of two items, if both are there and are files
 abbrev pub pair_if : Option Item → Option Item → ℕ → ℕ → Option FilePair
 pair_if None b l f = None
 pair_if (Some a) None l f = None
 pair_if (Some a) (Some b) l f = if is_file a.kind && is_file b.kind then Some (pair_at l f) else None
 
+-- the file at a pair, if both sides have one
 abbrev pub file_pair : List Item → List Item → Pair → Option FilePair
 file_pair listed found (Both l f) = pair_if (slice_get listed l) (slice_get found f) l f
 file_pair listed found (Listed l) = None

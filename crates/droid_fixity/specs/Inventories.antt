@@ -24,6 +24,7 @@ IsTwice items path = 1 < count_by (λ item. bytes_eq path item.path) items
 abbrev pub is_before : List ℕ → List ℕ → Bool
 is_before first second = is_lt (slice_cmp nat_cmp first second)
 
+-- the test of the item in front of this place and the one at it
 abbrev pub IsBeforeAt : List Item → ℕ → Bool → Type 0
 IsBeforeAt items place test =
     (first second : Item) → slice_get items (place - 1) ≡ Some first → slice_get items place ≡ Some second

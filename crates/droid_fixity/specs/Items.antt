@@ -42,6 +42,7 @@ both_known (Some x) (Some y) = true
 both_known (Some x) None = false
 both_known None b = false
 
+-- both items have a length
 abbrev pub both_sized : Item → Item → Bool
 both_sized a b = both_known a.length b.length
 

@@ -24,6 +24,7 @@ use Rattle.droid_fixity.specs.declared.checksum_lists.line_content.Meaning.TheVa
 abbrev pub is_gap : ℕ → Bool
 is_gap b = (b == 32) || (b == 9)
 
+-- any other byte
 abbrev pub is_no_gap : ℕ → Bool
 is_no_gap b = not (is_gap b)
 
@@ -41,6 +42,7 @@ abbrev pub escapes_of : List ℕ → Escapes
 escapes_of [] = escapes.Nothing
 escapes_of (b ∷ line) = if b == 92 then escapes.Backslash else escapes.Nothing
 
+-- the line without that backslash
 abbrev pub without_backslash : List ℕ → List ℕ
 without_backslash [] = []
 without_backslash (b ∷ line) = if b == 92 then line else b ∷ line
@@ -56,6 +58,7 @@ abbrev pub without_star : List ℕ → List ℕ
 without_star [] = []
 without_star (b ∷ text) = if b == 42 then text else b ∷ text
 
+-- what stands behind spaces and tabs, without a `*` in front
 abbrev pub behind_gaps : List ℕ → Option (List ℕ)
 behind_gaps text = cut text (position is_no_gap text) >>= λ parts. Some (without_star parts.1)
 
@@ -80,6 +83,7 @@ cut_last n text =
 abbrev pub front_if : List ℕ → List ℕ × List ℕ → Option (List ℕ)
 front_if end parts = if bytes_eq parts.1 end then Some parts.0 else None
 
+-- what stands before this end of a text, if the text ends so
 abbrev pub before : List ℕ → List ℕ → Option (List ℕ)
 before end text = cut_last (length end) text >>= front_if end
 
@@ -91,15 +95,19 @@ tagged digits hash_in text = do
   hash ← hash_in parts.1
   Some (hash, path)
 
+-- `MD5 (PATH) = DIGEST`
 unfoldable pub md5_tag : List ℕ → Option (HashValue × List ℕ)
 md5_tag line = behind (codes "MD5 (") line >>= tagged 32 md5_of
 
+-- `SHA256 (PATH) = DIGEST`
 unfoldable pub sha256_tag : List ℕ → Option (HashValue × List ℕ)
 sha256_tag line = behind (codes "SHA256 (") line >>= tagged 64 sha256_of
 
+-- one or the other: the hash, and the path as it is spelled
 abbrev pub tag_parts : List ℕ → Option (HashValue × List ℕ)
 tag_parts line = option_or (md5_tag line) (sha256_tag line)
 
+-- the same with how the path is spelled, behind the backslash that may stand in front
 abbrev pub tag_entry : List ℕ → Option (HashValue × Escapes × List ℕ)
 tag_entry line = option_map (λ parts. (parts.0, escapes_of line, parts.1)) (tag_parts (without_backslash line))
 
@@ -109,6 +117,7 @@ tag_entry line = option_map (λ parts. (parts.0, escapes_of line, parts.1)) (tag
 abbrev pub checksum_entry : List ℕ → Option (HashValue × Escapes × List ℕ)
 checksum_entry line = option_or (plain_entry line) (tag_entry line)
 
+-- the hash, how the path is spelled, and the spelling, of a bag's line
 unfoldable pub bag_entry : List ℕ → Option (HashValue × Escapes × List ℕ)
 bag_entry line = do
   parts ← cut_at_gap line
@@ -116,6 +125,7 @@ bag_entry line = do
   text ← behind_gaps parts.1
   Some (hash, escapes.Percent, text)
 
+-- the same, by the form of the list
 abbrev pub entry_of : ManifestForm → List ℕ → Option (HashValue × Escapes × List ℕ)
 entry_of Checksums line = checksum_entry line
 entry_of Bag line = bag_entry line
@@ -150,6 +160,7 @@ abbrev pub is_blank : List ℕ → Bool
 is_blank [] = true
 is_blank (b ∷ line) = b == 35
 
+-- what a line says: a file and its hash, nothing, or that it is at fault
 abbrev pub meaning : ManifestForm → List ℕ → Meaning
 meaning form line = if is_blank line then meanings.Blank else meaning_by_entry form (entry_of form line)
 
@@ -159,5 +170,6 @@ meaning form line = if is_blank line then meanings.Blank else meaning_by_entry f
 abbrev pub ends_in_return : List ℕ → Bool
 ends_in_return line = not (length line == 0) && (slice_index line (length line - 1) == 13)
 
+-- the line without that carriage return
 abbrev pub without_return : List ℕ → List ℕ
 without_return line = if ends_in_return line then take (length line - 1) line else line

@@ -40,6 +40,7 @@ taken number items (meanings.File item) = taken_file number items item
 taken number items meanings.Malformed = Err (faults.Line number)
 taken number items meanings.Misplaced = Err (faults.Path number)
 
+-- what follows, unless there was a fault
 abbrev pub after : Result (List Item) ManifestFault → (List Item → Result (List Item) ManifestFault)
     → Result (List Item) ManifestFault
 after (Ok items) more = more items

@@ -21,12 +21,13 @@ pair_of (Some a) None l f = Some (Listed l)
 pair_of None (Some b) l f = Some (Found f)
 pair_of (Some a) (Some b) l f = Some (pair_by (slice_cmp nat_cmp a.path b.path) l f)
 
--- the place in the list after a pair, and that among the items found
+-- the place in the list after a pair
 abbrev pub listed_after : Pair → ℕ → ℕ
 listed_after (Both l f) at = at + 1
 listed_after (Listed l) at = at + 1
 listed_after (Found f) at = at
 
+-- the place among the items found after a pair
 abbrev pub found_after : Pair → ℕ → ℕ
 found_after (Both l f) at = at + 1
 found_after (Listed l) at = at

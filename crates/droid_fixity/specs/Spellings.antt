@@ -33,6 +33,7 @@ unescaped_from true (b ∷ text) = byte_behind_backslash b >>= λ byte. onto byt
 unescaped_from false [] = Some []
 unescaped_from false (b ∷ text) = if b == 92 then unescaped_from true text else onto b (unescaped_from false text)
 
+-- the bytes that a text with backslashes spells, if it spells any
 abbrev pub unescaped : List ℕ → Option (List ℕ)
 unescaped text = unescaped_from false text
 
@@ -43,6 +44,7 @@ escaped_byte b =
     else if b == 10 then codes "\\n"
     else if b == 13 then codes "\\r" else b ∷ []
 
+-- how bytes are spelled with backslashes
 abbrev pub escaped : List ℕ → List ℕ
 escaped bytes = flat_map escaped_byte bytes
 
@@ -64,6 +66,7 @@ abbrev pub behind_percent_by : List ℕ → Option ℕ → List ℕ
 behind_percent_by text None = 37 ∷ text
 behind_percent_by text (Some byte) = byte ∷ drop 2 text
 
+-- the bytes of a text that stands behind a percent sign
 abbrev pub behind_percent : List ℕ → List ℕ
 behind_percent text = behind_percent_by text (byte_behind_percent (take 2 text))
 
@@ -72,6 +75,7 @@ abbrev pub decoded_parts : List (List ℕ) → List ℕ
 decoded_parts [] = []
 decoded_parts (first ∷ parts) = first ++ flat_map behind_percent parts
 
+-- the bytes that a text with percent signs spells
 abbrev pub decoded : List ℕ → List ℕ
 decoded text = decoded_parts (slice_split (λ b. b == 37) text)
 

@@ -21,10 +21,12 @@ unpaired_from after [] = []
 unpaired_from true (b ∷ text) = if b == 10 then unpaired_from false text else b ∷ unpaired_from (b == 13) text
 unpaired_from false (b ∷ text) = b ∷ unpaired_from (b == 13) text
 
+-- the text with one byte at the end of each line
 abbrev pub unpaired : ManifestForm → List ℕ → List ℕ
 unpaired Checksums text = text
 unpaired Bag text = unpaired_from false text
 
+-- the lines of a text, without their ends
 abbrev pub lines_in : ManifestForm → List ℕ → List (List ℕ)
 lines_in form text = slice_split (ends_line form) (unpaired form (without_mark text))
 

@@ -31,6 +31,7 @@ line_below Nothing path = []
 line_below (Md5 digest) path = line_by (encode_lower digest) path
 line_below (Sha256 digest) path = line_by (encode_lower digest) path
 
+-- the line of a file by its path in the profile, which has a slash in front
 abbrev pub line : HashValue → List ℕ → List ℕ
 line hash path = line_below hash (shown (without_slash path))
 

@@ -4,7 +4,7 @@ use crate::item::Changes;
 
 /// A difference between the items of a list and those that were found. Items are named by their places in the two
 /// inventories.
-#[derive(Clone, Copy, PartialEq, Eq)]
+#[derive(Clone, Copy)]
 pub enum Difference {
     /// A path that both have, with another kind, length or hash.
     Changed {

@@ -58,7 +58,7 @@ fn note<'a>(holders: &mut Holders<'a>, item: &'a Item, place: usize) -> Result<(
     Ok(())
 }
 
-/// Returns the holder of a hash after one more place.
+/// Returns who holds a hash after one more place was found: one item or several.
 fn holder_after(holder: Option<&Holder>, place: usize) -> Holder
     ensures { result ≡ holder_after (option_copied holder.entry) place }
 {

@@ -31,7 +31,7 @@ impl Model for Inventory {
 }
 
 /// Two items have one path.
-#[derive(Debug, Drop)]
+#[derive(Drop)]
 pub struct SamePath {
     /// The path.
     pub path: Blob,
@@ -93,7 +93,8 @@ fn first_repeated(items: &[Item]) -> Option<usize>
     None
 }
 
-/// Returns whether the path at this place comes after the path in front of it.
+/// Returns whether the path at this place comes after the path in front of it. In sorted items it is the same path
+/// otherwise.
 fn is_after_last(items: &[Item], place: usize) -> bool
     requires above { 0 < place }
     requires below { place < length items.now }

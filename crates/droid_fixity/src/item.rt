@@ -21,7 +21,7 @@ pub struct Item {
 }
 
 /// What differs between two items of one path.
-#[derive(Clone, Copy, PartialEq, Eq)]
+#[derive(Clone, Copy)]
 pub struct Changes {
     /// One is a folder and the other a file.
     pub kind: bool,

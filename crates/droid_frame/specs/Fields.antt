@@ -35,15 +35,18 @@ method_number Unidentified = 0
 method_number Signature = 1
 method_number Extension = 2
 
+-- the byte of a method
 abbrev pub method_bytes : Method → List ℕ
 method_bytes method = method_number method ∷ []
 
--- the number fits an unsigned field of four bytes, an unsigned field of eight, a signed field of eight
+-- the number fits an unsigned field of four bytes
 abbrev pub IsU32 : ℕ → Type 0
 IsU32 n = n < 2 ^ 32
 
+-- the number fits an unsigned field of eight bytes
 abbrev pub IsU64 : ℕ → Type 0
 IsU64 n = n < 2 ^ 64
 
+-- the number fits a signed field of eight bytes
 abbrev pub IsI64 : ℤ → Type 0
 IsI64 z = FitsSigned w64 z

@@ -22,37 +22,45 @@ node_kind_at (suc (suc b) ∷ rest) = None
 unfoldable pub list_at : List ℕ → Option (List (List ℕ) × List ℕ)
 list_at bytes = counted_at (sized_text_at 0 255) bytes
 
--- the value of each tag's criterion
+-- ---- the value of the criterion of each tag, and the bytes after it
+
+-- tag 1
 unfoldable pub method_is_at : List ℕ → Option (Criterion × List ℕ)
 method_is_at bytes = do
   method ← method_at bytes
   Some (MethodIs method.0, method.1)
 
+-- tag 2
 unfoldable pub puid_in_at : List ℕ → Option (Criterion × List ℕ)
 puid_in_at bytes = do
   texts ← list_at bytes
   Some (PuidIn texts.0, texts.1)
 
+-- tag 3
 unfoldable pub ext_in_at : List ℕ → Option (Criterion × List ℕ)
 ext_in_at bytes = do
   texts ← list_at bytes
   Some (ExtIn texts.0, texts.1)
 
+-- tag 4
 unfoldable pub mismatch_is_at : List ℕ → Option (Criterion × List ℕ)
 mismatch_is_at bytes = do
   mismatch ← truth_at bytes
   Some (MismatchIs mismatch.0, mismatch.1)
 
+-- tag 5
 unfoldable pub size_at_least_at : List ℕ → Option (Criterion × List ℕ)
 size_at_least_at bytes = do
   size ← number_at w64 bytes
   Some (SizeAtLeast size.0, size.1)
 
+-- tag 6
 unfoldable pub size_at_most_at : List ℕ → Option (Criterion × List ℕ)
 size_at_most_at bytes = do
   size ← number_at w64 bytes
   Some (SizeAtMost size.0, size.1)
 
+-- tag 7
 unfoldable pub kind_is_at : List ℕ → Option (Criterion × List ℕ)
 kind_is_at bytes = do
   kind ← node_kind_at bytes

@@ -22,6 +22,7 @@ abbrev pub is_file : NodeKind → Bool
 is_file File = true
 is_file Folder = false
 
+-- the byte of a node's kind
 abbrev pub node_kind_bytes : NodeKind → List ℕ
 node_kind_bytes kind = node_kind_number kind ∷ []
 
@@ -50,6 +51,7 @@ pub record IsList (texts : List (List ℕ)) : Type 0 where
   pub few : length texts < 256
   pub each : AllByRecursion (IsSizedText 0 255) texts
 
+-- the criterion has a spelling: its list is one, or its size fits eight bytes
 abbrev pub IsCriterion : Criterion → Type 0
 IsCriterion (MethodIs method) = Unit {0}
 IsCriterion (PuidIn texts) = IsList texts
@@ -59,16 +61,19 @@ IsCriterion (SizeAtLeast size) = size < 2 ^ 64
 IsCriterion (SizeAtMost size) = size < 2 ^ 64
 IsCriterion (KindIs kind) = Unit {0}
 
+-- the filter has a spelling: at most 255 criteria, each with a spelling
 pub record IsFilter (filter : Filter) : Type 0 where
   pub few : length filter.criteria < 256
   pub each : AllByRecursion IsCriterion filter.criteria
 
 -- ---- values that are short enough to have a spelling
 
+-- the list has at most 255 texts, each of at most 255 bytes
 pub record ListFits (texts : List (List ℕ)) : Type 0 where
   pub few : length texts ≤ count_limit
   pub short : AllByRecursion (λ text. length text ≤ count_limit) texts
 
+-- the criterion's list, if it has one, is short enough
 abbrev pub CriterionFits : Criterion → Type 0
 CriterionFits (MethodIs method) = Unit {0}
 CriterionFits (PuidIn texts) = ListFits texts
@@ -78,6 +83,7 @@ CriterionFits (SizeAtLeast size) = Unit {0}
 CriterionFits (SizeAtMost size) = Unit {0}
 CriterionFits (KindIs kind) = Unit {0}
 
+-- the filter has at most 255 criteria, each short enough
 pub record FilterFits (filter : Filter) : Type 0 where
   pub few : length filter.criteria ≤ count_limit
   pub each : AllByRecursion CriterionFits filter.criteria

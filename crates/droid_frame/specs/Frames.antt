@@ -9,6 +9,7 @@ abbrev pub spelling : ℕ → ℕ → ℕ → ℕ → List ℕ → List ℕ
 spelling version kind client number body =
     version ∷ kind ∷ (u32_bytes client ++ (u64_bytes number ++ (u32_bytes (length body) ++ body)))
 
+-- the bytes of a frame
 abbrev pub frame_bytes : Frame → List ℕ
 frame_bytes frame = spelling frame.version frame.kind frame.client frame.number frame.body
 

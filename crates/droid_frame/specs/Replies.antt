@@ -37,6 +37,7 @@ refusal_detail (refusals.Incomplete missing) = u32_bytes missing
 refusal_detail (refusals.LimitReached which) = limit_number which ∷ []
 refusal_detail _ = []
 
+-- the number of the reason, and then its field, if it has one
 abbrev pub refusal_bytes : Refusal → List ℕ
 refusal_bytes refusal = refusal_number refusal ∷ refusal_detail refusal
 

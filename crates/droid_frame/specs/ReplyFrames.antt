@@ -19,6 +19,7 @@ frame_of_reply version client number reply =
       body = reply_bytes version reply;
     }
 
+-- the bytes of this frame
 abbrev pub reply_frame : ℕ → ℕ → ℕ → Reply → List ℕ
 reply_frame version client number reply = frame_bytes (frame_of_reply version client number reply)
 

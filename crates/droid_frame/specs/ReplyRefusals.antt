@@ -31,22 +31,25 @@ plain_refusals =
 unfoldable pub plain_refusal : ℕ → Option Refusal
 plain_refusal number = find (λ refusal. refusal_number refusal == number) plain_refusals
 
--- the refusals that have the index of the first missing piece
+-- a TooFarAhead, whose field is the index of the first missing piece
 unfoldable pub too_far_at : List ℕ → Option (Refusal × List ℕ)
 too_far_at bytes = do
   missing ← number_at w32 bytes
   Some (refusals.TooFarAhead missing.0, missing.1)
 
+-- an Incomplete, whose field is the index of the first missing piece
 unfoldable pub incomplete_at : List ℕ → Option (Refusal × List ℕ)
 incomplete_at bytes = do
   missing ← number_at w32 bytes
   Some (refusals.Incomplete missing.0, missing.1)
 
+-- a LimitReached, whose field is the limit
 unfoldable pub limit_reached_at : List ℕ → Option (Refusal × List ℕ)
 limit_reached_at bytes = do
   which ← limit_at bytes
   Some (refusals.LimitReached which.0, which.1)
 
+-- the plain refusal of this number, with all bytes left over
 unfoldable pub plain_refusal_at : ℕ → List ℕ → Option (Refusal × List ℕ)
 plain_refusal_at number rest = do
   refusal ← plain_refusal number
@@ -60,6 +63,7 @@ refusal_after number rest =
     else if number == 17 then limit_reached_at rest
     else plain_refusal_at number rest
 
+-- a refusal: its number, and then its field
 unfoldable pub refusal_at : List ℕ → Option (Refusal × List ℕ)
 refusal_at [] = None
 refusal_at (number ∷ rest) = refusal_after number rest

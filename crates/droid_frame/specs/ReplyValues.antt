@@ -12,36 +12,45 @@ use Rattle.droid_frame.specs.Reading.{◌>>=◌, number_at, truth_at, method_at,
 use Rattle.droid_frame.specs.TextListFields.{texts_at}
 use Rattle.droid_frame.specs.ReplyRefusals.{refusal_at}
 
+-- ---- the reply of each kind that the whole body spells
+
+-- kind 129
 unfoldable pub made_value : List ℕ → Option Reply
 made_value body = do
   profile ← number_at w32 body
   whole profile.1 (Made profile.0)
 
+-- kind 130
 unfoldable pub node_value : List ℕ → Option Reply
 node_value body = do
   id ← number_at w32 body
   whole id.1 (Node id.0)
 
+-- kind 131
 unfoldable pub taken_value : List ℕ → Option Reply
 taken_value body = do
   held ← number_at w32 body
   whole held.1 (Taken held.0)
 
+-- kind 133
 unfoldable pub abandoned_value : List ℕ → Option Reply
 abandoned_value body = whole body Abandoned
 
+-- kind 134
 unfoldable pub progress_value : List ℕ → Option Reply
 progress_value body = do
   held ← number_at w32 body
   missing ← number_at w32 held.1
   whole missing.1 (Progress held.0 missing.0)
 
+-- kind 135
 unfoldable pub part_value : List ℕ → Option Reply
 part_value body = do
   as_of ← number_at w64 body
   total ← number_at w64 as_of.1
   if nat_lt part_limit (length total.1) then None else Some (Part as_of.0 total.0 total.1)
 
+-- kind 136
 unfoldable pub refused_value : List ℕ → Option Reply
 refused_value body = do
   refusal ← refusal_at body
@@ -62,6 +71,7 @@ finished_head_at version bytes = do
   count ← count_at hash.1
   Some (record { method = method.0; mismatch = mismatch.0; hash = hash.0; count = count.0 }, count.1)
 
+-- kind 132
 unfoldable pub finished_value : ℕ → List ℕ → Option Reply
 finished_value version body = do
   head ← finished_head_at version body

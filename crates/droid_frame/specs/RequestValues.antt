@@ -11,6 +11,9 @@ use Rattle.droid_frame.specs.FilterValues.{filter_value}
 use Rattle.droid_frame.specs.NodeHeads.{node_head_at}
 use Rattle.droid_frame.specs.Reading.{◌>>=◌, number_at, truth_at, text_at, whole}
 
+-- ---- the request of each kind that the whole body spells
+
+-- kind 1
 unfoldable pub create_profile_value : ℕ → List ℕ → Option Request
 create_profile_value version body = do
   scan_limit ← number_at w32 body
@@ -18,12 +21,14 @@ create_profile_value version body = do
   hash ← carried_kind_at version match_all.1
   whole hash.1 (CreateProfile scan_limit.0 match_all.0 hash.0)
 
+-- kind 2
 unfoldable pub add_folder_value : List ℕ → Option Request
 add_folder_value body = do
   head ← node_head_at body
   name ← text_at head.1
   Some (AddFolder head.0.profile head.0.parent head.0.modified name)
 
+-- kind 3
 unfoldable pub add_file_value : List ℕ → Option Request
 add_file_value body = do
   head ← node_head_at body
@@ -32,6 +37,7 @@ add_file_value body = do
   name ← text_at piece_size.1
   Some (AddFile head.0.profile head.0.parent head.0.modified size.0 piece_size.0 name)
 
+-- kind 4
 unfoldable pub piece_value : List ℕ → Option Request
 piece_value body = do
   profile ← number_at w32 body
@@ -46,21 +52,25 @@ file_value body = do
   file ← number_at w32 profile.1
   whole file.1 (profile.0, file.0)
 
+-- kind 5
 unfoldable pub finish_value : List ℕ → Option Request
 finish_value body = do
   file ← file_value body
   Some (Finish file.0 file.1)
 
+-- kind 6
 unfoldable pub abandon_value : List ℕ → Option Request
 abandon_value body = do
   file ← file_value body
   Some (Abandon file.0 file.1)
 
+-- kind 7
 unfoldable pub status_value : List ℕ → Option Request
 status_value body = do
   file ← file_value body
   Some (Status file.0 file.1)
 
+-- kind 8
 unfoldable pub export_value : List ℕ → Option Request
 export_value body = do
   profile ← number_at w32 body

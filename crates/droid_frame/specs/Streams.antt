@@ -37,13 +37,15 @@ pub record Frames (stream : List ℕ) (frames : List Frame) (rest : List ℕ) : 
   pub joined : stream ≡ flat_map frame_bytes frames ++ rest
   pub none_more : BeginsNoFrame rest
 
--- a header has 18 bytes: the first is the version, the last four are the length of the body
+-- the length of a header
 abbrev pub header_size : ℕ
 header_size = 18
 
+-- the version in a header: its first byte
 abbrev pub version_in : List ℕ → ℕ
 version_in bytes = slice_index bytes 0
 
+-- the length of the body in a header: its last four bytes
 abbrev pub length_in : List ℕ → ℕ
 length_in bytes = from_be_bytes w32 (take 4 (drop 14 bytes))
 

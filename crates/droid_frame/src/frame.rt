@@ -11,7 +11,7 @@ pub const NUMBER_LIMIT: u64 = 1 << 63;
 
 /// A frame: a request or a reply with its header. Any values make a frame; `request_of` and `reply_of` check whether
 /// its kind and body are valid.
-#[derive(Debug, Drop)]
+#[derive(Drop)]
 pub struct Frame {
     /// The version of the format: 1 or 2 in a frame on a stream.
     pub version: u8,

@@ -6,7 +6,7 @@ ghost use Rattle.droid_frame.specs.Hashes.{hash_bytes, hash_value_kind};
 use crate::hash_kind::HashKind;
 
 /// The hash of a file's bytes.
-#[derive(Clone, Copy, Debug, PartialEq, Eq)]
+#[derive(Clone, Copy, PartialEq, Eq)]
 pub enum HashValue {
     /// No hash was computed.
     Nothing,

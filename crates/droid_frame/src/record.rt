@@ -10,7 +10,7 @@ use crate::texts::Texts;
 use std::alloc::{AllocError, Global};
 
 /// A folder or a finished file, with everything that its rows in the export show.
-#[derive(Debug, Drop)]
+#[derive(Drop)]
 pub struct Record {
     /// The node's number, from 1 in its profile.
     pub id: u32,

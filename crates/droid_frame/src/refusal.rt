@@ -6,7 +6,7 @@ ghost use Rattle.droid_frame.specs.Refusals.{refusal_number, limit_number};
 use std::alloc::AllocError;
 
 /// A limit of the service.
-#[derive(Clone, Copy, Debug, PartialEq, Eq)]
+#[derive(Clone, Copy, PartialEq, Eq)]
 pub enum Limit {
     /// The number of profiles in the service.
     Profiles,
@@ -32,7 +32,7 @@ impl Limit {
 /// Why the service refuses a request. Each reason has a number from 1 to 19 (this project's own). A refused request
 /// changes nothing, and the service does not keep the refusal. If the client sends the request again, the service
 /// judges it anew.
-#[derive(Clone, Copy, Debug, PartialEq, Eq)]
+#[derive(Clone, Copy, PartialEq, Eq)]
 pub enum Refusal {
     /// The version or kind is unknown, the body is invalid, or the request's number is 2^63 or more.
     Malformed,

@@ -20,7 +20,7 @@ pub const PUID_LIMIT: usize = 32;
 pub const PART_LIMIT: usize = 1_048_576;
 
 /// The reply to one request.
-#[derive(Debug, Drop)]
+#[derive(Drop)]
 pub enum Reply {
     /// The profile was created.
     Made {

@@ -7,7 +7,6 @@ use std::alloc::{AllocError, Global};
 use std::marker::Model;
 
 /// Owned UTF-8 text, such as the name of a file. In contracts it is the list of its bytes.
-#[derive(Debug)]
 pub struct Text {
     text: String,
 }

@@ -9,7 +9,6 @@ use std::alloc::{AllocError, Global};
 use std::marker::Model;
 
 /// Texts in order, such as the identifiers of a file's formats. In contracts it is the list of their bytes.
-#[derive(Debug)]
 pub struct Texts {
     items: Vec<Text>,
 }

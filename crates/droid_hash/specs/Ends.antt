@@ -20,5 +20,6 @@ pub record AreEnds (limit size count : ℕ) (first last bytes : List ℕ) : Type
   pub begun : first ≡ take (min limit size) (take size bytes)
   pub ended : last ≡ drop (size - min limit size) (take size bytes)
 
+-- the same of a value that keeps the ends of a file
 unfoldable pub Came : Ends → List ℕ → Type 0
 Came ends bytes = AreEnds ends.limit ends.size ends.count ends.first ends.last bytes

@@ -13,11 +13,11 @@ use Rattle.droid_frame.specs.declared.reply.Reply.TheVariants as replies
 use Rattle.droid_hash.specs.declared.finding.Finding.{Finding}
 use Rattle.droid_hash.specs.declared.finding.RunningPuids.{RunningPuids}
 
--- a PUID behind its length in eight bytes
+-- a PUID after its length in eight bytes
 abbrev pub puid_text : List ℕ → List ℕ
 puid_text puid = u64_bytes (length puid) ++ puid
 
--- so no two lists have one text
+-- the PUIDs one after another, each after its length; so no two lists have one text
 abbrev pub puids_text : List (List ℕ) → List ℕ
 puids_text puids = flat_map puid_text puids
 
@@ -29,6 +29,7 @@ puids_digest puids = hash Sha256 (puids_text puids)
 abbrev pub CoversPuids : RunningPuids → List (List ℕ) → Type 0
 CoversPuids running puids = Holds256 running.hasher (puids_text puids)
 
+-- what is kept of a finished file, from the fields of its reply
 abbrev pub finding_by : Method → Bool → HashValue → List (List ℕ) → Finding
 finding_by method mismatch hash puids =
     record { method = method; mismatch = mismatch; hash = hash; formats = length puids; puids = puids_digest puids }
@@ -37,6 +38,7 @@ finding_by method mismatch hash puids =
 abbrev pub no_finding : Finding
 no_finding = finding_by Unidentified false values.Nothing []
 
+-- what is kept of a reply; of one that finishes no file, nothing
 abbrev pub finding_of : Reply → Finding
 finding_of (replies.Finished method mismatch hash puids) = finding_by method mismatch hash puids
 finding_of _ = no_finding

@@ -1,4 +1,8 @@
-//! The tails of eight messages, and what a piece of each does to them.
+//! The tails of eight messages, and what a piece of each does to them. A tail has the bytes of its message after the
+//! last whole block, at the front of 64 bytes; what stands behind them counts for nothing.
+//!
+//! Each function but `longer` does for all messages what `tails` does for one. `first_chunks 64 n`, of the standard
+//! library, is the first n blocks.
 
 ghost use Rattle.std.specs.Prelude.{◌≡◌, ◌≢◌, ℕ, ◌+◌, ◌*◌, ◌/◌, ◌%◌, ◌^◌, ◌<◌, List, [], ◌∷◌, ◌++◌, length, drop};
 ghost use Rattle.std.specs.Prelude.{slice_index, slice_index_or};
@@ -8,25 +12,7 @@ ghost use Rattle.droid_hash.specs.Tails.{joining, IsJoined};
 
 use crate::tails;
 
-// The lengths of the pieces.
-pub(crate) fn lens(pieces: [&[u8]; 8]) -> [usize; 8]
-    ensures value { (j : ℕ) → j < 8 → slice_index result j ≡ length (piece j pieces.entry) }
-    ensures count { length result ≡ 8 }
-{
-    let [a, b, c, d, e, f, g, h] = pieces;
-    [
-        a.len(),
-        b.len(),
-        c.len(),
-        d.len(),
-        e.len(),
-        f.len(),
-        g.len(),
-        h.len(),
-    ]
-}
-
-// How many bytes of a block each message has begun.
+/// Returns how many bytes of its last block each message has, 0 if that block is whole.
 pub(crate) fn used_of(totals: &[u64; 8]) -> [usize; 8]
     ensures value { (j : ℕ) → j < 8 → slice_index result j ≡ slice_index totals.now j % 64 }
     ensures short { (j : ℕ) → j < 8 → slice_index result j < 64 }
@@ -44,7 +30,7 @@ pub(crate) fn used_of(totals: &[u64; 8]) -> [usize; 8]
     ]
 }
 
-// The blocks that the tails begin, each with its piece's first bytes.
+/// Makes the block that each tail begins, with the piece's first bytes after the tail's.
 pub(crate) fn joined(blocks: &[[u8; 64]; 8], used: [usize; 8], pieces: [&[u8]; 8]) -> [[u8; 64]; 8]
     requires { (j : ℕ) → j < 8 → slice_index used j < 64 }
     ensures { (j : ℕ) → j < 8
@@ -64,7 +50,7 @@ pub(crate) fn joined(blocks: &[[u8; 64]; 8], used: [usize; 8], pieces: [&[u8]; 8
     ]
 }
 
-// Each block that its piece completes.
+/// Returns, for each message, the block if its piece completes it, and no block if not.
 pub(crate) fn completed<'a>(
     blocks: &'a [[u8; 64]; 8],
     used: [usize; 8],
@@ -91,7 +77,7 @@ pub(crate) fn completed<'a>(
     ]
 }
 
-// What is left of each piece.
+/// Returns what is left of each piece after the bytes that went into a block that was begun.
 pub(crate) fn rests<'a>(pieces: [&'a [u8]; 8], used: [usize; 8]) -> [&'a [u8]; 8]
     requires { (j : ℕ) → j < 8 → slice_index used j < 64 }
     ensures { (j : ℕ) → j < 8
@@ -110,7 +96,7 @@ pub(crate) fn rests<'a>(pieces: [&'a [u8]; 8], used: [usize; 8]) -> [&'a [u8]; 8
     ]
 }
 
-// The whole blocks of each.
+/// Returns the whole blocks of each rest of a piece.
 pub(crate) fn chunks<'a>(rests: [&'a [u8]; 8]) -> [&'a [[u8; 64]]; 8]
     ensures { (j : ℕ) → j < 8
         → piece j result ≡ first_chunks 64 (length (piece j rests.entry) / 64) (piece j rests.entry) }
@@ -128,7 +114,7 @@ pub(crate) fn chunks<'a>(rests: [&'a [u8]; 8]) -> [&'a [[u8; 64]]; 8]
     ]
 }
 
-// The new tails.
+/// Makes the new tails: the bytes of each rest after its whole blocks, in the block of before.
 pub(crate) fn kept(blocks: &[[u8; 64]; 8], rests: [&[u8]; 8]) -> [[u8; 64]; 8]
     ensures { (j : ℕ) → j < 8 → slice_index_or result j []
         ≡ drop (length (piece j rests.entry) / 64 * 64) (piece j rests.entry)
@@ -147,7 +133,7 @@ pub(crate) fn kept(blocks: &[[u8; 64]; 8], rests: [&[u8]; 8]) -> [[u8; 64]; 8]
     ]
 }
 
-// The counts with the pieces' lengths added to them.
+/// Adds the pieces' lengths to the messages' lengths, modulo 2^64.
 pub(crate) fn longer(totals: &[u64; 8], pieces: [&[u8]; 8]) -> [u64; 8]
     ensures { (j : ℕ) → j < 8
         → slice_index result j ≡ (slice_index totals.now j + length (piece j pieces.entry)) % 2 ^ 64 }

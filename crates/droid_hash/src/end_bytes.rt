@@ -31,7 +31,7 @@ impl Model for EndBytes {
     ghost invariant = { HasRoom };
 }
 
-// Adds bytes for which there is room.
+/// Appends bytes for which there is room, so that nothing is allocated.
 fn append(window: &mut Vec<u8>, bytes: &[u8])
     requires { vec_len window.old + length bytes.now ≤ vec_capacity window.old }
     ensures items { window.new.items ≡ window.old.items ++ bytes.now }
@@ -41,7 +41,7 @@ fn append(window: &mut Vec<u8>, bytes: &[u8])
     window.extend_from_slice(bytes).unwrap()
 }
 
-// How many of `len` bytes are among the next `left` ones.
+/// Returns how many of `len` bytes are among the next `left` ones: the smaller number.
 fn within(len: usize, left: u64) -> usize
     ensures { result ≡ min left len }
 {
@@ -52,7 +52,7 @@ fn within(len: usize, left: u64) -> usize
     }
 }
 
-// How many bytes each end of a file has.
+/// Returns how many bytes each end of a file has.
 fn width_of(limit: usize, size: u64) -> u64
     ensures { result ≡ min limit size }
 {

@@ -7,7 +7,7 @@ use droid_frame::{HashValue, Method, Reply, Text};
 use sha2::{Digest, Sha256};
 
 /// What the reply that finished a file says. The list of formats is kept as its SHA-256, so that no reply takes memory.
-#[derive(Clone, Copy, PartialEq, Eq)]
+#[derive(Clone, Copy)]
 pub struct Finding {
     /// How the formats were found.
     pub method: Method,

@@ -1,4 +1,8 @@
-//! The tails of four messages, and what a piece of each does to them.
+//! The tails of four messages, and what a piece of each does to them. A tail has the bytes of its message after the
+//! last whole block, at the front of 64 bytes; what stands behind them counts for nothing.
+//!
+//! Each function but `lens` and `longer` does for all messages what `tails` does for one. `first_chunks 64 n`, of the
+//! standard library, is the first n blocks.
 
 ghost use Rattle.std.specs.Prelude.{◌≡◌, ◌≢◌, ℕ, ◌+◌, ◌*◌, ◌/◌, ◌%◌, ◌^◌, ◌<◌, List, [], ◌∷◌, ◌++◌, length, drop};
 ghost use Rattle.std.specs.Prelude.{slice_index, slice_index_or};
@@ -8,7 +12,7 @@ ghost use Rattle.droid_hash.specs.Tails.{joining, IsJoined};
 
 use crate::tails;
 
-// The lengths of the pieces.
+/// Returns the lengths of the pieces.
 pub(crate) fn lens(pieces: [&[u8]; 4]) -> [usize; 4]
     ensures value { (j : ℕ) → j < 4 → slice_index result j ≡ length (piece j pieces.entry) }
     ensures count { length result ≡ 4 }
@@ -17,7 +21,7 @@ pub(crate) fn lens(pieces: [&[u8]; 4]) -> [usize; 4]
     [a.len(), b.len(), c.len(), d.len()]
 }
 
-// How many bytes of a block each message has begun.
+/// Returns how many bytes of its last block each message has, 0 if that block is whole.
 pub(crate) fn used_of(totals: &[u64; 4]) -> [usize; 4]
     ensures value { (j : ℕ) → j < 4 → slice_index result j ≡ slice_index totals.now j % 64 }
     ensures short { (j : ℕ) → j < 4 → slice_index result j < 64 }
@@ -31,7 +35,7 @@ pub(crate) fn used_of(totals: &[u64; 4]) -> [usize; 4]
     ]
 }
 
-// The blocks that the tails begin, each with its piece's first bytes.
+/// Makes the block that each tail begins, with the piece's first bytes after the tail's.
 pub(crate) fn joined(blocks: &[[u8; 64]; 4], used: [usize; 4], pieces: [&[u8]; 4]) -> [[u8; 64]; 4]
     requires { (j : ℕ) → j < 4 → slice_index used j < 64 }
     ensures { (j : ℕ) → j < 4
@@ -47,7 +51,7 @@ pub(crate) fn joined(blocks: &[[u8; 64]; 4], used: [usize; 4], pieces: [&[u8]; 4
     ]
 }
 
-// Each block that its piece completes.
+/// Returns, for each message, the block if its piece completes it, and no block if not.
 pub(crate) fn completed<'a>(
     blocks: &'a [[u8; 64]; 4],
     used: [usize; 4],
@@ -70,7 +74,7 @@ pub(crate) fn completed<'a>(
     ]
 }
 
-// What is left of each piece.
+/// Returns what is left of each piece after the bytes that went into a block that was begun.
 pub(crate) fn rests<'a>(pieces: [&'a [u8]; 4], used: [usize; 4]) -> [&'a [u8]; 4]
     requires { (j : ℕ) → j < 4 → slice_index used j < 64 }
     ensures { (j : ℕ) → j < 4
@@ -85,7 +89,7 @@ pub(crate) fn rests<'a>(pieces: [&'a [u8]; 4], used: [usize; 4]) -> [&'a [u8]; 4
     ]
 }
 
-// The whole blocks of each.
+/// Returns the whole blocks of each rest of a piece.
 pub(crate) fn chunks<'a>(rests: [&'a [u8]; 4]) -> [&'a [[u8; 64]]; 4]
     ensures { (j : ℕ) → j < 4
         → piece j result ≡ first_chunks 64 (length (piece j rests.entry) / 64) (piece j rests.entry) }
@@ -99,7 +103,7 @@ pub(crate) fn chunks<'a>(rests: [&'a [u8]; 4]) -> [&'a [[u8; 64]]; 4]
     ]
 }
 
-// The new tails.
+/// Makes the new tails: the bytes of each rest after its whole blocks, in the block of before.
 pub(crate) fn kept(blocks: &[[u8; 64]; 4], rests: [&[u8]; 4]) -> [[u8; 64]; 4]
     ensures { (j : ℕ) → j < 4 → slice_index_or result j []
         ≡ drop (length (piece j rests.entry) / 64 * 64) (piece j rests.entry)
@@ -114,7 +118,7 @@ pub(crate) fn kept(blocks: &[[u8; 64]; 4], rests: [&[u8]; 4]) -> [[u8; 64]; 4]
     ]
 }
 
-// The counts with the pieces' lengths added to them.
+/// Adds the pieces' lengths to the messages' lengths, modulo 2^64.
 pub(crate) fn longer(totals: &[u64; 4], pieces: [&[u8]; 4]) -> [u64; 4]
     ensures { (j : ℕ) → j < 4
         → slice_index result j ≡ (slice_index totals.now j + length (piece j pieces.entry)) % 2 ^ 64 }

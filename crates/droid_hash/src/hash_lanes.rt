@@ -54,7 +54,7 @@ impl HashLanes {
         }
     }
 
-    // Takes each lane's piece.
+    /// Takes all of each lane's piece. [`HashLanes::advance`] cuts the pieces to one length first.
     #[tactic(auto, unfolding(crate::specs::Scanning::Scanned))]
     fn update(&mut self, pieces: [&[u8]; 8])
         ensures kind { lanes_kind self.new ≡ lanes_kind self.old }

@@ -1,4 +1,5 @@
-//! Runs of blocks, one for each lane and of any lengths, taken side by side.
+//! Runs of blocks, one for each lane and of any lengths, taken side by side. `compress h b`, of the kit's `md5`, is the
+//! hash value after block b.
 
 ghost use Rattle.std.specs.Prelude.{◌≡◌, ℕ, ◌+◌, ◌-◌, ◌*◌, ◌<◌, ◌≤◌, List, [], Bool, false, nat_lt, fold, length, take};
 ghost use Rattle.std.specs.Prelude.{drop, slice_index, slice_index_or, if◌then◌else◌};
@@ -9,7 +10,7 @@ use crate::md5_kernel::compress_run;
 use crate::runs::{longer, one_of, part, within};
 use std::simd::u32x8;
 
-// The longest run.
+/// Returns the longest run, which serves as filler: the runs that end before it take its blocks to no effect.
 fn longest<'a>(runs: [&'a [[u8; 64]]; 8]) -> &'a [[u8; 64]]
     ensures { (j : ℕ) → j < 8 → length (piece j runs.entry) ≤ length result.now }
 {
@@ -20,7 +21,7 @@ fn longest<'a>(runs: [&'a [[u8; 64]]; 8]) -> &'a [[u8; 64]]
     )
 }
 
-// How many blocks from `at` on all runs have that have not ended there, at most `most`.
+/// Returns how many blocks from `at` on each run has that has not ended there: at most `most`.
 fn common(runs: [&[[u8; 64]]; 8], at: usize, most: usize) -> usize
     ensures most { result ≤ most }
     ensures some { 0 < most → 0 < result }
@@ -38,7 +39,7 @@ fn common(runs: [&[[u8; 64]]; 8], at: usize, most: usize) -> usize
     low
 }
 
-// Each run from `at` on, or the filler where it has ended.
+/// Returns each run from `at` on, or the filler from there on if the run has ended.
 fn parts<'a>(runs: [&'a [[u8; 64]]; 8], filler: &'a [[u8; 64]], at: usize) -> [&'a [[u8; 64]]; 8]
     requires { at ≤ length filler.now }
     ensures { (j : ℕ) → j < 8 → piece j result
@@ -57,7 +58,7 @@ fn parts<'a>(runs: [&'a [[u8; 64]]; 8], filler: &'a [[u8; 64]], at: usize) -> [&
     ]
 }
 
-// Which runs have not ended at `at`.
+/// Returns which runs have not ended at `at`.
 fn going(runs: [&[[u8; 64]]; 8], at: usize) -> [bool; 8]
     ensures { (j : ℕ) → j < 8 → slice_index_or result j false ≡ nat_lt at (length (piece j runs.entry)) }
 {
@@ -74,11 +75,12 @@ fn going(runs: [&[[u8; 64]]; 8], at: usize) -> [bool; 8]
     ]
 }
 
-// The new state in the lanes that are named, and the old one in the others.
+/// Returns the new state in the lanes that are named, and the old one in the others.
 fn chosen(named: [bool; 8], new: [u32x8; 4], old: [u32x8; 4]) -> [u32x8; 4]
     ensures { (j : ℕ) → j < 8 → lane j result ≡ (if slice_index_or named j false then lane j new else lane j old) }
 {
     let [a, b, c, d, e, f, g, h] = named;
+    // For speed; no clause needs it.
     if a && b && c && d && e && f && g && h {
         return new;
     }
@@ -90,7 +92,7 @@ fn chosen(named: [bool; 8], new: [u32x8; 4], old: [u32x8; 4]) -> [u32x8; 4]
     ]
 }
 
-// The same for one variable.
+/// Does the work of `chosen` for one variable of the state.
 fn chosen_lanes(named: [bool; 8], new: u32x8, old: u32x8) -> u32x8
     ensures { (j : ℕ) → j < 8
         → slice_index result j ≡ (if slice_index_or named j false then slice_index new j else slice_index old j) }
@@ -110,8 +112,8 @@ fn chosen_lanes(named: [bool; 8], new: u32x8, old: u32x8) -> u32x8
     ])
 }
 
-// Takes `count` blocks from `at` on of each run that has not ended there. An idle lane takes the filler's blocks, and
-// its old state is put back.
+/// Takes `count` blocks from `at` on of each run that has not ended there. An idle lane takes the filler's blocks, and
+/// its old state is put back.
 fn take_part<'a>(
     state: &mut [u32x8; 4],
     runs: [&'a [[u8; 64]]; 8],
@@ -130,7 +132,7 @@ fn take_part<'a>(
     *state = chosen(going(runs, at), new, old);
 }
 
-// Takes each run's blocks into its lane. A lane whose run has ended stays as it is while the others go on.
+/// Takes each run's blocks into its lane. A lane whose run has ended stays as it is while the others go on.
 pub(crate) fn take_runs(state: &mut [u32x8; 4], runs: [&[[u8; 64]]; 8])
     ensures { (j : ℕ) → j < 8 → lane j state.new ≡ fold compress (lane j state.old) (piece j runs.entry) }
 {

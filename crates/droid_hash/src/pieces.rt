@@ -1,11 +1,11 @@
-//! A piece of each of eight files.
+//! Pieces of files that come side by side: their lengths, their fronts, and what is left of them.
 
-ghost use Rattle.std.specs.Prelude.{◌≡◌, ℕ, ◌-◌, ◌<◌, ◌≤◌, length, take, drop, min, slice_index};
+ghost use Rattle.std.specs.Prelude.{◌≡◌, ◌≢◌, ℕ, ◌-◌, ◌<◌, ◌≤◌, length, take, drop, min, slice_index, IfSome};
 ghost use Rattle.droid_hash.specs.Lanes.{piece};
 ghost use Rattle.droid_hash.specs.Pieces.{Beats};
 
-// The lengths of the pieces.
-fn lens(pieces: [&[u8]; 8]) -> [usize; 8]
+/// Returns the lengths of the pieces.
+pub(crate) fn lens(pieces: [&[u8]; 8]) -> [usize; 8]
     ensures value { (j : ℕ) → j < 8 → slice_index result j ≡ length (piece j pieces.entry) }
     ensures count { length result ≡ 8 }
 {
@@ -22,7 +22,7 @@ fn lens(pieces: [&[u8]; 8]) -> [usize; 8]
     ]
 }
 
-// Of two places that of the smaller length, where one of 0 counts last.
+/// Returns, of two places, that of the smaller length. A length of 0 counts last.
 fn better(lens: &[usize; 8], one: usize, other: usize) -> usize
     requires one { one < 8 }
     requires other { other < 8 }
@@ -39,7 +39,7 @@ fn better(lens: &[usize; 8], one: usize, other: usize) -> usize
     if lens[one] <= lens[other] { one } else { other }
 }
 
-// The place of the smallest length that isn't 0; any place if all are 0.
+/// Returns the place of the smallest length that isn't 0; any place if all are 0.
 fn place_of_shortest(lens: &[usize; 8]) -> usize
     ensures inside { result < 8 }
     ensures shortest { (j : ℕ) → j < 8 → Beats lens.now result j }
@@ -60,6 +60,37 @@ pub(crate) fn shortest(pieces: [&[u8]; 8]) -> usize
     let lens = lens(pieces);
     let place = place_of_shortest(&lens);
     lens[place]
+}
+
+/// Returns the first place from `from` on whose length isn't 0, or the number of lengths if there is none.
+fn busy(lens: &[usize], from: usize) -> usize
+    requires { from ≤ length lens.now }
+    ensures within { result ≤ length lens.now }
+    ensures before { (k : ℕ) → from ≤ k → k < result → slice_index lens.now k ≡ 0 }
+{
+    for place in from..lens.len() {
+        if lens[place] != 0 {
+            return place;
+        }
+    }
+    lens.len()
+}
+
+/// Returns the place of the only length that isn't 0, if there is exactly one. No clause asks for `Some`: after `None`
+/// all lanes are taken side by side, which takes longer.
+pub(crate) fn only(lens: &[usize]) -> Option<usize>
+    ensures inside { IfSome result (λ index. index < length lens.now) }
+    ensures alone { IfSome result (λ index. (j : ℕ) → j < length lens.now → j ≢ index → slice_index lens.now j ≡ 0) }
+{
+    let first = busy(lens, 0);
+    if first == lens.len() {
+        return None;
+    }
+    let second = busy(lens, first + 1);
+    if second < lens.len() {
+        return None;
+    }
+    Some(first)
 }
 
 /// Returns the first `count` bytes of a piece, or all of a shorter one.

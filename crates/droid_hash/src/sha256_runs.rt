@@ -1,4 +1,5 @@
-//! Runs of blocks, one for each lane and of any lengths, taken side by side.
+//! Runs of blocks, one for each lane and of any lengths, taken side by side. `compress h b`, of the kit's `sha2`, is
+//! the hash value after block b.
 
 ghost use Rattle.std.specs.Prelude.{◌≡◌, ℕ, ◌+◌, ◌-◌, ◌*◌, ◌<◌, ◌≤◌, List, [], Bool, false, nat_lt, fold, length, take};
 ghost use Rattle.std.specs.Prelude.{drop, slice_index, slice_index_or, if◌then◌else◌};
@@ -9,7 +10,7 @@ use crate::runs::{longer, one_of, part, within};
 use crate::sha256_kernel::compress_run;
 use std::simd::u32x4;
 
-// The longest run.
+/// Returns the longest run, which serves as filler: the runs that end before it take its blocks to no effect.
 fn longest<'a>(runs: [&'a [[u8; 64]]; 4]) -> &'a [[u8; 64]]
     ensures { (j : ℕ) → j < 4 → length (piece j runs.entry) ≤ length result.now }
 {
@@ -17,7 +18,7 @@ fn longest<'a>(runs: [&'a [[u8; 64]]; 4]) -> &'a [[u8; 64]]
     longer(longer(a, b), longer(c, d))
 }
 
-// How many blocks from `at` on all runs have that have not ended there, at most `most`.
+/// Returns how many blocks from `at` on each run has that has not ended there: at most `most`.
 fn common(runs: [&[[u8; 64]]; 4], at: usize, most: usize) -> usize
     ensures most { result ≤ most }
     ensures some { 0 < most → 0 < result }
@@ -31,7 +32,7 @@ fn common(runs: [&[[u8; 64]]; 4], at: usize, most: usize) -> usize
     low
 }
 
-// Each run from `at` on, or the filler where it has ended.
+/// Returns each run from `at` on, or the filler from there on if the run has ended.
 fn parts<'a>(runs: [&'a [[u8; 64]]; 4], filler: &'a [[u8; 64]], at: usize) -> [&'a [[u8; 64]]; 4]
     requires { at ≤ length filler.now }
     ensures { (j : ℕ) → j < 4 → piece j result
@@ -46,7 +47,7 @@ fn parts<'a>(runs: [&'a [[u8; 64]]; 4], filler: &'a [[u8; 64]], at: usize) -> [&
     ]
 }
 
-// Which runs have not ended at `at`.
+/// Returns which runs have not ended at `at`.
 fn going(runs: [&[[u8; 64]]; 4], at: usize) -> [bool; 4]
     ensures { (j : ℕ) → j < 4 → slice_index_or result j false ≡ nat_lt at (length (piece j runs.entry)) }
 {
@@ -54,11 +55,12 @@ fn going(runs: [&[[u8; 64]]; 4], at: usize) -> [bool; 4]
     [at < a.len(), at < b.len(), at < c.len(), at < d.len()]
 }
 
-// The new state in the lanes that are named, and the old one in the others.
+/// Returns the new state in the lanes that are named, and the old one in the others.
 fn chosen(named: [bool; 4], new: [u32x4; 8], old: [u32x4; 8]) -> [u32x4; 8]
     ensures { (j : ℕ) → j < 4 → lane8 j result ≡ (if slice_index_or named j false then lane8 j new else lane8 j old) }
 {
     let [a, b, c, d] = named;
+    // For speed; no clause needs it.
     if a && b && c && d {
         return new;
     }
@@ -74,7 +76,7 @@ fn chosen(named: [bool; 4], new: [u32x4; 8], old: [u32x4; 8]) -> [u32x4; 8]
     ]
 }
 
-// The same for one variable.
+/// Does the work of `chosen` for one variable of the state.
 fn chosen_lanes(named: [bool; 4], new: u32x4, old: u32x4) -> u32x4
     ensures { (j : ℕ) → j < 4
         → slice_index result j ≡ (if slice_index_or named j false then slice_index new j else slice_index old j) }
@@ -90,8 +92,8 @@ fn chosen_lanes(named: [bool; 4], new: u32x4, old: u32x4) -> u32x4
     ])
 }
 
-// Takes `count` blocks from `at` on of each run that has not ended there. An idle lane takes the filler's blocks, and
-// its old state is put back.
+/// Takes `count` blocks from `at` on of each run that has not ended there. An idle lane takes the filler's blocks, and
+/// its old state is put back.
 fn take_part<'a>(
     state: &mut [u32x4; 8],
     runs: [&'a [[u8; 64]]; 4],
@@ -110,7 +112,7 @@ fn take_part<'a>(
     *state = chosen(going(runs, at), new, old);
 }
 
-// Takes each run's blocks into its lane. A lane whose run has ended stays as it is while the others go on.
+/// Takes each run's blocks into its lane. A lane whose run has ended stays as it is while the others go on.
 pub(crate) fn take_runs(state: &mut [u32x4; 8], runs: [&[[u8; 64]]; 4])
     ensures { (j : ℕ) → j < 4 → lane8 j state.new ≡ fold compress (lane8 j state.old) (piece j runs.entry) }
 {

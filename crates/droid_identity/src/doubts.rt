@@ -10,7 +10,7 @@ use droid_pronom::{Registry, hit_formats};
 use std::alloc::{AllocError, Global};
 
 /// Why a file does not have a format: what its signatures lack, and the formats that beat it.
-#[derive(Debug, Drop)]
+#[derive(Drop)]
 pub struct Doubt {
     /// Each signature of the format, with the match of each of its byte sequences.
     pub trials: Vec<Trial>,

@@ -3,7 +3,7 @@
 use droid_pronom::Anchor;
 
 /// Where a byte sequence matches in a file.
-#[derive(Clone, Copy, Debug)]
+#[derive(Clone, Copy)]
 pub struct Match {
     /// The end of the file from which the offset counts.
     pub anchor: Anchor,

@@ -12,7 +12,7 @@ use droid_pronom::{ByteSequence, Signature};
 use std::alloc::{AllocError, Global};
 
 /// The signature by which a format is found, and where its byte sequences match.
-#[derive(Debug, Drop)]
+#[derive(Drop)]
 pub struct SignatureBasis {
     /// The place of the signature in the registry, counted from 0.
     pub signature: usize,

@@ -9,7 +9,7 @@ use crate::units::{Order, is_back, is_units, order_of};
 use crate::utf8::{is_utf8_back, is_utf8_front, is_utf8_text};
 
 /// How plain text is written.
-#[derive(Clone, Copy, Debug, PartialEq, Eq)]
+#[derive(Clone, Copy)]
 pub enum TextKind {
     /// ASCII alone.
     Ascii,

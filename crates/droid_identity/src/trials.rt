@@ -10,7 +10,7 @@ use droid_pronom::{ByteSequence, Signature};
 use std::alloc::{AllocError, Global};
 
 /// A signature that was tried.
-#[derive(Debug, Drop)]
+#[derive(Drop)]
 pub struct Trial {
     /// The place of the signature in the registry, counted from 0.
     pub signature: usize,

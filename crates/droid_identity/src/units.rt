@@ -8,7 +8,7 @@ use crate::ascii::is_usual;
 use crate::parts::after;
 
 /// Which byte of a unit comes first.
-#[derive(Clone, Copy, Debug, PartialEq, Eq)]
+#[derive(Clone, Copy)]
 pub(crate) enum Order {
     /// The higher one.
     Big,

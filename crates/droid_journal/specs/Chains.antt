@@ -33,9 +33,11 @@ form_of header = if bytes_eq (take 21 header) first_line_before then forms.Befor
 abbrev pub first_check : List ℕ → List ℕ
 first_check header = md5 header
 
+-- what all check values and marks of a journal with this header depend on
 abbrev pub key_of : List ℕ → Key
 key_of header = record { form = form_of header; start = first_check header }
 
+-- where its first record stands
 abbrev pub first_place : List ℕ → Place
 first_place header = record { at = length header; check = first_check header; records = 0 }
 
@@ -43,6 +45,7 @@ first_place header = record { at = length header; check = first_check header; re
 abbrev pub journal_bytes : List ℕ → List Record → List ℕ
 journal_bytes header its = header ++ chain_bytes (key_of header) (first_place header) its
 
+-- the place behind all its records
 abbrev pub last_place : List ℕ → List Record → Place
 last_place header its = place_behind (key_of header) (first_place header) its
 

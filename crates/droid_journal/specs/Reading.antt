@@ -8,6 +8,7 @@ use Rattle.droid_journal.specs.declared.records.key.Form.{Form}
 use Rattle.droid_journal.specs.declared.records.key.Key.{Key}
 use Rattle.droid_journal.specs.declared.records.place.Place.{Place}
 
+-- goes on with what was read; nothing is read if nothing was
 infixl 10 ◌>>=◌
 abbrev pub ◌>>=◌ : {A B : Type 0} → Option A → (A → Option B) → Option B
 (Some x) >>= f = f x
@@ -38,9 +39,11 @@ is_right form mark first bytes =
     else true)
     else true
 
+-- a big-endian number of four bytes, and the bytes behind it
 abbrev pub number_at : List ℕ → Option (ℕ × List ℕ)
 number_at bytes = if nat_lt (length bytes) 4 then None else Some (from_be_bytes w32 (take 4 bytes), drop 4 bytes)
 
+-- as many bytes as such a number before them says, and the bytes behind those
 unfoldable pub string_at : List ℕ → Option (List ℕ × List ℕ)
 string_at bytes = do
   n ← number_at bytes

@@ -16,6 +16,7 @@ pub record Record : Type 0 where
   pub request : List ℕ
   pub reply : List ℕ
 
+-- the record of these
 abbrev pub made : Bool → List ℕ → List ℕ → Record
 made first request reply = record { first = first; request = request; reply = reply }
 
@@ -24,9 +25,11 @@ pub record Fits (it : Record) : Type 0 where
   pub header : 18 ≤ length it.request
   pub size : length it.request + length it.reply + 41 ≤ 8388608
 
+-- each record does
 abbrev pub AllFit : List Record → Type 0
 AllFit its = AllByRecursion Fits its
 
+-- the byte that a record begins with
 abbrev pub first_byte : Bool → ℕ
 first_byte first = if first then 1 else 0
 
@@ -59,6 +62,7 @@ turn_mark key at = 1 ∷ mark_at key at
 abbrev pub front_by : Form → List ℕ → Bool → List ℕ
 front_by form mark first = if first then by_form form (1 ∷ []) (1 ∷ mark) else 0 ∷ []
 
+-- the beginning of a record at this place
 abbrev pub front_bytes : Key → Place → Bool → List ℕ
 front_bytes key place first = front_by key.form (mark_at key place.at) first
 
@@ -97,6 +101,7 @@ sealed start bytes = bytes ++ take 4 (md5 (start ++ bytes))
 unfoldable pub next_check : Key → Place → Record → List ℕ
 next_check key place it = by_form key.form (sealed key.start (take 12 (digest key place it))) (digest key place it)
 
+-- all bytes of a record at this place
 unfoldable pub record_bytes : Key → Place → Record → List ℕ
 record_bytes key place it = front_bytes key place it.first ++ (body it ++ next_check key place it)
 

@@ -7,6 +7,7 @@ pub record Roomy : Type 0 where
   pub items : List ℕ
   pub left : ℕ
 
+-- the bytes, and the room that is left for more
 abbrev pub shown : Inside → Roomy
 shown room = record { items = room.bytes.items; left = room.left }
 

@@ -80,6 +80,7 @@ pub(crate) fn hand_all<F: LogFile, M: Machine + Drop>(
         → Fails M.stands M.gives key from (drop from.at s) machine.old number }
 {
     let mut place = from;
+    // The bound is never reached. With it the loop ends, whatever the file does.
     for _ in 0..u64::MAX {
         let next = match hand_some(alloc, file, machine, key, place, buffer) {
             Ok(next) => next,
@@ -134,6 +135,7 @@ pub(crate) fn is_damaged<F: LogFile>(
     ensures fault { IfErr result (λ fault. fault ≡ Fault.Read) }
 {
     let mut at = from;
+    // The bound is never reached. With it the loop ends, whatever the file does.
     for _ in 0..u64::MAX {
         let (later, ended) = search_some(file, key, at, buffer)?;
         if later {

@@ -1,4 +1,4 @@
-//! The frames of a record as bytes.
+//! The frames of a record as bytes, and back.
 
 ghost use Rattle.std.specs.Prelude.{◌≡◌, ◌≤◌, IfNone, IfOk, IfSome, length, true};
 ghost use Rattle.droid_frame.specs.Fields.{IsBytes};
@@ -17,7 +17,7 @@ use droid_frame::{
 use std::alloc::{AllocError, Global};
 
 /// Returns whether a stream can carry the frame: its version is 1 or 2, and its body is within the limit of that
-/// version.
+/// version. `bytes` holds of every frame.
 pub(crate) fn is_carried(frame: &Frame) -> bool
     ensures version { result ≡ true → IsVersion frame.now.version }
     ensures body { result ≡ true → length frame.now.body ≤ body_limit frame.now.version }

@@ -1,4 +1,4 @@
-//! The journal.
+//! The journal: it hands its machine each request, appends the accepted ones to its file, and syncs that.
 
 ghost use Rattle.std.specs.Prelude.{◌≡◌, ◌+◌, ◌≤◌, ◌++◌, if◌then◌else◌, ℕ, Bool, List, [], None, Some, false, true};
 ghost use Rattle.std.specs.Prelude.{drop, length, not, IfErr, IfOk, OnOk, OnErr, IsErr, IsSome, vec_capacity, vec_len};

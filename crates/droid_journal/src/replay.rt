@@ -19,7 +19,7 @@ use crate::records::record_reader::{Found, record_of};
 use droid_frame::{Refusal, Reply};
 use std::alloc::Global;
 
-/// Whether a reply says that memory ran out.
+/// Returns whether a reply says that memory ran out. Only if it does not may [`replay_one`] blame the record.
 fn is_out_of_memory(reply: &Reply) -> bool
     ensures { reply.now ≡ Refused Memory → result ≡ true }
 {
@@ -68,7 +68,7 @@ fn replay_one<M: Machine + Drop>(
     Ok(())
 }
 
-/// Reads the record at the front of bytes.
+/// Reads the record at the front as [`record_of`] does, with those of its clauses that the loop of [`replay`] needs.
 fn next_of<'a>(key: Key, place: Place, bytes: &'a [u8]) -> Option<Found<'a>>
     requires at { place.at + length bytes.now < 18446744073709551616 }
     requires records { place.records + length bytes.now < 18446744073709551616 }

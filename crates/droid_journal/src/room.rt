@@ -1,4 +1,4 @@
-//! Room for a record, taken before the machine is asked.
+//! Room for a record, taken before the machine is asked: once a request was accepted, its record needs no more memory.
 
 ghost use Rattle.std.specs.Prelude.{◌≡◌, ◌+◌, ◌<◌, ◌≤◌, ◌++◌, [], Some, OnOk, length, min, take, vec_capacity, vec_len};
 ghost use Rattle.droid_frame.specs.Replies.{HasReplySpelling};
@@ -109,11 +109,13 @@ impl Room {
 impl Write for Room {
     ghost contents = { λ room. Some room.items };
 
+    /// Writes the first of the bytes, as many as there is room for.
     fn write(&mut self, buf: &[u8]) -> io::Result<usize> {
         let count = self.take_in(buf);
         Ok(count)
     }
 
+    /// Does nothing: no byte waits.
     fn flush(&mut self) -> io::Result<()> {
         Ok(())
     }
@@ -126,6 +128,7 @@ impl SteadyWrite for Room {
 
     ghost room = { λ room. Some room.left };
 
+    /// Does the same as `write`.
     fn write_on(&mut self, bytes: &[u8]) -> io::Result<usize> {
         let count = self.take_in(bytes);
         Ok(count)

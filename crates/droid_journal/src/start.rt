@@ -140,7 +140,8 @@ fn cut_behind<F: LogFile>(file: &mut F, end: u64) -> Result<(), Fault>
     }
 }
 
-/// How many bytes behind the records the search for later turns begins: a mark at the very end of the records is right.
+/// Returns how many bytes behind the records the search for later turns begins: a mark at the very end of the records
+/// is right.
 fn skip_of(form: Form) -> u64
     ensures { result ≡ skipped form }
 {
@@ -171,7 +172,7 @@ fn is_begun_at<F: LogFile>(file: &F, key: Key, at: u64) -> Result<bool, Fault>
     Ok(is)
 }
 
-/// Where a file is cut: behind its records and the beginning of the next turn, if it is there.
+/// Returns where a file is cut: behind its records and the beginning of the next turn, if it is there.
 fn end_of(at: u64, ahead: bool) -> Option<u64>
     ensures { IfSome result (λ end. end ≡ at + (if ahead then 17 else 0)) }
 {

@@ -15,6 +15,7 @@ use Rattle.droid_lines.specs.Words.{is_byte, cut_at, first_word, number_below, n
 
 -- ---- the words of a criterion
 
+-- `none`, `Signature` or `Extension`
 unfoldable pub method_word : List ℕ → Option Criterion
 method_word word =
     if bytes_eq word (codes "none") then Some (MethodIs Unidentified)
@@ -22,23 +23,27 @@ method_word word =
     else if bytes_eq word (codes "Extension") then Some (MethodIs Extension)
     else None
 
+-- `false` or `true`
 unfoldable pub mismatch_word : List ℕ → Option Criterion
 mismatch_word word =
     if bytes_eq word (codes "false") then Some (MismatchIs false)
     else if bytes_eq word (codes "true") then Some (MismatchIs true)
     else None
 
+-- `File` or `Folder`
 unfoldable pub kind_word : List ℕ → Option Criterion
 kind_word word =
     if bytes_eq word (codes "File") then Some (KindIs File)
     else if bytes_eq word (codes "Folder") then Some (KindIs Folder)
     else None
 
+-- the least size, in bytes
 unfoldable pub least_word : List ℕ → Option Criterion
 least_word word = do
   size ← number_below (2 ^ 64) word
   Some (SizeAtLeast size)
 
+-- the largest size, in bytes
 unfoldable pub most_word : List ℕ → Option Criterion
 most_word word = do
   size ← number_below (2 ^ 64) word
@@ -60,6 +65,7 @@ criterion_of name value =
     else if bytes_eq name (codes "type") then kind_word value
     else None
 
+-- `NAME=VALUE`
 unfoldable pub criterion_word : List ℕ → Option Criterion
 criterion_word word = do
   parts ← cut_at 61 word

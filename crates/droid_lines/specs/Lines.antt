@@ -20,6 +20,7 @@ use Rattle.droid_lines.specs.declared.parser.VersionedRequest.{VersionedRequest}
 
 -- ---- lines
 
+-- 10, which ends a line
 abbrev pub is_line_feed : ℕ → Bool
 is_line_feed byte = byte == 10
 
@@ -40,6 +41,7 @@ lines_of input = without_empty_end (slice_split is_line_feed input)
 abbrev pub list_fits : List (List ℕ) → Bool
 list_fits texts = nat_le (length texts) 255 && list_all (λ text. nat_le (length text) 255) texts
 
+-- a list of texts has to fit, and any other value does
 abbrev pub criterion_fits : Criterion → Bool
 criterion_fits (PuidIn texts) = list_fits texts
 criterion_fits (ExtIn texts) = list_fits texts
@@ -49,10 +51,12 @@ criterion_fits _ = true
 abbrev pub criteria_fit : List Criterion → Bool
 criteria_fit criteria = nat_le (length criteria) 255 && list_all criterion_fits criteria
 
+-- only an export has lists
 abbrev pub lists_fit : Request → Bool
 lists_fit (Export profile from max filter) = criteria_fit filter.criteria
 lists_fit _ = true
 
+-- the one kind of hash that version 1 has
 abbrev pub is_md5 : HashKind → Bool
 is_md5 kinds.Nothing = false
 is_md5 kinds.Md5 = true
@@ -67,6 +71,7 @@ hash_fits version _ = true
 abbrev pub body_fits : ℕ → List ℕ → Bool
 body_fits version body = nat_le (length body) (body_limit version)
 
+-- the version exists, and its frames hold this request
 unfoldable pub request_fits : ℕ → Request → Bool
 request_fits version request =
     is_version version
@@ -74,6 +79,7 @@ request_fits version request =
 
 -- ---- the version of a line
 
+-- the same, by the first word, if a space follows it
 abbrev pub version_by : List ℕ → Option (List ℕ × List ℕ) → ℕ × List ℕ
 version_by text None = (1, text)
 version_by text (Some word) = if bytes_eq word.0 (codes "v2") then (2, word.1) else (1, text)

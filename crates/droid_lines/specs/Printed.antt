@@ -22,6 +22,7 @@ method_text Unidentified = codes "none"
 method_text Signature = codes "Signature"
 method_text Extension = codes "Extension"
 
+-- `true` or `false`
 abbrev pub truth_text : Bool → List ℕ
 truth_text truth = if truth then codes "true" else codes "false"
 
@@ -34,6 +35,7 @@ unfoldable pub puids_text : List (List ℕ) → List ℕ
 puids_text [] = codes "-"
 puids_text (first ∷ others) = first ++ after_commas others
 
+-- the word for a limit that was reached
 abbrev pub limit_text : Limit → List ℕ
 limit_text limits.Profiles = codes "profiles"
 limit_text limits.Nodes = codes "nodes"

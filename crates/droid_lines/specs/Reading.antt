@@ -39,6 +39,7 @@ pub record MovesAll (old new before after : List ℕ) : Type 0 where
   pub none_left : new ≡ []
   pub moved : after ≡ before ++ old
 
+-- either, by whether there was a line feed
 abbrev pub Moves : Bool → List ℕ → List ℕ → List ℕ → List ℕ → Type 0
 Moves true old new before after = MovesToFeed old new before after
 Moves false old new before after = MovesAll old new before after

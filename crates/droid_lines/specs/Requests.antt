@@ -97,16 +97,19 @@ file_place text = do
   file ← number_below (2 ^ 32) profile.1
   Some (profile.0, file)
 
+-- `PROFILE FILE`
 unfoldable pub finish_words : List ℕ → Option Request
 finish_words text = do
   place ← file_place text
   Some (Finish place.0 place.1)
 
+-- `PROFILE FILE`
 unfoldable pub abandon_words : List ℕ → Option Request
 abandon_words text = do
   place ← file_place text
   Some (Abandon place.0 place.1)
 
+-- `PROFILE FILE`
 unfoldable pub status_words : List ℕ → Option Request
 status_words text = do
   place ← file_place text

@@ -110,6 +110,7 @@ pub record Unprinted (core : Core) (line : List ℕ)
   pub exchanged : Exchanged core asked input left old_frames new_frames after text
   pub written : WritesFront old_text new_text text
 
+-- the line is bad, nothing was sent, and only the front of what it prints was written
 pub record UnprintedBad (core : Core) (line : List ℕ)
     (input left old_frames new_frames old_text new_text : Option (List ℕ)) (after : Core) : Type 0 where
   pub asks : request_value line ≡ None

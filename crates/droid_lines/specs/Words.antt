@@ -7,6 +7,7 @@ use Rattle.std.specs.Str.{all_ascii_digits, bytes_eq}
 use Rattle.std.specs.Str.Parse.{digits_value}
 use Rattle.droid_frame.specs.Reading.{◌>>=◌}
 
+-- the byte that a text is cut at
 abbrev pub is_byte : ℕ → ℕ → Bool
 is_byte wanted byte = byte == wanted
 

@@ -1,6 +1,6 @@
-//! One exchange: the frame of a request is sent, and the frame of its reply is read.
+//! One exchange: the frame of a request is sent, the frame of its reply is read, and the client takes it.
 
-ghost use Rattle.std.specs.Prelude.{◌≡◌, ◌≤◌, ◌^◌, None, OnOk, OnErr, IsErr, IsErrOf};
+ghost use Rattle.std.specs.Prelude.{◌≡◌, ◌≤◌, ◌^◌, None, IfOk, IfErr, OnOk, OnErr, IsErr, IsErrOf};
 ghost use Rattle.std.specs.Io.KnownBytes.{Appends};
 ghost use Rattle.droid_frame.specs.Seen.{IsSound, ReportsFault};
 ghost use Rattle.droid_frame.specs.Bodies.{Fits};
@@ -8,9 +8,10 @@ ghost use Rattle.droid_frame.specs.Frames.{frame_bytes};
 ghost use Rattle.droid_client.specs.Cores.{Core, core_submitting, next_frame, next_number};
 ghost use Rattle.droid_lines.specs.declared.parser.VersionedRequest.{VersionedRequest};
 ghost use Rattle.droid_lines.specs.Steps.{ReplyComes, RequestGoes};
-ghost use Rattle.droid_lines.specs.Stopping.{WritesFront};
+ghost use Rattle.droid_lines.specs.Stopping.{Exchanged, RequestStops, WritesFront};
 
 use crate::parser::VersionedRequest;
+use crate::reply_text::hear;
 use crate::send_fault::SendFault;
 use droid_client::Client;
 use droid_frame::{
@@ -18,8 +19,37 @@ use droid_frame::{
 };
 use std::alloc::Global;
 
+/// Submits a request in its version, writes its frame, and passes the next reply to the client. Returns the text of the
+/// reply.
+pub(crate) fn exchange<R: SteadyRead, F: SteadyWrite>(
+    alloc: Global,
+    client: &mut Client,
+    asked: VersionedRequest,
+    replies: &mut R,
+    frames: &mut F,
+) -> Result<Vec<u8>, SendFault>
+    requires { Fits asked.version asked.request }
+    ensures exchanged { IfOk result (λ printed.
+        Exchanged client.old asked (R.remaining replies.old) (R.remaining replies.new)
+        (F.contents frames.old) (F.contents frames.new) client.new printed.items) }
+    ensures stops { IfErr result (λ fault.
+        RequestStops fault client.old asked (R.remaining replies.old) (R.remaining replies.new)
+        (F.contents frames.old) (F.contents frames.new) client.new) }
+    ensures replies_fault { IsSound (R.seen replies.old) →
+        ReportsFault (R.seen replies.old).interruptions (R.seen replies.new)
+        (IsErrOf result (SendFault.Replies FrameFault.Read)) }
+    ensures frames_fault { IsSound (F.seen frames.old) → F.room frames.old ≡ None →
+        ReportsFault (F.seen frames.old).interruptions (F.seen frames.new) (IsErrOf result SendFault.Frames)
+        × (F.room frames.new ≡ None) }
+{
+    send_request(client, asked, frames)?;
+    let frame = read_reply(alloc, replies)?;
+    let printed = hear(alloc, client, frame)?;
+    Ok(printed)
+}
+
 /// Submits a request in its version, and writes its frame.
-pub(crate) fn send_request<F: SteadyWrite>(
+fn send_request<F: SteadyWrite>(
     client: &mut Client,
     asked: VersionedRequest,
     frames: &mut F,
@@ -61,7 +91,7 @@ fn write_newest<F: SteadyWrite>(client: &Client, frames: &mut F) -> Result<(), W
 }
 
 /// Reads the frame of a reply.
-pub(crate) fn read_reply<R: SteadyRead>(alloc: Global, replies: &mut R) -> Result<Frame, SendFault>
+fn read_reply<R: SteadyRead>(alloc: Global, replies: &mut R) -> Result<Frame, SendFault>
     ensures comes { ReplyComes (R.remaining replies.old) (R.remaining replies.new) result }
     ensures failed { IsSound (R.seen replies.old) →
         ReportsFault (R.seen replies.old).interruptions (R.seen replies.new)

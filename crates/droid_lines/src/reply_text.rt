@@ -16,7 +16,8 @@ use droid_client::{Client, Heard};
 use droid_frame::{Frame, Reply, SteadyWrite, WriteState, write_all};
 use std::alloc::{AllocError, Global};
 
-/// Passes the frame of a reply to the client. Returns the text of the reply, if the client takes it.
+/// Passes the frame of a reply to the client. Returns the text of the reply, if it answers or refuses the request: a
+/// second reply and a stranger's are faults.
 pub(crate) fn hear(alloc: Global, client: &mut Client, frame: Frame) -> Result<Vec<u8>, SendFault>
     ensures takes { IfOk result (λ printed. Takes client.old frame client.new printed.items) }
     ensures none { IfErr result (λ fault. TakesNone fault client.old frame client.new) }

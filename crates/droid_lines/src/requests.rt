@@ -244,7 +244,8 @@ fn bytes_in(alloc: Global, word: &str) -> Result<Option<Blob>, AllocError>
     }
 }
 
-/// Reads bytes from hexadecimal digits, or returns `None` if they are none.
+/// Reads bytes from hexadecimal digits. `None`: the digits are none, or their number is odd. `decode_of` is the kit's
+/// definition of such digits, in either case.
 fn decode(alloc: Global, digits: &str) -> Result<Option<Blob>, AllocError>
     ensures { IfOk result (λ bytes. bytes ≡ result_ok (decode_of digits.now)) }
 {

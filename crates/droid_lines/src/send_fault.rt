@@ -6,12 +6,9 @@ ghost use Rattle.droid_lines.specs.Faults.{frame_fault_name, send_fault_name};
 use droid_client::{HearFault, SubmitFault};
 use droid_frame::{FrameFault, ReadFault};
 use std::alloc::AllocError;
-use std::error::Error;
-use std::fmt;
-use std::fmt::{Display, Formatter, Write};
 
-/// Why sending ended before the last line. Displayed by its name, as the program prints it.
-#[derive(Clone, Copy, Debug, PartialEq, Eq)]
+/// Why sending ended before the last line.
+#[derive(Clone, Copy)]
 pub enum SendFault {
     /// The lines could not be read.
     Lines,
@@ -54,14 +51,6 @@ impl SendFault {
         }
     }
 }
-
-impl Display for SendFault {
-    fn fmt<W: Write>(&self, f: &mut Formatter<W>) -> fmt::Result {
-        f.write_str(self.name())
-    }
-}
-
-impl Error for SendFault {}
 
 /// Returns the name of a frame's fault, as the program prints it.
 pub fn frame_fault_name(fault: &FrameFault) -> &'static str

@@ -2,18 +2,17 @@
 
 ghost use Rattle.std.specs.Prelude.{◌≡◌, None, IfOk, IfErr, IsErrOf, length};
 ghost use Rattle.droid_frame.specs.Seen.{IsSound, ReportsFault};
-ghost use Rattle.droid_frame.specs.Bodies.{Fits};
 ghost use Rattle.droid_frame.specs.InTurn.{AtMost, ReportsFaultInTurn};
 ghost use Rattle.droid_lines.specs.Lines.{lines_of};
 ghost use Rattle.droid_lines.specs.Along.{ReadsReply, WritesPrinted, WritesRequest};
 ghost use Rattle.droid_lines.specs.Sending.{SendsAll, SendsFront};
 ghost use Rattle.droid_lines.specs.Steps.{LineDone};
-ghost use Rattle.droid_lines.specs.Stopping.{Exchanged, LineStops, RequestStops};
+ghost use Rattle.droid_lines.specs.Stopping.{LineStops};
 
-use crate::exchange::{read_reply, send_request};
+use crate::exchange::exchange;
 use crate::line_reader::LineReader;
-use crate::parser::{VersionedRequest, parse_request_line};
-use crate::reply_text::{hear, print_bad, write_text};
+use crate::parser::parse_request_line;
+use crate::reply_text::{print_bad, write_text};
 use crate::send_fault::SendFault;
 use crate::tally::Tally;
 use droid_client::Client;
@@ -70,6 +69,7 @@ pub fn send<L: SteadyRead, R: SteadyRead, F: SteadyWrite, T: SteadyWrite>(
         let is_bad = send_line(alloc, client, line.as_slice(), replies, frames, text)?;
         tally.count(is_bad);
     }
+    // No input has that many lines.
     Err(SendFault::Memory)
 }
 
@@ -105,33 +105,4 @@ fn send_line<R: SteadyRead, F: SteadyWrite, T: SteadyWrite>(
     let printed = exchange(alloc, client, asked, replies, frames)?;
     write_text(text, printed.as_slice())?;
     Ok(false)
-}
-
-/// Submits a request in its version, writes its frame, and passes the next reply to the client. Returns the text of the
-/// reply.
-fn exchange<R: SteadyRead, F: SteadyWrite>(
-    alloc: Global,
-    client: &mut Client,
-    asked: VersionedRequest,
-    replies: &mut R,
-    frames: &mut F,
-) -> Result<Vec<u8>, SendFault>
-    requires { Fits asked.version asked.request }
-    ensures exchanged { IfOk result (λ printed.
-        Exchanged client.old asked (R.remaining replies.old) (R.remaining replies.new)
-        (F.contents frames.old) (F.contents frames.new) client.new printed.items) }
-    ensures stops { IfErr result (λ fault.
-        RequestStops fault client.old asked (R.remaining replies.old) (R.remaining replies.new)
-        (F.contents frames.old) (F.contents frames.new) client.new) }
-    ensures replies_fault { IsSound (R.seen replies.old) →
-        ReportsFault (R.seen replies.old).interruptions (R.seen replies.new)
-        (IsErrOf result (SendFault.Replies FrameFault.Read)) }
-    ensures frames_fault { IsSound (F.seen frames.old) → F.room frames.old ≡ None →
-        ReportsFault (F.seen frames.old).interruptions (F.seen frames.new) (IsErrOf result SendFault.Frames)
-        × (F.room frames.new ≡ None) }
-{
-    send_request(client, asked, frames)?;
-    let frame = read_reply(alloc, replies)?;
-    let printed = hear(alloc, client, frame)?;
-    Ok(printed)
 }

@@ -5,7 +5,7 @@ ghost use Rattle.std.specs.Option.{option_map};
 ghost use Rattle.droid_lines.specs.Words.{cut_at, first_word, number_below, signed_number, truth_word, number_word};
 ghost use Rattle.droid_lines.specs.Words.{signed_word};
 
-/// Returns the text before the first space, and the text after it.
+/// Returns the text before the first space (byte 32), and the text after it.
 pub fn word(text: &str) -> Option<(&str, &str)>
     ensures { option_map (λ x. (x.0.now, x.1.now)) result ≡ cut_at 32 text.now }
 {
@@ -23,7 +23,7 @@ pub fn first_word(text: &str) -> (&str, Option<&str>)
     }
 }
 
-/// Returns the name before the `=` of a word, and the value after it.
+/// Returns the name before the `=` (byte 61) of a word, and the value after it.
 pub fn name_and_value(word: &str) -> Option<(&str, &str)>
     ensures { option_map (λ x. (x.0.now, x.1.now)) result ≡ cut_at 61 word.now }
 {
@@ -91,7 +91,7 @@ pub fn u64_in(word: &str) -> Option<u64>
     word.parse().ok()
 }
 
-/// Reads a signed decimal number.
+/// Reads a signed 64-bit number in decimal digits. Unlike `parse`, it accepts no `+`.
 fn i64_in(word: &str) -> Option<i64>
     ensures { result ≡ signed_number word.now }
 {
@@ -101,7 +101,7 @@ fn i64_in(word: &str) -> Option<i64>
     word.parse().ok()
 }
 
-/// Returns whether a word begins with `+`, which Rust's parser would take.
+/// Returns whether a word begins with `+` (byte 43), which Rust's parser would take.
 fn has_plus(word: &str) -> bool
     ensures { result ≡ (slice_index word.now 0 == 43) }
 {

@@ -8,8 +8,8 @@ use Rattle.droid_frame.specs.Filters.{is_file}
 use Rattle.droid_fixity.specs.declared.item.Item.{Item}
 use Rattle.droid_lists.specs.FolderMaps.{IsSaid}
 use Rattle.droid_lists.specs.Numbers.{AreConsistent, Saying, above_sayings, agree, column_against, contradiction, contradiction_from, fit, ids_in, or_later, own_sayings, sayings_in}
-use Rattle.droid_lists.specs.declared.csv_items.column.Column.{Column}
-use Rattle.droid_lists.specs.declared.csv_items.column.Column.TheVariants as columns
+use Rattle.droid_export.specs.declared.column.Column.{Column}
+use Rattle.droid_export.specs.declared.column.Column.TheVariants as columns
 use Rattle.droid_lists.specs.declared.csv_items.fault.ListFault.{ListFault}
 use Rattle.droid_lists.specs.declared.csv_items.tag.Tag.{Tag}
 

@@ -27,20 +27,22 @@ use Rattle.droid_frame.specs.declared.record.Record.{Record}
 use Rattle.droid_pronom.specs.Registry.{Contents}
 use Rattle.droid_export.specs.Filters.{meets}
 use Rattle.droid_frame.specs.Filters.{is_file}
+use Rattle.droid_export.specs.Headers.{whole}
 use Rattle.droid_export.specs.Moments.{IsMoment, moment_text}
 use Rattle.droid_export.specs.Rows.{Shown, fields, header, kind_name, no_format, row, rows, rows_by, shown}
 use Rattle.droid_export.specs.Text.{chosen_rows, shown_rows}
 use Rattle.droid_fixity.specs.Items.{same_truth}
 use Rattle.droid_fixity.specs.Paths.{is_file_path}
 use Rattle.droid_fixity.specs.declared.item.Item.{Item}
-use Rattle.droid_lists.specs.Fields.{above_of, digest_of, has_no_slash, id_by, id_of, kind_of, md5_of, moment_of, parent_of, path_of, rows_of, rows_of_count, sha256_of}
+use Rattle.droid_lists.specs.Fields.{above_of, digest_of, has_no_slash, id_by, id_of, md5_of, moment_of, parent_of, path_of, rows_of, rows_of_count, sha256_of}
 use Rattle.droid_lists.specs.Fields as read
 use Rattle.droid_lists.specs.Moments.{is_moment}
 use Rattle.droid_lists.specs.Numbers.{contradiction}
 use Rattle.droid_export.specs.Table.{field_or}
-use Rattle.droid_lists.specs.Profiles.{Draft, Rows, after, after_rows, entry_of, items_from, no_rows, nothing_read, parts_of, profile_of, repeats, same_column, shared_columns, spot_of, tag_of, taken, unless_found, with_entry, with_row}
+use Rattle.droid_lists.specs.Profiles.{Behind, Draft, Rows, after, after_rows, entry_of, items_from, no_rows, nothing_read, parts_of, profile_of, repeats, same_column, shared_columns, spot_of, tag_of, taken, unless_found, with_entry, with_row}
 use Rattle.droid_lists.specs.declared.csv_items.fault.ListFault.{ListFault}
-use Rattle.droid_lists.proofs.Numbers.{decimal_read}
+use Rattle.droid_export.specs.Fields.{kind_of}
+use Rattle.droid_export.proofs.Numbers.{decimal_read}
 use Rattle.droid_lists.proofs.ConsistentRecords.{AreTags, entry_at, no_contradiction, one_tag_more, spot_at, tag_at}
 use Rattle.droid_lists.proofs.MomentTexts.{moment_passes}
 use Rattle.droid_lists.proofs.RowTypes.{Entry, RowFault, Spot, Tag}
@@ -214,13 +216,13 @@ abbrev rows_at : List Item → List Tag → ℕ → Rows
 rows_at items tags left = record { items = items; tags = tags; left = left }
 
 abbrev draft_at : HashKind → ℕ → Rows → Option (List (List ℕ)) → Draft
-draft_at digest records rows last = record { digest = Some digest; records = records; rows = rows; last = last }
+draft_at digest records rows last = record { stage = Behind (whole digest); records = records; rows = rows; last = last }
 
-with_row_read : (draft : Draft) (texts : List (List ℕ)) (read : Result Entry RowFault) (entry : Entry) (next : Rows) (repeated : Bool) → read ≡ Ok entry → repeats draft.last texts ≡ repeated
+with_row_read : (draft : Draft) (digest : HashKind) (texts : List (List ℕ)) (read : Result Entry RowFault) (entry : Entry) (next : Rows) (repeated : Bool) → read ≡ Ok entry → repeats draft.last texts ≡ repeated
     → with_entry (draft.records + 1) draft.rows entry repeated ≡ Ok next
-    → with_row draft texts read ≡ Ok (record { digest = draft.digest; records = draft.records + 1; rows = next; last = Some texts })
-with_row_read draft texts read entry next repeated is same more =
-    ap (with_row draft texts) is ∙ ap (after_rows draft texts) (ap (with_entry (draft.records + 1) draft.rows entry) same ∙ more)
+    → with_row draft digest texts read ≡ Ok (record { stage = draft.stage; records = draft.records + 1; rows = next; last = Some texts })
+with_row_read draft digest texts read entry next repeated is same more =
+    ap (with_row draft digest texts) is ∙ ap (after_rows draft texts) (ap (with_entry (draft.records + 1) draft.rows entry) same ∙ more)
 
 -- one row, and what is behind it
 row_then : (digest : HashKind) (records : ℕ) (rows next : Rows) (last : Option (List (List ℕ))) (node : Record) (format : Shown) (repeated : Bool) → IsRecordOf digest node
@@ -229,7 +231,7 @@ row_then : (digest : HashKind) (records : ℕ) (rows next : Rows) (last : Option
     ≡ items_from (draft_at digest (records + 1) next (Some (fields (row node format)))) rest
 row_then digest records rows next last node format repeated is same more rest =
     ap (λ (r : Result Draft ListFault). after r (λ one. items_from one rest))
-    (with_row_read (draft_at digest records rows last) (fields (row node format)) (entry_of digest (fields (row node format))) (entry_at node) next repeated (entry_read digest node format is) same more)
+    (with_row_read (draft_at digest records rows last) digest (fields (row node format)) (entry_of digest (fields (row node format))) (entry_at node) next repeated (entry_read digest node format is) same more)
 
 -- a first row, and one more of the same record
 first_added : (number : ℕ) (items : List Item) (tags : List Tag) (entry : Entry) (left : ℕ) → entry.rows - 1 ≡ left
@@ -315,14 +317,17 @@ records_read digest registry criteria whole (node ∷ nodes) none each distinct 
 
 -- ---- the whole
 
-header_read : (digest : HashKind) → taken nothing_read (fields (header digest)) ≡ Ok (draft_at digest 1 no_rows None)
+header_read : (digest : HashKind) (formats : Bool) → taken (nothing_read formats) (fields (header digest)) ≡ Ok (draft_at digest 1 no_rows None)
 unfolding field_at
-header_read kinds.Nothing = refl
-header_read kinds.Md5 = refl
-header_read kinds.Sha256 = refl
+header_read kinds.Nothing true = refl
+header_read kinds.Nothing false = refl
+header_read kinds.Md5 true = refl
+header_read kinds.Md5 false = refl
+header_read kinds.Sha256 true = refl
+header_read kinds.Sha256 false = refl
 
 pub export_read : (registry : Contents) (criteria : Filter) (digest : HashKind) (nodes : List Record) → AreRecordsOf digest nodes
-    → profile_of (map fields (shown_rows registry criteria digest nodes)) ≡ Ok (items_of (filter (meets criteria) nodes))
-export_read registry criteria digest nodes are =
-    ap (λ (r : Result Draft ListFault). after r (λ next. items_from next (map fields (chosen_rows registry criteria nodes)))) (header_read digest)
+    → (formats : Bool) → profile_of formats (map fields (shown_rows registry criteria digest nodes)) ≡ Ok (items_of (filter (meets criteria) nodes))
+export_read registry criteria digest nodes are formats =
+    ap (λ (r : Result Draft ListFault). after r (λ next. items_from next (map fields (chosen_rows registry criteria nodes)))) (header_read digest formats)
     ∙ records_read digest registry criteria (filter (meets criteria) nodes) nodes (no_contradiction digest (meets criteria) nodes are) are.each are.paths 1 [] [] None (none_apart (map (λ node. node.path) nodes)) tt refl

@@ -6,7 +6,6 @@ mod EntrySteps
 mod EntryTaken
 mod ExportedItems
 mod FieldSpelling
-mod FormatReading
 mod FormatSteps
 mod FormatTaken
 mod Gathering
@@ -15,7 +14,6 @@ mod Listing
 mod MapSteps
 mod MomentTexts
 mod NamesRead
-pub mod Numbers
 mod PlainFields
 mod PlainLists
 mod PlainRows

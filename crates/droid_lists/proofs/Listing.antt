@@ -1,15 +1,20 @@
 -- What a list says, by what the calls that read it promise.
-use Rattle.std.proofs.Common.{◌≡◌, ◌∙◌, ◌≢◌, ◌+◌, ◌<◌, ◌≤◌, ℕ, List, Result, Ok, Err, drop, length, get_or, sym, ap, subst}
+use Rattle.std.proofs.Common.{◌≡◌, ◌∙◌, ◌≢◌, ◌+◌, ◌<◌, ◌≤◌, ℕ, Bool, true, false, List, Result, Ok, Err, drop, length, get_or, sym, ap, subst}
 use Rattle.std.proofs.lemmas.List.{at_drop_all, drop_more}
 use Rattle.droid_frame.specs.Hashes.{hash_value_kind}
 use Rattle.droid_frame.specs.declared.hash_kind.HashKind.{HashKind}
 use Rattle.droid_frame.specs.declared.hash_kind.HashKind.TheVariants as kinds
 use Rattle.droid_fixity.specs.declared.item.Item.{Item}
+use Rattle.csv.specs.Reading.{AreRecords, default_config, strip_bom}
+use Rattle.csv.specs.declared.parser.State.TheVariants as st
+use Rattle.droid_fixity.specs.declared.checksum_lists.form.ManifestForm.{ManifestForm}
+use Rattle.droid_lists.specs.FormatRows.{format_rows, rows_if}
+use Rattle.droid_lists.specs.declared.csv_items.format_row.FormatRow.{FormatRow}
 use Rattle.droid_lists.specs.declared.csv_items.fault.ListFault.{ListFault}
 use Rattle.droid_lists.specs.declared.csv_items.fault.ListFault.TheVariants as list
 use Rattle.droid_fixity.specs.declared.checksum_lists.list_fault.ManifestFault.{ManifestFault}
 use Rattle.droid_fixity.specs.declared.checksum_lists.list_fault.ManifestFault.TheVariants as manifest
-use Rattle.droid_lists.specs.Listings.{Comes, Says, hash_in, manifest_fault, of_manifest, of_profile, or_later, profile_fault}
+use Rattle.droid_lists.specs.Listings.{Comes, HasFormats, Says, hash_in, manifest_fault, of_manifest, of_profile, or_later, profile_fault}
 use Rattle.droid_lists.specs.declared.list_form.ListForm.{ListForm}
 use Rattle.droid_lists.specs.declared.list_form.ListForm.TheVariants.{Profile, Checksum}
 use Rattle.droid_lists.specs.declared.list_content.UnreadList.{UnreadList}
@@ -28,8 +33,9 @@ manifest_comes expected items result is comes = subst (λ (e : Result (List Item
 pub profile_fails : (expected : Result (List Item) ListFault) (fault : ListFault) → (fault ≢ list.Memory → expected ≡ Err fault) → Comes (of_profile expected) (Err (profile_fault fault))
 profile_fails expected list.Memory gives = tt
 profile_fails expected list.Header gives = ap of_profile (gives (λ e. cc e))
+profile_fails expected (list.Missing column) gives = ap of_profile (gives (λ e. cc e))
 profile_fails expected (list.Fields number) gives = ap of_profile (gives (λ e. cc e))
-profile_fails expected (list.Column number column) gives = ap of_profile (gives (λ e. cc e))
+profile_fails expected (list.Column number column hash) gives = ap of_profile (gives (λ e. cc e))
 profile_fails expected (list.Contradiction number column) gives = ap of_profile (gives (λ e. cc e))
 
 pub manifest_fails : (expected : Result (List Item) ManifestFault) (fault : ManifestFault) → (fault ≢ manifest.Memory → expected ≡ Err fault) → Comes (of_manifest expected) (Err (manifest_fault fault))
@@ -40,9 +46,21 @@ manifest_fails expected (manifest.Path line) gives = ap of_manifest (gives (λ e
 manifest_fails expected (manifest.Digest line) gives = ap of_manifest (gives (λ e. cc e))
 
 -- whatever the form, memory may run out
-pub memory_says : (form : ListForm) (text : List ℕ) → Says form text (Err faults.Memory)
-memory_says Profile text = λ records are. tt
-memory_says (Checksum form) text = tt
+pub memory_says : (form : ListForm) (formats : Bool) (text : List ℕ) → Says form formats text (Err faults.Memory)
+memory_says Profile formats text = λ records are. tt
+memory_says (Checksum form) formats text = tt
+
+-- ---- formats
+
+pub has_formats : (formats : Bool) (text : List ℕ) (rows : List FormatRow)
+    → ((records : List (List (List ℕ))) → AreRecords default_config st.StartRecord (strip_bom text) records → rows ≡ rows_if formats (format_rows records))
+    → HasFormats formats Profile text rows
+has_formats true text rows are = are
+has_formats false text rows are = tt
+
+pub no_formats : (formats : Bool) (form : ManifestForm) (text : List ℕ) (rows : List FormatRow) → HasFormats formats (Checksum form) text rows
+no_formats true form text rows = tt
+no_formats false form text rows = tt
 
 -- ---- the first hash
 

@@ -16,8 +16,8 @@ use Rattle.droid_fixity.specs.Items.{same_truth}
 use Rattle.droid_fixity.specs.declared.item.Item.{Item}
 use Rattle.droid_lists.specs.FolderMaps.{AllNoted, AreNoted, HasIds, Holds, IsNoted, IsSaid, Noted, number_at, path_at}
 use Rattle.droid_lists.specs.Numbers.{Saying, above_sayings, agree, column_against, contradiction_from, fit, own_sayings}
-use Rattle.droid_lists.specs.declared.csv_items.column.Column.{Column}
-use Rattle.droid_lists.specs.declared.csv_items.column.Column.TheVariants as columns
+use Rattle.droid_export.specs.declared.column.Column.{Column}
+use Rattle.droid_export.specs.declared.column.Column.TheVariants as columns
 use Rattle.droid_lists.specs.declared.csv_items.fault.ListFault.TheVariants as faults
 use Rattle.droid_lists.specs.declared.csv_items.folder_numbers.Folders.{Folders}
 use Rattle.droid_lists.specs.declared.csv_items.tag.Tag.{Tag}

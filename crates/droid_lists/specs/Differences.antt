@@ -55,6 +55,7 @@ known_tests known kept =
     ∷ (same_hash known.found.puids kept.puids, 14)
     ∷ []
 
+-- the first column in which a record differs from what is known
 unfoldable pub wrong_known : Known → Kept → Option ℕ
 wrong_known known kept = first_wrong (known_tests known kept)
 
@@ -63,10 +64,12 @@ abbrev pub other_column : ℕ → ℕ → Option ℕ → List Difference
 other_column place number None = []
 other_column place number (Some column) = differences.Other place column number ∷ []
 
+-- what is known at a place, beside what is kept of its record, if there is one
 abbrev pub difference_with : ℕ → Known → Option Kept → List Difference
 difference_with place known None = differences.Missing place ∷ []
 difference_with place known (Some kept) = other_column place kept.number (wrong_known known kept)
 
+-- the differences of what is known, from a place on, in order
 abbrev pub known_from : ℕ → List Known → List Entry → List Difference
 known_from place [] all = []
 known_from place (one ∷ known) all =
@@ -80,6 +83,7 @@ is_known known path = list_any (λ one. bytes_eq path one.path) known
 abbrev pub if_more : (List ℕ → Bool) → Kept → List Difference
 if_more is_held kept = if is_held (at kept.row 3) then [] else differences.More kept.number (at kept.row 3) ∷ []
 
+-- the records whose paths do not pass the test
 abbrev pub more_by : (List ℕ → Bool) → List Kept → List Difference
 more_by is_held kept = flat_map (if_more is_held) kept
 

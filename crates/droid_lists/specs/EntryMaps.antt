@@ -12,9 +12,11 @@ use Rattle.droid_lists.specs.RowTests.{Row, at, is_file, number_at, utf8_of}
 use Rattle.droid_lists.specs.declared.entries.Entries.{Entries}
 use Rattle.droid_lists.specs.declared.entries.Listed.{Listed}
 
+-- the place of the record with this path
 abbrev pub place_at : Entries → List ℕ → Option ℕ
 place_at entries path = get_by_text entries.places path
 
+-- the record with this path
 abbrev pub listed_at : Entries → List ℕ → Option Listed
 listed_at entries path = option_and_then (slice_get entries.listed.items) (place_at entries path)
 
@@ -23,6 +25,7 @@ abbrev pub id_of : Option Listed → Option ℕ
 id_of None = None
 id_of (Some listed) = if is_file (fields_of listed.row) then None else Some (number_at (fields_of listed.row) 0)
 
+-- the ID of the folder with this path, if there is a path
 abbrev pub id_at : Entries → Option (List ℕ) → Option ℕ
 id_at entries None = None
 id_at entries (Some path) = id_of (listed_at entries path)
@@ -37,9 +40,11 @@ pub record Kept : Type 0 where
   pub number : ℕ
   pub puids : HashValue
 
+-- what is kept of a record that was read
 abbrev pub kept_of : Listed → Kept
 kept_of listed = record { row = fields_of listed.row; number = listed.number; puids = listed.puids }
 
+-- what is kept of a record that was found
 abbrev pub kept_by : Found → Kept
 kept_by found =
     record { row = found.entry.first; number = found.number; puids = puids_digest (puids_by (rows_of found.entry)) }
@@ -50,6 +55,7 @@ kept_from number [] = []
 kept_from number (entry ∷ entries) =
     kept_by (record { entry = entry; number = number }) ∷ kept_from (number + length (rows_of entry)) entries
 
+-- what is kept of all records: the first begins with the second row
 abbrev pub kept_in : List Entry → List Kept
 kept_in entries = kept_from 2 entries
 

@@ -18,11 +18,13 @@ use Rattle.droid_lists.specs.declared.spelling.reading.WrongRow.{WrongRow}
 
 -- ---- the first row
 
+-- a first row is wrong in this column, or its format is noted
 abbrev pub NotesFirst : Option ℕ → List Entry → Formats → OwnPuids → HashKind → Row → Type 0
 NotesFirst (Some column) all new own hash row = wrong_first hash all row ≡ Some column
 NotesFirst None all new own hash row =
     (wrong_first hash all row ≡ None) × IsKnown new (all_rows all ++ row ∷ []) × HasOwn own (row ∷ [])
 
+-- the same of whatever was read before
 abbrev pub TakesFirst : Option ℕ → Entries → Formats → Formats → OwnPuids → OwnPuids → HashKind → Row → Type 0
 TakesFirst wrong entries old new own_old own_new hash row =
     (all : List Entry) → StandsFor entries all → IsKnown old (all_rows all) → HasOwn own_old []
@@ -30,12 +32,14 @@ TakesFirst wrong entries old new own_old own_new hash row =
 
 -- ---- one more row
 
+-- one more row is wrong in this column, or its format is noted
 abbrev pub NotesMore : Option ℕ → List Entry → Formats → OwnPuids → Row → List Row → Row → Type 0
 NotesMore (Some column) all new own first more row = wrong_more all first more row ≡ Some column
 NotesMore None all new own first more row =
     (wrong_more all first more row ≡ None) × IsKnown new (all_rows all ++ first ∷ (more ++ row ∷ []))
     × HasOwn own (first ∷ (more ++ row ∷ []))
 
+-- the same of whatever was read before
 abbrev pub TakesMore : Option ℕ → Formats → Formats → OwnPuids → OwnPuids → Row → Row → Type 0
 TakesMore wrong old new own_old own_new first row =
     (all : List Entry) (more : List Row) → IsKnown old (all_rows all ++ first ∷ more) → HasOwn own_old (first ∷ more)
@@ -50,10 +54,12 @@ pub record ReadsRow (all : List Entry) (new : Formats) (own : OwnPuids) (first :
   pub known : IsKnown new (all_rows all ++ first ∷ (more ++ row ∷ []))
   pub has : HasOwn own (first ∷ (more ++ row ∷ []))
 
+-- one more row was read from the front of a text, or is wrong in this column
 abbrev pub ReadsMore : Result (Bor (List ℕ)) ℕ → List Entry → Formats → OwnPuids → Row → List Row → List ℕ → Type 0
 ReadsMore (Ok rest) all new own first more text = ReadsRow all new own first more text rest.now
 ReadsMore (Err column) all new own first more text = IsWrongRow (wrong_more all first more) text column
 
+-- the same of whatever was read before
 abbrev pub TakesRow : Result (Bor (List ℕ)) ℕ → Formats → Formats → OwnPuids → OwnPuids → Row → List ℕ → Type 0
 TakesRow read old new own_old own_new first text =
     (all : List Entry) (more : List Row) → IsKnown old (all_rows all ++ first ∷ more) → HasOwn own_old (first ∷ more)
@@ -81,10 +87,12 @@ pub record IsWrongMore (all : List Entry) (first : Row) (text : List ℕ) (rows 
   pub whole : text ≡ flat_map line more ++ rest
   pub wrong : IsWrongRow (wrong_more all first more) rest column
 
+-- all rows of a record behind its first were read, or one is wrong
 abbrev pub ReadsRows : Result (Bor (List ℕ)) WrongRow → List Entry → Formats → OwnPuids → Row → List ℕ → Type 0
 ReadsRows (Ok rest) all new own first text = HaveCome all new own first text rest.now (rows_in first)
 ReadsRows (Err wrong) all new own first text = IsWrongMore all first text wrong.rows wrong.column
 
+-- the same of whatever was read before
 abbrev pub TakesRows : Result (Bor (List ℕ)) WrongRow → Formats → Formats → OwnPuids → OwnPuids → Row → List ℕ → Type 0
 TakesRows read old new own_old own_new first text =
     (all : List Entry) → IsKnown old (all_rows all ++ first ∷ []) → HasOwn own_old (first ∷ [])
@@ -104,10 +112,12 @@ pub record IsRead (hash : HashKind) (all : List Entry) (new : Reading) (text res
   pub whole : text ≡ entry_text entry ++ rest
   pub stands : StandsForAll new (all ++ entry ∷ [])
 
+-- a record was read from the front of a text, or is wrong
 abbrev pub ReadsEntry : Result (Bor (List ℕ)) WrongRow → List Entry → Reading → HashKind → List ℕ → Type 0
 ReadsEntry (Ok rest) all new hash text = IsRead hash all new text rest.now
 ReadsEntry (Err wrong) all new hash text = IsWrongEntry hash all text wrong.column wrong.rows
 
+-- the same of whatever was read before
 abbrev pub TakesEntry : Result (Bor (List ℕ)) WrongRow → Reading → Reading → HashKind → List ℕ → Type 0
 TakesEntry read old new hash text =
     (all : List Entry) → StandsForAll old all → length (all_rows all) + 1 + length text < 2 ^ 64

@@ -1,6 +1,6 @@
 -- Which items the text of an export lists.
-use Rattle.std.specs.Prelude.{◌≡◌, ◌<◌, ◌^◌, ◌+◌, ◌-◌, ◌==◌, ℕ, true, false, List, [], ◌∷◌, ◌++◌, length, take, Ok}
-use Rattle.std.specs.Prelude.{IsTrue, map, ⊤, if◌then◌else◌}
+use Rattle.std.specs.Prelude.{◌≡◌, ◌<◌, ◌^◌, ◌+◌, ◌-◌, ◌==◌, ℕ, Bool, true, false, List, [], ◌∷◌, ◌++◌, length, take}
+use Rattle.std.specs.Prelude.{Ok, IsTrue, map, ⊤, if◌then◌else◌}
 use Rattle.std.specs.List.{AllByRecursion, Contains, IsDistinct, flat_map}
 use Rattle.std.specs.Str.{bytes_eq}
 use Rattle.csv.specs.Reading.{AreRecords, default_config, strip_bom}
@@ -53,6 +53,7 @@ sayings_of_record node =
     ++ (if node.parent == 0 then []
     else (record { number = node.parent; path = take (length node.path - (length node.name + 1)) node.path }) ∷ [])
 
+-- what all records say of folders' numbers
 abbrev pub sayings_of : List Record → List Saying
 sayings_of nodes = flat_map sayings_of_record nodes
 
@@ -76,4 +77,4 @@ items_of nodes = map item_of_record nodes
 abbrev pub Lists : List ℕ → List Item → Type 0
 Lists text items =
     (records : List (List (List ℕ))) × AreRecords default_config st.StartRecord (strip_bom text) records
-    × (profile_of records ≡ Ok items)
+    × ((formats : Bool) → profile_of formats records ≡ Ok items)

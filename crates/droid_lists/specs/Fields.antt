@@ -1,11 +1,9 @@
 -- What the fields of a profile's rows say (docs/CSV.md).
 use Rattle.std.specs.Prelude.{ℕ, ◌==◌, ◌&&◌, ◌+◌, ◌-◌, ◌^◌, nat_lt, Bool, not, List, ◌∷◌, length, take, drop, max}
 use Rattle.std.specs.Prelude.{Option, Some, None, Result, Ok, Err, codes, if◌then◌else◌}
-use Rattle.std.specs.Char.{is_ascii_digit}
 use Rattle.std.specs.List.{list_all}
 use Rattle.std.specs.Option.{option_map, unwrap_or}
 use Rattle.std.specs.Str.{bytes_eq}
-use Rattle.std.specs.Str.Parse.{digits_value}
 use Rattle.hex.specs.Hex.{decode_sized, hex_digit_value}
 use Rattle.hex.specs.declared.FromHexError.{FromHexError}
 use Rattle.droid_frame.specs.declared.hash_kind.HashKind.{HashKind}
@@ -14,22 +12,9 @@ use Rattle.droid_frame.specs.declared.hash_value.HashValue.{HashValue}
 use Rattle.droid_frame.specs.declared.hash_value.HashValue.TheVariants as values
 use Rattle.droid_frame.specs.declared.node_kind.NodeKind.{NodeKind}
 use Rattle.droid_frame.specs.declared.node_kind.NodeKind.TheVariants.{File, Folder}
+use Rattle.droid_export.specs.Fields.{number_of}
 use Rattle.droid_fixity.specs.Paths.{is_file_path}
 use Rattle.droid_lists.specs.Moments.{is_moment}
-use Rattle.droid_lists.specs.declared.csv_items.column.Column.{Column}
-use Rattle.droid_lists.specs.declared.csv_items.column.Column.TheVariants as columns
-
--- a kind of item
-abbrev pub kind_of : List ℕ → Option NodeKind
-kind_of text =
-    if bytes_eq text (codes "File") then Some File
-    else if bytes_eq text (codes "Folder") then Some Folder else None
-
--- the number that decimal digits stand for, below 2 ^ 64
-abbrev pub number_of : List ℕ → Option ℕ
-number_of text =
-    if list_all is_ascii_digit text && nat_lt 0 (length text) && nat_lt (digits_value 10 text) (2 ^ 64)
-    then Some (digits_value 10 text) else None
 
 -- ---- where an item is
 
@@ -38,6 +23,7 @@ abbrev pub id_by : Option ℕ → Option ℕ
 id_by None = None
 id_by (Some n) = if nat_lt 0 n && nat_lt n (2 ^ 32) then Some n else None
 
+-- an ID by its digits
 abbrev pub id_of : List ℕ → Option ℕ
 id_of text = id_by (number_of text)
 
@@ -77,6 +63,7 @@ abbrev pub rows_of_count : Option ℕ → Option ℕ
 rows_of_count None = None
 rows_of_count (Some n) = Some (max 1 n)
 
+-- how many rows an item has, by its kind and its column
 abbrev pub rows_of : NodeKind → List ℕ → Option ℕ
 rows_of File text = rows_of_count (number_of text)
 rows_of Folder text = if length text == 0 then Some 1 else None
@@ -92,10 +79,12 @@ abbrev pub md5_of : Result (List ℕ) FromHexError → Option HashValue
 md5_of (Ok digest) = Some (values.Md5 digest)
 md5_of (Err fault) = None
 
+-- the SHA-256 that digits stand for
 abbrev pub sha256_of : Result (List ℕ) FromHexError → Option HashValue
 sha256_of (Ok digest) = Some (values.Sha256 digest)
 sha256_of (Err fault) = None
 
+-- the digest of this kind that a text spells
 abbrev pub digest_of : HashKind → List ℕ → Option HashValue
 digest_of hashes.Nothing text = None
 digest_of hashes.Md5 text = md5_of (decode_sized text 16)
@@ -106,11 +95,6 @@ abbrev pub digest_by : HashKind → NodeKind → List ℕ → Option HashValue
 digest_by digest File text = digest_of digest text
 digest_by digest Folder text = None
 
+-- what the hash's column says: a digest, or nothing
 abbrev pub hash_of : HashKind → NodeKind → List ℕ → Option HashValue
 hash_of digest kind text = if length text == 0 then Some values.Nothing else digest_by digest kind text
-
--- the column of a kind of hash
-abbrev pub hash_column : HashKind → Column
-hash_column hashes.Nothing = columns.Hash
-hash_column hashes.Md5 = columns.Md5Hash
-hash_column hashes.Sha256 = columns.Sha256Hash

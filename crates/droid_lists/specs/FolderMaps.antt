@@ -8,7 +8,7 @@ use Rattle.std.specs.Option.{option_map}
 use Rattle.std.specs.Ordering.{nat_cmp}
 use Rattle.droid_fixity.specs.declared.item.Item.{Item}
 use Rattle.droid_lists.specs.Numbers.{Saying, above_sayings, agree, column_against, fit, own_sayings}
-use Rattle.droid_lists.specs.declared.csv_items.column.Column.{Column}
+use Rattle.droid_export.specs.declared.column.Column.{Column}
 use Rattle.droid_lists.specs.declared.csv_items.folder_numbers.Folders.{Folders}
 use Rattle.droid_lists.specs.declared.csv_items.tag.Tag.{Tag}
 
@@ -16,6 +16,7 @@ use Rattle.droid_lists.specs.declared.csv_items.tag.Tag.{Tag}
 abbrev pub path_at : Folders → ℕ → Option (List ℕ)
 path_at folders number = option_map (λ path. path.now) (tree.get nat_cmp folders.numbers number)
 
+-- the number of a path
 abbrev pub number_at : Folders → List ℕ → Option ℕ
 number_at folders path = tree.get_by (λ key. slice_cmp nat_cmp path key.now) folders.paths
 
@@ -35,6 +36,7 @@ pub record AreNoted (path_of : ℕ → Option (List ℕ)) (number_of : List ℕ 
   pub paths : (n : ℕ) (p : List ℕ) → path_of n ≡ Some p → IsSaid said (record { number = n; path = p })
   pub numbers : (n : ℕ) (p : List ℕ) → number_of p ≡ Some n → IsSaid said (record { number = n; path = p })
 
+-- the maps have all that was said, and nothing else
 abbrev pub Holds : Folders → List Saying → Type 0
 Holds folders said = AreNoted (path_at folders) (number_at folders) said
 

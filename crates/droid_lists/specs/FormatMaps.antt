@@ -14,9 +14,11 @@ use Rattle.droid_lists.specs.declared.spelling.own_puids.OwnPuids.{OwnPuids}
 
 -- ---- the formats of all rows
 
+-- what the rows say of a PUID
 abbrev pub known_at : Formats → List ℕ → Option Texts
 known_at formats puid = get_by_text formats.texts puid
 
+-- how many PUIDs there are
 abbrev pub known_count : Formats → ℕ
 known_count formats = btree_map_len formats.texts
 
@@ -39,6 +41,7 @@ pub record AddsKnown (old new : Formats) (puid : List ℕ) (texts : Texts) : Typ
 
 -- ---- the PUIDs of one record
 
+-- a row of the record has this PUID
 abbrev pub own_has : OwnPuids → List ℕ → Bool
 own_has own puid = contains_text own.puids puid
 
@@ -47,6 +50,7 @@ pub record HasOwn (own : OwnPuids) (rows : List Row) : Type 0 where
   pub has : (puid : List ℕ) → own_has own puid ≡ list_any (has_puid puid) rows
   pub digest : CoversPuids own.digest (puids_by rows)
 
+-- the record has one more PUID
 pub record AddsOwn (old new : OwnPuids) (puid : List ℕ) : Type 0 where
   pub has : (other : List ℕ) → own_has new other ≡ (bytes_eq other puid || own_has old other)
   pub digest : (before : List (List ℕ)) → CoversPuids old.digest before → CoversPuids new.digest (before ++ puid ∷ [])

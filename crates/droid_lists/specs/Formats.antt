@@ -3,32 +3,11 @@ use Rattle.std.specs.Prelude.{◌≡◌, ℕ, ◌==◌, ◌&&◌, Bool, not, Lis
 use Rattle.std.specs.Prelude.{if◌then◌else◌}
 use Rattle.std.specs.List.{flat_map, list_all, list_any}
 use Rattle.std.specs.Str.{bytes_eq}
-use Rattle.csv.specs.Reading.{AreRecords, default_config, strip_bom}
-use Rattle.csv.specs.declared.parser.State.TheVariants as st
-use Rattle.droid_export.specs.Table.{field_or}
 use Rattle.droid_lists.specs.declared.format_lists.file_formats.FileFormats.{FileFormats}
 use Rattle.droid_lists.specs.declared.format_lists.format_change.FormatChange.{FormatChange}
-use Rattle.droid_lists.specs.declared.format_lists.format_row.FormatRow.{FormatRow}
+use Rattle.droid_lists.specs.declared.csv_items.format_row.FormatRow.{FormatRow}
 
 -- ---- rows
-
--- whether a record is the row of a file: TYPE says so
-abbrev pub is_file : List (List ℕ) → Bool
-is_file fields = bytes_eq (field_or fields 8) (codes "File")
-
--- The row of a file has its FILE_PATH and a PUID, which is empty if the file has no format.
-abbrev pub rows_of : List (List ℕ) → List FormatRow
-rows_of fields = if is_file fields then (record { path = field_or fields 3; puid = field_or fields 14 }) ∷ [] else []
-
--- the rows of files among records
-abbrev pub format_rows : List (List (List ℕ)) → List FormatRow
-format_rows records = flat_map rows_of records
-
--- a text has these rows: they are those of the records that `csv` reads
-abbrev pub HasRows : List ℕ → List FormatRow → Type 0
-HasRows text rows =
-    (records : List (List (List ℕ))) → AreRecords default_config st.StartRecord (strip_bom text) records
-    → rows ≡ format_rows records
 
 -- the formats that rows give a path
 abbrev pub formats_at : List FormatRow → List ℕ → List (List ℕ)
@@ -48,6 +27,7 @@ file_of path puids = record { path = path; puids = or_none puids }
 abbrev pub is_among : List (List ℕ) → List ℕ → Bool
 is_among puids puid = list_any (λ one. bytes_eq one puid) puids
 
+-- all others are among these
 abbrev pub has_all : List (List ℕ) → List (List ℕ) → Bool
 has_all puids others = list_all (λ other. is_among puids other) others
 
@@ -64,6 +44,7 @@ joined (first ∷ others) = first ++ flat_map (λ puid. 32 ∷ puid) others
 abbrev pub change_with : List ℕ → List (List ℕ) → List (List ℕ) → FormatChange
 change_with path listed found = record { path = path; listed = joined listed; found = joined found }
 
+-- the change of a file, if its formats differ
 abbrev pub change_if : List ℕ → List (List ℕ) → List (List ℕ) → List FormatChange
 change_if path listed found = if differ listed found then change_with path listed found ∷ [] else []
 

@@ -1,5 +1,4 @@
 pub mod Calls
-pub mod Columns
 pub mod Comparing
 pub mod Differences
 pub mod EntryMaps
@@ -8,6 +7,7 @@ pub mod Exports
 pub mod Fields
 pub mod FolderMaps
 pub mod FormatMaps
+pub mod FormatRows
 pub mod Formats
 pub mod Inventories
 pub mod ListForms

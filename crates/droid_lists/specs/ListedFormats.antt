@@ -21,5 +21,6 @@ formats_in listed path =
 abbrev pub change_by : BTreeMap (Bor (List ℕ)) (Vec (List ℕ) Global) → FileFormats → List FormatChange
 change_by listed file = change_if file.path (formats_in listed file.path) file.puids
 
+-- the changes of all files, in order
 abbrev pub changes_by : BTreeMap (Bor (List ℕ)) (Vec (List ℕ) Global) → List FileFormats → List FormatChange
 changes_by listed files = flat_map (change_by listed) files

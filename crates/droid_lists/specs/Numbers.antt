@@ -6,8 +6,8 @@ use Rattle.std.specs.Str.{bytes_eq}
 use Rattle.droid_fixity.specs.Items.{same_truth}
 use Rattle.droid_frame.specs.Filters.{is_file}
 use Rattle.droid_fixity.specs.declared.item.Item.{Item}
-use Rattle.droid_lists.specs.declared.csv_items.column.Column.{Column}
-use Rattle.droid_lists.specs.declared.csv_items.column.Column.TheVariants as columns
+use Rattle.droid_export.specs.declared.column.Column.{Column}
+use Rattle.droid_export.specs.declared.column.Column.TheVariants as columns
 use Rattle.droid_lists.specs.declared.csv_items.fault.ListFault.{ListFault}
 use Rattle.droid_lists.specs.declared.csv_items.fault.ListFault.TheVariants as faults
 use Rattle.droid_lists.specs.declared.csv_items.tag.Tag.{Tag}
@@ -21,9 +21,11 @@ pub record Saying : Type 0 where
 abbrev pub agree : Saying → Saying → Bool
 agree x y = same_truth (x.number == y.number) (bytes_eq x.path y.path)
 
+-- what the row of a folder says of its own number
 abbrev pub own_sayings : Item → Tag → List Saying
 own_sayings item tag = if is_file item.kind then [] else (record { number = tag.id; path = item.path }) ∷ []
 
+-- what a row says of the number of the folder above
 abbrev pub above_sayings : Item → Tag → List Saying
 above_sayings item tag =
     if tag.parent == 0 then [] else (record { number = tag.parent; path = take tag.above item.path }) ∷ []
@@ -52,6 +54,7 @@ contradiction_from ids said (item ∷ items) (tag ∷ tags) =
     or_later tag.number (column_against ids said item tag)
     (contradiction_from (ids ++ tag.id ∷ []) ((said ++ own_sayings item tag) ++ above_sayings item tag) items tags)
 
+-- the first row that contradicts rows before it
 abbrev pub contradiction : List Item → List Tag → Option ListFault
 contradiction items tags = contradiction_from [] [] items tags
 
@@ -63,6 +66,7 @@ ids_in [] tags = []
 ids_in (item ∷ items) [] = []
 ids_in (item ∷ items) (tag ∷ tags) = tag.id ∷ ids_in items tags
 
+-- all that rows say of folders' numbers, in order
 abbrev pub sayings_in : List Item → List Tag → List Saying
 sayings_in [] tags = []
 sayings_in (item ∷ items) [] = []

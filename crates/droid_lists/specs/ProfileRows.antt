@@ -18,9 +18,11 @@ pub record Entry : Type 0 where
   pub first : Row
   pub more : List Row
 
+-- the rows of a record, in order
 abbrev pub rows_of : Entry → List Row
 rows_of entry = entry.first ∷ entry.more
 
+-- the rows of all records, in order
 abbrev pub all_rows : List Entry → List Row
 all_rows entries = flat_map rows_of entries
 
@@ -35,6 +37,7 @@ pub record Found : Type 0 where
   pub entry : Entry
   pub number : ℕ
 
+-- the first record with a path, where the first of these begins with the row of this number
 abbrev pub found_from : ℕ → List Entry → List ℕ → Option Found
 found_from number [] path = None
 found_from number (entry ∷ entries) path =
@@ -50,6 +53,7 @@ abbrev pub folder_id : Option Found → Option ℕ
 folder_id None = None
 folder_id (Some found) = if is_file found.entry.first then None else Some (number_at found.entry.first 0)
 
+-- the ID of the folder with this path, if there is a path
 abbrev pub folder_at : List Entry → Option (List ℕ) → Option ℕ
 folder_at entries None = None
 folder_at entries (Some path) = folder_id (found_in entries path)
@@ -72,6 +76,7 @@ known_in rows puid = option_map texts_in (find (has_puid puid) rows)
 abbrev pub puid_in : Row → List (List ℕ)
 puid_in row = if length (at row 14) == 0 then [] else at row 14 ∷ []
 
+-- the PUIDs of the rows of a record, in order
 abbrev pub puids_by : List Row → List (List ℕ)
 puids_by rows = flat_map puid_in rows
 
@@ -79,6 +84,7 @@ puids_by rows = flat_map puid_in rows
 abbrev pub with_puid : List (List ℕ) → List ℕ → List (List ℕ)
 with_puid puids puid = if (length puid == 0) || is_among puids puid then puids else puids ++ puid ∷ []
 
+-- the PUIDs of rows, each once
 abbrev pub puids_in : List Row → List (List ℕ)
 puids_in rows = fold (λ puids row. with_puid puids (at row 14)) [] rows
 
@@ -121,18 +127,22 @@ pub record IsEntry (hash : HashKind) (entries : List Entry) (entry : Entry) : Ty
   pub more : AreMore entries entry.first [] entry.more
   pub all : length (rows_of entry) ≡ rows_in entry.first
 
+-- each record is right behind those before it
 abbrev pub AreEntriesFrom : HashKind → List Entry → List Entry → Type 0
 AreEntriesFrom hash before [] = Unit {0}
 AreEntriesFrom hash before (entry ∷ entries) =
     IsEntry hash before entry × AreEntriesFrom hash (before ++ entry ∷ []) entries
 
+-- each record is right, from the first on
 abbrev pub AreEntries : HashKind → List Entry → Type 0
 AreEntries hash entries = AreEntriesFrom hash [] entries
 
 -- ---- texts
 
+-- the lines of a record
 abbrev pub entry_text : Entry → List ℕ
 entry_text entry = flat_map line (rows_of entry)
 
+-- the lines of all records
 abbrev pub entries_text : List Entry → List ℕ
 entries_text entries = flat_map entry_text entries

@@ -12,9 +12,11 @@ use Rattle.droid_lists.specs.Spelling.{Breaks, Spells}
 
 -- ---- the names of the columns
 
+-- the names of all columns
 abbrev pub names_of : HashKind → Row
 names_of hash = fields (header hash)
 
+-- the name of a column, counted from 0
 abbrev pub name_of : HashKind → ℕ → List ℕ
 name_of hash column = at (names_of hash) column
 
@@ -24,11 +26,13 @@ other_from zero column names due = None
 other_from (suc count) column names due =
     if bytes_eq (at names column) (at due column) then other_from count (column + 1) names due else Some column
 
+-- the first column that has another name
 abbrev pub other_name : HashKind → Row → Option ℕ
 other_name hash names = other_from 18 0 names (names_of hash)
 
 -- ---- texts
 
+-- the one spelling of these records
 abbrev pub profile_text : HashKind → List Entry → List ℕ
 profile_text hash entries = line (names_of hash) ++ entries_text entries
 

@@ -48,6 +48,7 @@ abbrev pub with_fields : List (List ℕ) → Result Line ℕ → Result Line ℕ
 with_fields front (Err column) = Err column
 with_fields front (Ok line) = Ok (record { fields = front ++ line.fields; rest = line.rest })
 
+-- what follows behind a field, or that this column is wrong
 abbrev pub behind_field : ℕ → Option Field → (List ℕ → Result Line ℕ) → Result Line ℕ
 behind_field column None more = Err column
 behind_field column (Some field) more = with_fields (field.value ∷ []) (more field.rest)

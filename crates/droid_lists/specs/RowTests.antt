@@ -15,7 +15,8 @@ use Rattle.droid_pronom.specs.RegistryFields.{is_puid}
 use Rattle.droid_export.specs.Rows.{parent_text}
 use Rattle.droid_export.specs.Uris.{uri}
 use Rattle.droid_fixity.specs.Paths.{is_file_path}
-use Rattle.droid_lists.specs.Fields.{has_no_slash, number_of as digits_of}
+use Rattle.droid_export.specs.Fields.{number_of as digits_of}
+use Rattle.droid_lists.specs.Fields.{has_no_slash}
 use Rattle.droid_lists.specs.Moments.{is_moment}
 use Rattle.droid_lists.specs.Profiles.{shared_columns}
 pub use Rattle.droid_lists.specs.RowReading.{at}
@@ -27,6 +28,7 @@ use Rattle.droid_lists.specs.declared.spelling.row_formats.Texts.{Texts}
 abbrev pub Test : Type 0
 Test = Bool × ℕ
 
+-- the first column that is not as it has to be
 abbrev pub first_wrong : List Test → Option ℕ
 first_wrong [] = None
 first_wrong (test ∷ tests) = if test.0 then first_wrong tests else Some test.1
@@ -38,6 +40,7 @@ or_later (Some column) later = Some column
 
 -- ---- the fields of a row
 
+-- the bytes of the fields of a row, in the order of the columns
 abbrev pub Row : Type 0
 Row = List (List ℕ)
 
@@ -48,6 +51,7 @@ abbrev pub if_plain : List ℕ → Option ℕ → Option ℕ
 if_plain text None = None
 if_plain text (Some number) = if bytes_eq text (decimal number) then Some number else None
 
+-- a number as an export writes it
 abbrev pub number_of : List ℕ → Option ℕ
 number_of text = if_plain text (digits_of text)
 
@@ -55,6 +59,7 @@ number_of text = if_plain text (digits_of text)
 abbrev pub number_at : Row → ℕ → ℕ
 number_at row column = unwrap_or (number_of (at row column)) 0
 
+-- there is a number, and it is no greater than this
 abbrev pub is_at_most : ℕ → Option ℕ → Bool
 is_at_most most None = false
 is_at_most most (Some number) = nat_le number most
@@ -71,9 +76,11 @@ is_next last (Some number) = nat_lt last number && nat_le number 100000
 
 -- ---- paths
 
+-- the byte between names
 abbrev pub is_slash : ℕ → Bool
 is_slash byte = byte == 47
 
+-- no name is too long for a profile
 abbrev pub are_short : List ℕ → Bool
 are_short path = list_all (λ name. nat_le (length name) 255) (slice_split is_slash path)
 
@@ -103,23 +110,29 @@ is_named row = has_no_slash (at row 4) && bytes_eq (drop (above_length row) (at 
 
 -- ---- kinds
 
+-- TYPE says that it is a file
 abbrev pub is_file : Row → Bool
 is_file row = bytes_eq (at row 8) (codes "File")
 
+-- TYPE says that it is a file or a folder
 abbrev pub is_kind : Row → Bool
 is_kind row = is_file row || bytes_eq (at row 8) (codes "Folder")
 
+-- what TYPE says, where it says one of them
 abbrev pub kind_in : Row → NodeKind
 kind_in row = if is_file row then File else Folder
 
 -- ---- what a file has
 
+-- STATUS
 abbrev pub is_done : Row → Bool
 is_done row = bytes_eq (at row 6) (codes "Done")
 
+-- the size of a file that a service takes
 abbrev pub is_size : List ℕ → Bool
 is_size text = is_at_most (2 ^ 40) (number_of text)
 
+-- a number of formats: a registry has no more
 abbrev pub is_count : List ℕ → Bool
 is_count text = is_at_most 4096 (number_of text)
 
@@ -127,11 +140,13 @@ is_count text = is_at_most 4096 (number_of text)
 abbrev pub is_digest_byte : ℕ → Bool
 is_digest_byte c = is_ascii_digit c || (nat_le 97 c && nat_le c 102)
 
+-- how many digits a digest has
 abbrev pub digest_length : HashKind → ℕ
 digest_length hashes.Nothing = 0
 digest_length hashes.Md5 = 32
 digest_length hashes.Sha256 = 64
 
+-- a digest of this kind
 abbrev pub is_digest : HashKind → List ℕ → Bool
 is_digest hash text = (length text == digest_length hash) && list_all is_digest_byte text
 
@@ -144,20 +159,25 @@ abbrev pub extends : Option (List ℕ) → List ℕ → Bool
 extends None text = false
 extends (Some name) text = bytes_eq text (extension_of name)
 
+-- what stands behind the last dot of a name that is text
 abbrev pub is_extension_of : List ℕ → List ℕ → Bool
 is_extension_of name text = extends (utf8_of name) text
 
 -- ---- columns that a folder has not
 
+-- SIZE
 abbrev pub has_size : Row → Bool
 has_size row = if is_file row then is_size (at row 7) else length (at row 7) == 0
 
+-- EXT
 abbrev pub is_extension : Row → Bool
 is_extension row = if is_file row then is_extension_of (at row 4) (at row 9) else length (at row 9) == 0
 
+-- the column of the hash
 abbrev pub has_digest : HashKind → Row → Bool
 has_digest hash row = if is_file row then is_digest hash (at row 12) else length (at row 12) == 0
 
+-- FORMAT_COUNT
 abbrev pub has_count : Row → Bool
 has_count row = if is_file row then is_count (at row 13) else length (at row 13) == 0
 
@@ -175,6 +195,7 @@ rows_in row = max 1 (formats_in row)
 abbrev pub is_by_signature : Row → Bool
 is_by_signature row = bytes_eq (at row 5) (codes "Signature")
 
+-- METHOD: one exactly where there are formats
 abbrev pub is_method : Row → Bool
 is_method row =
     if formats_in row == 0 then length (at row 5) == 0
@@ -202,11 +223,13 @@ texts_in row = record { mime = at row 15; name = at row 16; version = at row 17 
 abbrev pub are_first : Texts → List Test
 are_first new = (is_note new.mime, 15) ∷ (is_format_name new.name, 16) ∷ (is_note new.version, 17) ∷ []
 
+-- what further rows say of a PUID
 abbrev pub are_repeated : Texts → Texts → List Test
 are_repeated known new =
     (bytes_eq new.mime known.mime, 15) ∷ (bytes_eq new.name known.name, 16) ∷ (bytes_eq new.version known.version, 17)
     ∷ []
 
+-- by whether an earlier row has the PUID
 abbrev pub texts_tests : Option Texts → Texts → List Test
 texts_tests None new = are_first new
 texts_tests (Some known) new = are_repeated known new
@@ -221,6 +244,7 @@ are_none puid new =
 abbrev pub is_right_puid : Bool → Bool → List ℕ → Bool
 is_right_puid has_place is_repeated puid = is_puid puid && not is_repeated && has_place
 
+-- a PUID that its record has not yet, and that finds place
 abbrev pub is_new_puid : Bool → Bool → List ℕ → Bool
 is_new_puid has_place is_repeated puid = is_some (utf8_of puid) && is_right_puid has_place is_repeated puid
 

@@ -33,12 +33,14 @@ pub record IsWrongBehind (hash : HashKind) (text : List ℕ) (record_number colu
   pub wrong : IsWrongEntry hash all rest column rows
   pub number : record_number ≡ length (all_rows all) + 2 + rows
 
+-- why no records could be read behind the names of the columns
 abbrev pub IsFaultBehind : HashKind → List ℕ → TextFault → Type 0
 IsFaultBehind hash text faults.Memory = ⊤
 IsFaultBehind hash text (faults.Wrong number column) = IsWrongBehind hash text number column
 
 -- ---- whole texts
 
+-- a whole text was read
 pub record ReadsText (hash : HashKind) (text : List ℕ) (entries : Entries) : Type 0 where
   pub all : List Entry
   pub is : IsProfileText hash text all

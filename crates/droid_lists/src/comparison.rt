@@ -1,4 +1,5 @@
-//! Compares the records of a profile's text with what is known.
+//! Compares the records of a profile's text with what is known. Columns are counted from 0, in the order of `COLUMNS`
+//! in `droid_export`.
 
 ghost use Rattle.std.specs.Prelude.{◌≡◌, ◌++◌, List, IfOk, OnOk, IsTrue, map};
 ghost use Rattle.std.specs.Option.{option_map};

@@ -18,14 +18,13 @@ mod node;
 mod spelling;
 
 pub use agreement_law::the_items_of_the_list_agree;
-pub use csv_items::column::Column;
 pub use csv_items::consistency_law::rows_agree;
 pub use csv_items::fault::ListFault;
-pub use csv_items::profile::read_profile;
+pub use csv_items::format_row::FormatRow;
+pub use csv_items::profile::{Profile, read_profile};
 pub use export_law::export_lists_its_records;
 pub use format_lists::file_formats::{FileFormats, Puids};
 pub use format_lists::format_change::{FormatChange, format_changes};
-pub use format_lists::format_row::{FormatRow, read_formats};
 pub use known::{Difference, Known};
 pub use list_content::{Listed, UnreadList, read_list};
 pub use list_form::ListForm;

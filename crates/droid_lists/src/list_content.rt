@@ -1,10 +1,14 @@
 //! What a list says.
 
-ghost use Rattle.std.specs.Prelude.{◌≡◌, Ok};
-ghost use Rattle.droid_lists.specs.Listings.{Comes, ListSays, ListSaysBy, Says, hash_in, manifest_fault, profile_fault};
+ghost use Rattle.std.specs.Prelude.{◌≡◌, IfOk, Ok};
+ghost use Rattle.droid_fixity.specs.Lists.{items_of};
+ghost use Rattle.droid_lists.specs.ListForms.{form_of};
+ghost use Rattle.droid_lists.specs.Listings.{Comes, HasFormats, ListSays, ListSaysBy, Says, first_in, hash_in};
+ghost use Rattle.droid_lists.specs.Listings.{manifest_fault, of_manifest, profile_fault};
 ghost use Rattle.droid_lists.specs.declared.list_form.ListForm.TheVariants as forms;
 
 use crate::csv_items::fault::ListFault;
+use crate::csv_items::format_row::FormatRow;
 use crate::csv_items::profile::read_profile;
 use crate::list_form::ListForm;
 use droid_fixity::{Inventory, Item, ManifestFault, ManifestForm, SamePath, read_manifest};
@@ -46,45 +50,75 @@ pub struct Listed {
 }
 
 /// Reads a list: the CSV of a profile or of an export, or a list of checksums. `in_bag` says whether the folder that it
-/// describes is a bag. If several faults apply, the first of [`UnreadList`] is returned.
-pub fn read_list(alloc: Global, in_bag: bool, text: &[u8]) -> Result<Listed, UnreadList>
-    ensures { ListSays in_bag text.now result }
+/// describes is a bag, and `formats` asks for the formats that a profile gives its files. If several faults apply, the
+/// first of [`UnreadList`] is returned.
+pub fn read_list(
+    alloc: Global,
+    in_bag: bool,
+    formats: bool,
+    text: &[u8],
+) -> Result<(Listed, Vec<FormatRow>), UnreadList>
+    ensures says { ListSays in_bag formats text.now (first_in result) }
+    ensures formats { IfOk result (λ read. HasFormats formats (form_of in_bag text.now) text.now read.1.items) }
 {
     match ListForm::of(alloc, in_bag, text) {
-        Ok(form) => list_by(alloc, form, text),
+        Ok(form) => list_by(alloc, form, formats, text),
         Err(_) => Err(UnreadList::Memory),
     }
 }
 
 /// Reads a list of this form.
-fn list_by(alloc: Global, form: ListForm, text: &[u8]) -> Result<Listed, UnreadList>
-    ensures { ListSaysBy form text.now result }
+fn list_by(
+    alloc: Global,
+    form: ListForm,
+    formats: bool,
+    text: &[u8],
+) -> Result<(Listed, Vec<FormatRow>), UnreadList>
+    ensures says { ListSaysBy form formats text.now (first_in result) }
+    ensures formats { IfOk result (λ read. HasFormats formats form text.now read.1.items) }
 {
-    match items_in(alloc, form, text) {
-        Ok(items) => {
+    match items_in(alloc, form, formats, text) {
+        Ok((items, rows)) => {
             let hash = hash_in(items.as_slice());
-            Ok(Listed { form, items, hash })
+            Ok((Listed { form, items, hash }, rows))
         }
         Err(fault) => Err(fault),
     }
 }
 
-/// Reads the items of a list of this form.
-fn items_in(alloc: Global, form: ListForm, text: &[u8]) -> Result<Inventory, UnreadList>
-    ensures { Says form text.now result }
+/// Reads the items of a list of this form, and the formats that it gives files.
+fn items_in(
+    alloc: Global,
+    form: ListForm,
+    formats: bool,
+    text: &[u8],
+) -> Result<(Inventory, Vec<FormatRow>), UnreadList>
+    ensures says { Says form formats text.now (first_in result) }
+    ensures formats { IfOk result (λ read. HasFormats formats form text.now read.1.items) }
 {
     match form {
-        ListForm::Profile => items_of_profile(alloc, text),
-        ListForm::Checksum(form) => items_of_manifest(alloc, form, text),
+        ListForm::Profile => items_of_profile(alloc, formats, text),
+        ListForm::Checksum(form) => match items_of_manifest(alloc, form, text) {
+            Ok(items) => Ok((items, Vec::new(alloc))),
+            Err(fault) => Err(fault),
+        },
     }
 }
 
-/// Reads the items of a profile's CSV.
-fn items_of_profile(alloc: Global, text: &[u8]) -> Result<Inventory, UnreadList>
-    ensures { Says forms.Profile text.now result }
+/// Reads the items of a profile's CSV, and the formats of its files.
+fn items_of_profile(
+    alloc: Global,
+    formats: bool,
+    text: &[u8],
+) -> Result<(Inventory, Vec<FormatRow>), UnreadList>
+    ensures says { Says forms.Profile formats text.now (first_in result) }
+    ensures formats { IfOk result (λ read. HasFormats formats forms.Profile text.now read.1.items) }
 {
-    match read_profile(alloc, text) {
-        Ok(items) => in_order(items),
+    match read_profile(alloc, formats, text) {
+        Ok(profile) => match in_order(profile.items) {
+            Ok(items) => Ok((items, profile.formats)),
+            Err(fault) => Err(fault),
+        },
         Err(fault) => Err(profile_fault(fault)),
     }
 }
@@ -96,6 +130,7 @@ fn profile_fault(fault: ListFault) -> UnreadList
     match fault {
         ListFault::Memory => UnreadList::Memory,
         ListFault::Header => UnreadList::Profile(fault),
+        ListFault::Missing { .. } => UnreadList::Profile(fault),
         ListFault::Fields { .. } => UnreadList::Profile(fault),
         ListFault::Column { .. } => UnreadList::Profile(fault),
         ListFault::Contradiction { .. } => UnreadList::Profile(fault),
@@ -108,7 +143,7 @@ fn items_of_manifest(
     form: ManifestForm,
     text: &[u8],
 ) -> Result<Inventory, UnreadList>
-    ensures { Says (forms.Checksum form) text.now result }
+    ensures { Comes (of_manifest (items_of form text.now)) result }
 {
     match read_manifest(alloc, form, text) {
         Ok(items) => in_order(items),

@@ -36,6 +36,7 @@ alternatives_in bytes = runs_in (front_number bytes) (drop 2 bytes)
 abbrev pub run_bytes : List ℕ → List ℕ
 run_bytes run = number_bytes (length run) ++ run
 
+-- the bytes of a choice: the number of alternatives, and then each with its length
 abbrev pub choice_bytes : List (List ℕ) → List ℕ
 choice_bytes alternatives = number_bytes (length alternatives) ++ flat_map run_bytes alternatives
 

@@ -12,6 +12,7 @@ accepts (classes.Byte b) x = x == b
 accepts (classes.Range low high) x = nat_le low x && nat_le x high
 accepts (classes.Except b) x = not (x == b)
 
+-- the element that accepts one byte of the class
 abbrev pub element_of_class : Class → Element
 element_of_class (classes.Byte b) = Byte b
 element_of_class (classes.Range low high) = Range low high

@@ -1,4 +1,5 @@
-//! Compares the alternatives of a choice with the bytes at one place, and finds the bytes with which they begin.
+//! Compares the alternatives of a choice with the bytes at one place, and finds the bytes with which they begin. In the
+//! pool their number comes first, and then each after its length.
 
 ghost use Rattle.std.specs.Prelude.{◌≡◌, ℕ, IsTrue, IfSome, false};
 ghost use Rattle.memchr.specs.Find.{OccursAt};
@@ -11,7 +12,8 @@ use crate::first_bytes::FirstBytes;
 use crate::pool::{cut_run, rest_from};
 use crate::short::front_number;
 
-/// Returns whether none of the alternatives stands at this place. The alternatives stand at the front of `packed`.
+/// Returns whether none of the alternatives stands at this place. The alternatives stand at the front of `packed`. Only
+/// `true` promises anything: it spares a match by sets of places.
 pub(crate) fn none_stands(packed: &[u8], bytes: &[u8], place: usize) -> bool
     ensures { IsTrue result → (q : ℕ) → Leads (Choice (alternatives_in packed.now)) bytes.now place q → ⊥ }
 {
@@ -26,7 +28,7 @@ pub(crate) fn none_stands(packed: &[u8], bytes: &[u8], place: usize) -> bool
     true
 }
 
-/// Returns whether the run of bytes stands at this place.
+/// Returns whether the run of bytes stands at this place. Only `false` promises anything.
 fn stands_at(run: &[u8], bytes: &[u8], place: usize) -> bool
     ensures { result ≡ false → OccursAt bytes.now run.now place → ⊥ }
 {

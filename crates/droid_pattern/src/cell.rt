@@ -86,7 +86,8 @@ impl Cell {
         }
     }
 
-    /// Returns the bytes with which the cell's match can begin, if it is never empty and not any byte can.
+    /// Returns the bytes with which the cell's match can begin, if it is never empty and not any byte can. `None` is
+    /// always right: it only means that nothing is known.
     pub(crate) fn first_bytes(&self, pool: &[u8]) -> Option<FirstBytes>
         ensures { IfSome result (λ few. BeginsIn few (element_at pool.now self.now)) }
     {
@@ -102,7 +103,7 @@ impl Cell {
         }
     }
 
-    /// Joins this cell and the next one, if one cell can stand for both.
+    /// Joins this cell and the next one, if both are stars. This saves memory; no clause asks for `Some`.
     pub(crate) fn joined(self, next: Cell) -> Option<Cell>
         ensures { IfSome result (λ cell.
             (pool : List ℕ) → elements_at pool cell ≡ elements_at pool self ++ elements_at pool next) }

@@ -51,7 +51,8 @@ impl Class {
 
     /// Returns the slot of the class in the cache of bit sets.
     ///
-    /// There is a slot for each byte, each excluded byte, each first byte of a range and each last byte of a range.
+    /// There is a slot for each byte, each excluded byte, each first byte of a range and each last byte of a range. No
+    /// clause asks for different slots: classes of one slot replace each other, which takes time.
     pub(crate) fn slot(self) -> usize
         ensures { result < 1024 }
     {

@@ -6,7 +6,6 @@ ghost use Rattle.droid_pattern.specs.ClassCaches.{AreOf};
 use crate::bit_sets::bit_set::BitSet;
 use crate::class_set::ClassSet;
 use std::alloc::Global;
-use std::fmt;
 
 /// The bit sets of the classes that patterns have needed so far, for one sequence of bytes.
 ///
@@ -16,12 +15,6 @@ pub struct ClassCache {
     pub(crate) toward_end: Vec<ClassSet>,
     pub(crate) toward_start: Vec<ClassSet>,
     pub(crate) places: BitSet,
-}
-
-impl fmt::Debug for ClassCache {
-    fn fmt<W: fmt::Write>(&self, f: &mut fmt::Formatter<W>) -> fmt::Result {
-        f.debug_struct("ClassCache").finish_non_exhaustive()
-    }
 }
 
 impl ClassCache {

@@ -78,6 +78,7 @@ fn word_of(class: Class, place: usize, bytes: &[u8], direction: Direction) -> u6
         × (accepts class (byte_behind direction bytes.now (64 * place + i)) ≡ true)) }
 {
     let start = place.saturating_mul(64);
+    // For speed; no clause needs it.
     let absent = direction.lacks(class, bytes, start);
     if absent {
         return 0;

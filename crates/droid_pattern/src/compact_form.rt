@@ -1,4 +1,7 @@
 //! The compact form in which a pattern stays in memory.
+//!
+//! `cells_len` and `pool_len` have no contract: they are the capacities of the two vectors, and a wrong one would cost
+//! memory, but change no pattern.
 
 ghost use Rattle.std.specs.Prelude.{◌≡◌, ◌++◌, ℕ, List, map, IfOk, OnOk};
 ghost use Rattle.std.specs.List.{flat_map};
@@ -21,7 +24,8 @@ pub(crate) struct Packed {
     pub(crate) pool: Vec<u8>,
 }
 
-/// Converts the tokens to the compact form. Both vectors get the exact capacity that they need.
+/// Converts the tokens to the compact form. Both vectors get the exact capacity that they need, which saves memory; no
+/// clause asks for it.
 pub(crate) fn pack(alloc: Global, tokens: &[Token]) -> Result<Packed, AllocError>
     ensures { IfOk result (λ packed. elements_of packed ≡ map element_of tokens.now) }
 {

@@ -1,4 +1,5 @@
-//! A direct comparison with the bytes at one offset, which most patterns need only.
+//! A direct comparison with the bytes at one offset, which most patterns need only. It is for speed: after `None` the
+//! sets of places decide.
 
 ghost use Rattle.std.specs.Prelude.{◌≡◌, ◌↔◌, ◌≤◌, ℕ, List, IfSome, IsTrue, length};
 ghost use Rattle.std.specs.List.{flat_map};

@@ -28,7 +28,8 @@ impl Direction {
         }
     }
 
-    /// Returns whether the 64 bytes from `start` on, in this direction, are known to have none of the class.
+    /// Returns whether the 64 bytes from `start` on, in this direction, are known to have none of the class. Only a
+    /// `true` promises anything: it spares a look at each byte.
     pub(crate) fn lacks(self, class: Class, bytes: &[u8], start: usize) -> bool
         ensures { IsTrue result → (i : ℕ) → i < 64 → start + i < length bytes.now
             → accepts class (byte_behind self bytes.now (start + i)) ≡ true → ⊥ }

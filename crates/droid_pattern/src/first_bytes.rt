@@ -6,7 +6,7 @@ ghost use Rattle.droid_pattern.specs.FirstBytes.{Has};
 /// The bytes of two ranges, from the low to the high one, both included.
 ///
 /// Each match of a pattern begins with one of them. There may be more of them than matches begin with.
-#[derive(Clone, Copy, Debug)]
+#[derive(Clone, Copy)]
 pub struct FirstBytes {
     pub low: u8,
     pub high: u8,
@@ -75,7 +75,8 @@ impl FirstBytes {
         }
     }
 
-    /// Returns whether the byte is as near to the first range as to the other one, or nearer.
+    /// Returns whether the byte is as near to the first range as to the other one, or nearer. It has no contract, and
+    /// needs none: whichever range grows, both have all bytes, but the nearer one gets fewer that no match begins with.
     fn is_near(self, byte: u8) -> bool {
         distance(self.low, self.high, byte) <= distance(self.other_low, self.other_high, byte)
     }
@@ -107,7 +108,7 @@ impl FirstBytes {
     }
 }
 
-/// Returns how far a byte is from a range.
+/// Returns how far a byte is from a range. It has no contract, as [`FirstBytes::is_near`], which alone calls it.
 fn distance(low: u8, high: u8, byte: u8) -> u8 {
     if byte < low {
         low - byte

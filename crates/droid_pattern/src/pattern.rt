@@ -15,7 +15,6 @@ use crate::parser::tokens_of;
 use crate::pattern_fault::PatternFault;
 use crate::token::any_byte;
 use std::alloc::{AllocError, Global};
-use std::fmt;
 use std::marker::Model;
 
 /// The most bytes that the text of a pattern may have. This limit is the project's own.
@@ -39,12 +38,6 @@ impl Model for Pattern {
     ghost use Rattle.droid_pattern.specs.Cells.{elements_of};
 
     ghost view = { λ pattern. elements_of pattern.packed };
-}
-
-impl fmt::Debug for Pattern {
-    fn fmt<W: fmt::Write>(&self, f: &mut fmt::Formatter<W>) -> fmt::Result {
-        f.debug_struct("Pattern").finish_non_exhaustive()
-    }
 }
 
 impl Pattern {

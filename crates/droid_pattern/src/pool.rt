@@ -37,7 +37,8 @@ pub(crate) fn put_choice(pool: &mut Vec<u8>, alternatives: &[Vec<u8>]) -> Result
     Ok(())
 }
 
-/// Returns the number if two bytes can hold it. Each number that a pattern of at most 4,096 bytes needs fits.
+/// Returns the number if two bytes can hold it, and otherwise reports out of memory. Each number that a pattern of at
+/// most 4,096 bytes needs fits, so the error never comes.
 pub(crate) fn short_of(number: usize) -> Result<u16, AllocError>
     ensures { IfOk result (λ short. short ≡ number) }
 {

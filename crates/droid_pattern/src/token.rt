@@ -29,6 +29,9 @@ impl Token {
         matches!(self, Token::Gap { .. } | Token::OpenGap { .. })
     }
 
+    // The two functions below and `runs_len` have no contract: `compact_form` takes capacities from them, and a wrong
+    // one would cost memory, but change no pattern.
+
     /// Returns whether the element is a star: any number of any bytes.
     pub(crate) fn is_star(&self) -> bool {
         matches!(self, Token::OpenGap { least: 0 })

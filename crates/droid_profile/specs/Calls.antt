@@ -10,10 +10,12 @@ pub data Call : Type 0 where
   OfFolder : (observation : Observation) → Call
   OfFile : (number : ℕ) (observation : Observation) → Call
 
+-- what the tree returned
 abbrev pub observation_of : Call → Observation
 observation_of (OfFolder observation) = observation
 observation_of (OfFile number observation) = observation
 
+-- the same, of a call for a folder alone
 abbrev pub folder_observed : Call → List Observation
 folder_observed (OfFolder observation) = observation ∷ []
 folder_observed (OfFile number observation) = []
@@ -22,6 +24,7 @@ folder_observed (OfFile number observation) = []
 abbrev pub folder_calls : List Call → List Observation
 folder_calls calls = flat_map folder_observed calls
 
+-- what a read of the file with this number returned
 abbrev pub read_for : ℕ → Call → List Observation
 read_for number (OfFolder observation) = []
 read_for number (OfFile its observation) = if its == number then observation ∷ [] else []
@@ -30,6 +33,7 @@ read_for number (OfFile its observation) = if its == number then observation ∷
 abbrev pub reads_of : ℕ → List Call → List Observation
 reads_of number calls = flat_map (read_for number) calls
 
+-- only a read that returned bytes is reported, with their number
 abbrev pub heard_of_observation : Observation → List Heard
 heard_of_observation (Read path entry from wanted bytes) = TookBytes path (length bytes) ∷ []
 heard_of_observation (Unread path entry from wanted) = []
@@ -39,6 +43,7 @@ heard_of_observation (Unlisted path) = []
 heard_of_observation (Opened path) = []
 heard_of_observation (Unopened path) = []
 
+-- only reads of files are reported
 abbrev pub heard_of_call : Call → List Heard
 heard_of_call (OfFolder observation) = []
 heard_of_call (OfFile number observation) = heard_of_observation observation

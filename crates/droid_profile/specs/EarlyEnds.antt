@@ -51,6 +51,7 @@ is_of_record (Held path count) = false
 is_of_record (TookFolder path) = true
 is_of_record (TookFile path found) = true
 
+-- its folder lists its name twice
 abbrev pub is_same_name : Skipped → Bool
 is_same_name reasons.SameName = true
 is_same_name _ = false

@@ -10,6 +10,7 @@ pub record HasState (files : List FileRow) (place : ℕ) (state : FileState) : T
   pub there : slice_get files place ≡ Some row
   pub its : row.state ≡ state
 
+-- their numbers in the profile
 abbrev pub numbers_in : List FileRow → List ℕ
 numbers_in files = map (λ (row : FileRow). row.record.id) files
 

@@ -34,6 +34,7 @@ pub data Kid : Type 0 where
   NoText : (entry : FolderEntry) → Kid
   RefusedEntry : (entry : FolderEntry) (refusal : Refusal) → Kid
 
+-- as its folder lists it, whatever comes of it
 abbrev pub entry_of : Kid → FolderEntry
 entry_of (Subfolder entry number) = entry
 entry_of (ClosedFolder entry) = entry
@@ -110,6 +111,7 @@ reads_of_kid number path _ = []
 abbrev pub found_of : Contents → Options → FolderEntry → List ℕ → Found
 found_of registry options entry bytes = found_in registry entry.name bytes options.scan_limit options.match_all
 
+-- what a service replies when it has finished a file with these bytes
 abbrev pub file_reply : Options → Found → List ℕ → Reply
 file_reply options found bytes = replies.Finished found.method found.mismatch (hash options.hash bytes) found.puids
 
@@ -136,6 +138,7 @@ heard_of_kid registry options path (RefusedEntry entry refusal) =
 
 -- ---- whether the profile has it
 
+-- it is a symbolic link
 abbrev pub is_link : EntryKind → Bool
 is_link kinds.Link = true
 is_link _ = false

@@ -37,6 +37,7 @@ abbrev pub rest_in : Option FileLane → List ℕ
 rest_in None = []
 rest_in (Some lane) = drop lane.hashed lane.buffer.items
 
+-- the same of the lane with this number
 abbrev pub rest_of : List FileLane → ℕ → List ℕ
 rest_of lanes j = rest_in (slice_get lanes j)
 

@@ -38,10 +38,11 @@ AreNodesOfKid folder _ nodes = nodes ≡ []
 abbrev pub Lying : Type 0
 Lying = PendingFolder × Kid
 
--- all entries, folder by folder
+-- all entries of a folder
 abbrev pub lying_in : Visit → List Lying
 lying_in visit = map (λ (kid : Kid). (visit.folder, kid)) visit.kids
 
+-- all entries, folder by folder
 abbrev pub all_lying : List Visit → List Lying
 all_lying visits = flat_map lying_in visits
 

@@ -48,6 +48,7 @@ file_record options folder entry number bytes found = record {
   puids = found.puids;
 }
 
+-- a file has a record if it was read to its end
 abbrev pub records_of_file : Contents → Options → PendingFolder → FolderEntry → ℕ → Reading → Ending → List Record
 records_of_file registry options folder entry number reading (AtEnd wanted bytes) =
     file_record options folder entry number (bytes_of reading) (found_of registry options entry (bytes_of reading)) ∷ []
@@ -60,6 +61,7 @@ records_of_kid registry options folder (AFile entry number reading) =
     records_of_file registry options folder entry number reading reading.ending
 records_of_kid registry options folder _ = []
 
+-- the records of a folder's entries, in order
 abbrev pub records_of_visit : Contents → Options → Visit → List Record
 records_of_visit registry options visit = flat_map (records_of_kid registry options visit.folder) visit.kids
 

@@ -28,6 +28,7 @@ unread = record { pieces = []; ending = NotYet }
 abbrev pub joined : List (List ℕ) → List ℕ
 joined pieces = flat_map (λ (piece : List ℕ). piece) pieces
 
+-- the bytes of the last read, if any came
 abbrev pub last_bytes : Ending → List ℕ
 last_bytes (AtEnd wanted bytes) = bytes
 last_bytes (TooShort wanted bytes) = bytes

@@ -22,17 +22,20 @@ use Rattle.droid_profile.specs.declared.walk.row.Row.TheVariants as rows
 abbrev pub Readings : Type 0
 Readings = ℕ → Reading
 
+-- how this file is read
 abbrev pub reading_of : Readings → FileRow → Reading
 reading_of readings file = readings file.record.id
 
 -- ---- the watcher
 
+-- what the watcher learns of a file of the batch
 abbrev pub heard_at : Contents → Options → Readings → Option FileRow → List Heard
 heard_at registry options readings None = []
 heard_at registry options readings (Some file) =
     heard_of_file registry options file.record.path file.entry (reading_of readings file)
     (reading_of readings file).ending
 
+-- what the watcher learns when a row is handed out
 abbrev pub heard_of_row : Contents → Options → Readings → List FileRow → Row → List Heard
 heard_of_row registry options readings files (rows.Left path why) = Left path why ∷ []
 heard_of_row registry options readings files (rows.Folder shown) = TookFolder shown.path ∷ []
@@ -41,16 +44,19 @@ heard_of_row registry options readings files (rows.File place) =
 
 -- ---- the recipient
 
+-- a file has a record if it was read to its end
 abbrev pub records_by : Contents → Options → FileRow → Reading → Ending → List Record
 records_by registry options file reading (AtEnd wanted bytes) =
     whole_record options file.record (found_of registry options file.entry (bytes_of reading)) (bytes_of reading) ∷ []
 records_by registry options file reading _ = []
 
+-- the record of a file of the batch
 abbrev pub records_at : Contents → Options → Readings → Option FileRow → List Record
 records_at registry options readings None = []
 records_at registry options readings (Some file) =
     records_by registry options file (reading_of readings file) (reading_of readings file).ending
 
+-- the record that the recipient gets for a row
 abbrev pub records_of_row : Contents → Options → Readings → List FileRow → Row → List Record
 records_of_row registry options readings files (rows.Left path why) = []
 records_of_row registry options readings files (rows.Folder shown) = shown ∷ []
@@ -59,10 +65,12 @@ records_of_row registry options readings files (rows.File place) =
 
 -- ---- the tree
 
+-- the reads of a file, if it has this number
 abbrev pub reads_of_row : ℕ → Readings → FileRow → List Observation
 reads_of_row number readings file =
     if file.record.id == number then reads_in file.record.path file.entry (reading_of readings file) else []
 
+-- the reads of the file with this number
 abbrev pub reads_of_files : ℕ → Readings → List FileRow → List Observation
 reads_of_files number readings files = flat_map (reads_of_row number readings) files
 
@@ -98,6 +106,7 @@ is_counted_row (rows.File place) = true
 
 -- ---- whether something was skipped
 
+-- it was skipped as a symbolic link
 abbrev pub is_link_reason : Skipped → Bool
 is_link_reason reasons.Link = true
 is_link_reason _ = false

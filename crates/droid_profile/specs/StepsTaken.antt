@@ -39,6 +39,7 @@ many = 2 ^ 64
 abbrev pub left_of : ℕ → ℕ → ℕ → ℕ
 left_of waiting number entries = (waiting + (4294967295 - number)) * many + entries
 
+-- the same of what is left in this moment
 abbrev pub scan_left : Scan → ℕ
 scan_left scan = left_of (length scan.waiting.items) scan.number (length scan.entries.items)
 
@@ -97,6 +98,7 @@ pub record ClosesFolder {T : Type 0} (observes : T → Observation → T → Typ
   pub rows_are : after ≡ before ++ left_row scan.folder.path entry reasons.Unreadable ∷ []
   pub scan_is : scan_after ≡ scan
 
+-- either, by whether the folder can be listed
 abbrev pub TakesFolder : {T : Type 0} → (T → Observation → T → Type 0) → FolderEntry → Scan → Scan → List Row → List Row
     → T → T → Type 0
 TakesFolder observes entry scan scan_after before after tree tree_after =

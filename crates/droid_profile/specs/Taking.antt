@@ -43,6 +43,7 @@ ListGoes contents seen (Some old) None pending pending_after added = ⊥
 ListGoes contents seen (Some old) (Some new) pending pending_after added =
     Goes contents seen old new pending pending_after added
 
+-- the list's writer stopped, so there is one
 abbrev pub ListBreaks : {M : Type 0} → (M → Option (List ℕ)) → (M → Seen) → (M → Option ℕ) → Option M → Option M
     → List ℕ → List ℕ → Type 0
 ListBreaks contents seen room None new pending added = ⊥

@@ -19,13 +19,16 @@ end_left false = 4
 abbrev pub file_left : FileLane → ℕ
 file_left lane = length (drop lane.hashed lane.buffer.items) + (2 * (far - lane.from) + end_left lane.at_end)
 
+-- only a busy lane has something left
 abbrev pub if_busy : Bool → ℕ → ℕ
 if_busy true left = left
 if_busy false left = 0
 
+-- what is left of a lane's file
 abbrev pub lane_left : FileLane → ℕ
 lane_left lane = if_busy lane.busy (file_left lane)
 
+-- what is left in all lanes
 abbrev pub lanes_left : List FileLane → ℕ
 lanes_left [] = 0
 lanes_left (lane ∷ lanes) = lane_left lane + lanes_left lanes
@@ -35,6 +38,7 @@ abbrev pub waiting_left : List ℕ → ℕ
 waiting_left [] = 0
 waiting_left (place ∷ places) = (2 * far + 5) + waiting_left places
 
+-- what is left of a batch: it lessens with each turn, so the turns end
 abbrev pub batch_left : Batch → ℕ
 batch_left batch = waiting_left batch.waiting.items + lanes_left batch.lanes.items
 
@@ -67,6 +71,7 @@ IsNotDue lane = lane.busy ≡ true → lane.at_end ≡ false → HasRest lane
 abbrev pub IsServed : List ℕ → FileLane → Type 0
 IsServed waiting lane = lane.busy ≡ false → waiting ≡ []
 
+-- P holds of the lane with this number
 abbrev pub At : List FileLane → ℕ → (FileLane → Type 0) → Type 0
 At lanes j P = (lane : FileLane) → slice_get lanes j ≡ Some lane → P lane
 

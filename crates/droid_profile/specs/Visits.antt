@@ -42,6 +42,7 @@ IsVisit visit = IsBegun [] visit
 abbrev pub is_complete : Visit → Bool
 is_complete visit = list_all is_done visit.kids
 
+-- the folders that were found in it, in order
 abbrev pub subfolders_of : Visit → List PendingFolder
 subfolders_of visit = flat_map (subfolders_of_kid visit.folder.path) visit.kids
 
@@ -53,6 +54,7 @@ InTurn [] (visit ∷ visits) left = ⊥
 InTurn (folder ∷ waiting) (visit ∷ visits) left =
     (visit.folder ≡ folder) × InTurn (waiting ++ subfolders_of visit) visits left
 
+-- the numbers that its entries got, in order
 abbrev pub numbers_of : Visit → List ℕ
 numbers_of visit = flat_map numbers_in visit.kids
 
@@ -79,9 +81,11 @@ abbrev pub heard_of_listing : List ℕ → Option (List FolderEntry) → List He
 heard_of_listing path None = Left path reasons.Unreadable ∷ []
 heard_of_listing path (Some observed) = []
 
+-- that an entry has the name of another one
 abbrev pub heard_of_repeated : List ℕ → List FolderEntry → List Heard
 heard_of_repeated path repeated = map (λ (entry : FolderEntry). Left (below path entry.name) reasons.SameName) repeated
 
+-- what the watcher learns of a folder: whether it could be listed, the repeated names, and then each entry
 abbrev pub heard_of_visit : Contents → Options → Visit → List Heard
 heard_of_visit registry options visit =
     heard_of_listing visit.folder.path visit.observed

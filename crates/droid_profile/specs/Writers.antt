@@ -26,12 +26,14 @@ Lists contents None (Some new) text = ⊥
 Lists contents (Some old) None text = ⊥
 Lists contents (Some old) (Some new) text = Appends (contents old) (contents new) text
 
+-- the same, of some first bytes of the text
 abbrev pub ListsSome : {M : Type 0} → (M → Option (List ℕ)) → Option M → Option M → List ℕ → Type 0
 ListsSome contents None None text = Unit {0}
 ListsSome contents None (Some new) text = ⊥
 ListsSome contents (Some old) None text = ⊥
 ListsSome contents (Some old) (Some new) text = AppendsSome (contents old) (contents new) text
 
+-- the same, of not all bytes of the text, so that there is a writer
 abbrev pub ListsNotAll : {M : Type 0} → (M → Option (List ℕ)) → Option M → Option M → List ℕ → Type 0
 ListsNotAll contents None new text = ⊥
 ListsNotAll contents (Some old) None text = ⊥

@@ -130,6 +130,7 @@ abbrev pub ReportsManifest : Seen → Seen → Option ℕ → Result Bool CsvFau
 ReportsManifest old new room (Err faults.Manifest) = Stops old new room
 ReportsManifest old new room _ = LastsOn old new
 
+-- the same, if there is a list
 abbrev pub ReportsList : {M : Type 0} → (M → Seen) → (M → Option ℕ) → Option M → Option M → Result Bool CsvFault
     → Type 0
 ReportsList seen room None None result = Unit {0}

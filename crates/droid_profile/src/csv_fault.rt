@@ -3,24 +3,19 @@
 ghost use Rattle.std.specs.Prelude.{◌≡◌};
 
 use std::alloc::AllocError;
-use thiserror::Error;
 
 /// Why the profile of a tree was not written, or only in part.
 ///
 /// After a fault of the first two kinds, all rows and lines of the records that were taken are written.
-#[derive(Clone, Copy, Debug, PartialEq, Eq, Error)]
+#[derive(Clone, Copy, PartialEq, Eq)]
 pub enum CsvFault {
     /// Out of memory.
-    #[error("out of memory")]
     Memory,
     /// There are more than 4,294,967,295 folders and files.
-    #[error("there are too many folders and files")]
     Numbers,
     /// The CSV could not be written: its writer stopped.
-    #[error("the CSV could not be written")]
     Csv,
     /// The list of checksums could not be written: its writer stopped.
-    #[error("the list of checksums could not be written")]
     Manifest,
 }
 

@@ -56,7 +56,7 @@ pub(crate) fn hand_out<W: Watcher, R: Recipient>(
     Ok(whole)
 }
 
-/// Returns whether both are true.
+/// Returns whether both are true. A function, so that the proofs of the loops that call it do not split.
 pub(crate) fn both(first: bool, second: bool) -> bool
     ensures { result ≡ (first && second) }
 {
@@ -143,6 +143,7 @@ fn hand_file<W: Watcher, R: Recipient>(
             watcher.took_file(file.record.path.as_str(), &found);
             Ok(true)
         }
+        // Never so: every file of the batch was read.
         FileState::Waits | FileState::InLane(_) => Ok(false),
     }
 }
@@ -160,7 +161,7 @@ fn give<R: Recipient>(recipient: &mut R, shown: &Record) -> Result<(), ProfileFa
     }
 }
 
-/// Returns what a service replies when it has finished the file.
+/// Returns what a service replies when it has finished the file: the watcher learns it in that form.
 fn reply_of(alloc: Global, shown: &Record) -> Result<Reply, AllocError>
     ensures { IfOk result (λ reply.
         reply ≡ replies.Finished shown.now.method shown.now.mismatch shown.now.hash shown.now.puids) }

@@ -2,19 +2,15 @@
 
 use crate::recipient::RecipientFault;
 use std::alloc::AllocError;
-use thiserror::Error;
 
 /// Why the profiling of a tree ended early.
-#[derive(Clone, Copy, Debug, PartialEq, Eq, Error)]
+#[derive(Clone, Copy)]
 pub enum ProfileFault {
     /// Out of memory.
-    #[error("out of memory")]
     Memory,
     /// There are more than 4,294,967,295 folders and files.
-    #[error("there are too many folders and files")]
     Numbers,
     /// The recipient did not take a record.
-    #[error("a record was not taken")]
     Recipient(RecipientFault),
 }
 

@@ -6,16 +6,13 @@ ghost use Rattle.droid_frame.specs.declared.record.Record.{Record};
 ghost use Rattle.droid_profile.specs.declared.recipient.RecipientFault.{RecipientFault};
 
 use droid_frame::{Record, WriteFault};
-use thiserror::Error;
 
 /// Why a recipient could not take a record.
-#[derive(Clone, Copy, Debug, PartialEq, Eq, Error)]
+#[derive(Clone, Copy)]
 pub enum RecipientFault {
     /// Out of memory.
-    #[error("out of memory")]
     Memory,
     /// What is made of the records could not be written.
-    #[error("the profile could not be written")]
     Write(WriteFault),
 }
 

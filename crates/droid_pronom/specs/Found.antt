@@ -47,11 +47,12 @@ pub record HitsFromEnd (sequence : ByteSequence) (file : List ℕ) (scan_limit :
   pub inside : offset + count ≤ min scan_limit (length file)
   pub matched : Lang sequence.pattern (take count (drop (length file - (offset + count)) file))
 
--- a byte sequence hits in a file under a scan limit
+-- a byte sequence with this anchor hits in a file under a scan limit
 abbrev pub HitsFrom : Anchor → ByteSequence → List ℕ → ℕ → Type 0
 HitsFrom Bof = HitsFromStart
 HitsFrom Eof = HitsFromEnd
 
+-- a byte sequence hits in a file under a scan limit
 abbrev pub Hits : List ℕ → ℕ → ByteSequence → Type 0
 Hits file scan_limit sequence = HitsFrom sequence.offsets.anchor sequence file scan_limit
 

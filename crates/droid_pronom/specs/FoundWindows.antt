@@ -6,11 +6,12 @@ use Rattle.droid_pronom.specs.declared.rows.Anchor.{Anchor}
 use Rattle.droid_pronom.specs.declared.rows.Anchor.TheVariants.{Bof, Eof}
 use Rattle.droid_pronom.specs.declared.rows.ByteSequence.{ByteSequence}
 
--- a byte sequence hits in the first and last bytes of a file
+-- a byte sequence with this anchor hits in the first and last bytes of a file
 abbrev pub HitsWindowsFrom : Anchor → List ℕ → List ℕ → ByteSequence → Type 0
 HitsWindowsFrom Bof first last sequence = BeginsWithin sequence.pattern first sequence.offsets.min sequence.offsets.max
 HitsWindowsFrom Eof first last sequence = EndsWithin sequence.pattern last sequence.offsets.min sequence.offsets.max
 
+-- a byte sequence hits in the first and last bytes of a file
 abbrev pub HitsWindows : List ℕ → List ℕ → ByteSequence → Type 0
 HitsWindows first last sequence = HitsWindowsFrom sequence.offsets.anchor first last sequence
 

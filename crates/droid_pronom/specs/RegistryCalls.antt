@@ -30,6 +30,7 @@ kind_is kinds.Priority = kind.Priority
 kind_is kinds.Signature = kind.Signature
 kind_is kinds.Sequence = kind.Sequence
 
+-- the fault of a record, as the definitions of the file name it
 abbrev pub fault_of : Fault → RecordFault
 fault_of faults.NotUtf8 = record_fault.NotUtf8
 fault_of faults.BadRecord = record_fault.BadRecord
@@ -38,11 +39,12 @@ fault_of faults.UnknownPuid = record_fault.UnknownPuid
 fault_of faults.DuplicatePuid = record_fault.DuplicatePuid
 fault_of faults.TooMany = record_fault.TooMany
 
--- the result of a call, seen through `view`, is the expected one, unless memory ran out
+-- a refused call: the expected result is this fault, unless memory ran out
 abbrev pub Refuses : {Y : Type 0} → Refusal → Result Y RecordFault → Type 0
 Refuses refusals.Memory expected = ⊤
 Refuses (refusals.Fault fault) expected = expected ≡ Err (fault_of fault)
 
+-- the result of a call, seen through `view`, is the expected one, unless memory ran out
 abbrev pub Gives : {X Y : Type 0} → (X → Y) → Result X Refusal → Result Y RecordFault → Type 0
 Gives view (Ok x) expected = expected ≡ Ok (view x)
 Gives view (Err refusal) expected = Refuses refusal expected

@@ -60,6 +60,7 @@ offsets_between (Some anchor) (Some min) None = None
 offsets_between (Some anchor) None max = None
 offsets_between None min max = None
 
+-- the offsets that three fields spell
 abbrev pub offsets_of : List ℕ → List ℕ → List ℕ → Option Offsets
 offsets_of anchor min max = offsets_between (anchor_of anchor) (number_of min) (number_of max)
 

@@ -28,5 +28,6 @@ extended sequence [] = []
 extended sequence (last ∷ []) = record last { sequences = last.sequences ++ sequence ∷ [] } ∷ []
 extended sequence (first ∷ second ∷ more) = first ∷ extended sequence (second ∷ more)
 
+-- the registry with one more byte sequence of its last signature
 abbrev pub with_sequence : Contents → ByteSequence → Contents
 with_sequence registry sequence = record registry { signatures = extended sequence registry.signatures }

@@ -29,6 +29,7 @@ pub record Draft : Type 0 where
   pub sequences : ℕ
   pub current : Option ℕ
 
+-- the next step, unless the one before it found a fault
 infixl 10 ◌>>=◌
 abbrev pub ◌>>=◌ : {A B : Type 0} → Result A RecordFault → (A → Result B RecordFault) → Result B RecordFault
 (Ok x) >>= f = f x

@@ -1,7 +1,8 @@
 //! The registry of everyday formats, which the program has in itself: registries/common.csv, written here by
 //! tools/embed.py.
 
-/// The bytes of the registry, a file of 1,372 records. It takes no memory.
+/// Returns the bytes of the registry, a file of 1,694 records. Allocates nothing. It has no contract: the tests run
+/// `tools/embed.py --check`, which compares the bytes with the file.
 pub fn common_registry() -> &'static [u8] {
     COMMON.as_bytes()
 }
@@ -22,10 +23,10 @@ S,fmt/12,BOF,0,0,89504E470D0A1A0A0000000D49484452{17-*}[00:7F]??????(69434350|73
 F,fmt/13,Portable Network Graphics,1.2,image/png,
 E,fmt/13,png,,,
 S,fmt/13,BOF,0,0,89504E470D0A1A0A0000000D49484452{17-*}[00:7F]??????69545874
-F,movkrin/apng,Animated Portable Network Graphics,,image/apng,
-E,movkrin/apng,png,,,
-E,movkrin/apng,apng,,,
-S,movkrin/apng,BOF,0,0,89504E470D0A1A0A0000000D49484452{17-*}000000086163544C
+F,fmt/935,Animated Portable Network Graphics,,image/apng,
+E,fmt/935,png,,,
+E,fmt/935,apng,,,
+S,fmt/935,BOF,0,0,89504E470D0A1A0A0000000D49484452{17-*}000000086163544C
 F,fmt/41,Raw JPEG Stream,,image/jpeg,
 E,fmt/41,jpg,,,
 E,fmt/41,jpeg,,,
@@ -81,10 +82,10 @@ S,fmt/645,BOF,0,0,FFD8FFE1{2}4578696600004D4D002A*900000070000000430323231
 F,x-fmt/392,JPEG 2000 JP2,,image/jp2,
 E,x-fmt/392,jp2,,,
 S,x-fmt/392,BOF,0,0,0000000C6A5020200D0A870A{4}667479706A703220
-F,movkrin/jpx,JPEG 2000 JPX,,image/jpx,
-E,movkrin/jpx,jpx,,,
-E,movkrin/jpx,jpf,,,
-S,movkrin/jpx,BOF,0,0,0000000C6A5020200D0A870A{4}667479706A707820
+F,fmt/151,JPEG 2000 JPX,,image/jpx,
+E,fmt/151,jpx,,,
+E,fmt/151,jpf,,,
+S,fmt/151,BOF,0,0,0000000C6A5020200D0A870A{4}667479706A707820
 F,movkrin/j2c,JPEG 2000 codestream,,image/j2c,
 E,movkrin/j2c,j2c,,,
 E,movkrin/j2c,j2k,,,
@@ -114,6 +115,45 @@ F,movkrin/dng,Digital Negative,,image/x-adobe-dng,
 E,movkrin/dng,dng,,,
 S,movkrin/dng,BOF,0,0,49492A00*12C6010004000000
 S,movkrin/dng,BOF,0,0,4D4D002A*C612000100000004
+F,fmt/592,Canon RAW,2.0,image/x-canon-cr2,
+E,fmt/592,cr2,,,
+S,fmt/592,BOF,0,0,49492A001000000043520200
+F,movkrin/cr3,Canon RAW,3,image/x-canon-cr3,
+E,movkrin/cr3,cr3,,,
+S,movkrin/cr3,BOF,0,0,000000??6674797063727820
+F,movkrin/crw,\"Canon RAW, CIFF\",,image/x-canon-crw,
+E,movkrin/crw,crw,,,
+S,movkrin/crw,BOF,0,0,49491A00000048454150434344520200
+F,fmt/202,Nikon RAW,,image/x-nikon-nef,
+E,fmt/202,nef,,,
+E,fmt/202,nrw,,,
+S,fmt/202,BOF,0,0,49492A00*030103000100000099870000
+S,fmt/202,BOF,0,0,4D4D002A*010300030000000187990000
+F,movkrin/arw,Sony RAW,,image/x-sony-arw,
+E,movkrin/arw,arw,,,
+E,movkrin/arw,sr2,,,
+S,movkrin/arw,BOF,0,0,49492A00*0301030001000000FF7F0000
+F,movkrin/pef,Pentax RAW,,image/x-pentax-pef,
+E,movkrin/pef,pef,,,
+S,movkrin/pef,BOF,0,0,4D4D002A*0103000300000001FFFF0000
+F,movkrin/orf,Olympus RAW,,image/x-olympus-orf,
+E,movkrin/orf,orf,,,
+S,movkrin/orf,BOF,0,0,494952(4F|53)08000000
+S,movkrin/orf,BOF,0,0,4D4D4F5200000008
+F,movkrin/rw2,Panasonic RAW,,image/x-panasonic-rw2,
+E,movkrin/rw2,rw2,,,
+E,movkrin/rw2,rwl,,,
+E,movkrin/rw2,raw,,,
+S,movkrin/rw2,BOF,0,0,494955001800000088E774D8F8251D4D947A6E77822B5D6A
+F,movkrin/raf,Fujifilm RAW,,image/x-fuji-raf,
+E,movkrin/raf,raf,,,
+S,movkrin/raf,BOF,0,0,46554A4946494C4D4343442D52415720[30:39][30:39][30:39][30:39]
+F,movkrin/x3f,Sigma RAW,,image/x-sigma-x3f,
+E,movkrin/x3f,x3f,,,
+S,movkrin/x3f,BOF,0,0,464F5662[00:0F]00(02|03|04)00
+F,movkrin/mrw,Minolta RAW,,image/x-minolta-mrw,
+E,movkrin/mrw,mrw,,,
+S,movkrin/mrw,BOF,0,0,004D524D{4}0050524400000018
 F,fmt/566,WebP,lossy,image/webp,
 E,fmt/566,webp,,,
 S,fmt/566,BOF,0,0,52494646{4}5745425056503820
@@ -143,12 +183,12 @@ F,fmt/119,Windows Bitmap,5.0,image/bmp,
 E,fmt/119,bmp,,,
 E,fmt/119,dib,,,
 S,fmt/119,BOF,0,0,424D{12}7C000000{8}0100[00:20]00
-F,movkrin/ico,Windows icon,,image/vnd.microsoft.icon,
-E,movkrin/ico,ico,,,
-S,movkrin/ico,BOF,0,0,00000100[01:FF]00{3}00(00|01)00(00|01|04|08|10|18|20)00
-F,movkrin/cur,Windows cursor,,image/x-win-bitmap,
-E,movkrin/cur,cur,,,
-S,movkrin/cur,BOF,0,0,00000200[01:FF]00{3}00??00??00
+F,x-fmt/418,Windows icon,,image/vnd.microsoft.icon,
+E,x-fmt/418,ico,,,
+S,x-fmt/418,BOF,0,0,00000100[01:FF]00{3}00(00|01)00(00|01|04|08|10|18|20)00
+F,fmt/385,Windows cursor,,image/x-win-bitmap,
+E,fmt/385,cur,,,
+S,fmt/385,BOF,0,0,00000200[01:FF]00{3}00??00??00
 F,x-fmt/92,Adobe Photoshop,,image/vnd.adobe.photoshop,
 E,x-fmt/92,psd,,,
 S,x-fmt/92,BOF,0,0,38425053000100000000000000[01:38]
@@ -167,12 +207,50 @@ S,movkrin/qoi,BOF,0,0,716F6966{8}(03|04)(00|01)
 F,movkrin/dds,DirectDraw Surface,,image/vnd.ms-dds,
 E,movkrin/dds,dds,,,
 S,movkrin/dds,BOF,0,0,444453207C000000
-F,movkrin/tga-2,Truevision TGA,2.0,image/x-tga,
-E,movkrin/tga-2,tga,,,
-E,movkrin/tga-2,icb,,,
-E,movkrin/tga-2,vda,,,
-E,movkrin/tga-2,vst,,,
-S,movkrin/tga-2,EOF,0,0,54525545564953494F4E2D5846494C452E00
+F,fmt/86,PCX,0,image/vnd.zbrush.pcx,
+E,fmt/86,pcx,,,
+S,fmt/86,BOF,0,0,0A00(00|01)(01|02|04|08){60}00[01:04]{2}[00:02]00
+F,fmt/87,PCX,2,image/vnd.zbrush.pcx,
+E,fmt/87,pcx,,,
+S,fmt/87,BOF,0,0,0A02(00|01)(01|02|04|08){60}00[01:04]{2}[00:02]00
+F,fmt/88,PCX,3,image/vnd.zbrush.pcx,
+E,fmt/88,pcx,,,
+S,fmt/88,BOF,0,0,0A03(00|01)(01|02|04|08){60}00[01:04]{2}[00:02]00
+F,fmt/89,PCX,4,image/vnd.zbrush.pcx,
+E,fmt/89,pcx,,,
+S,fmt/89,BOF,0,0,0A04(00|01)(01|02|04|08){60}00[01:04]{2}[00:02]00
+F,fmt/90,PCX,5,image/vnd.zbrush.pcx,
+E,fmt/90,pcx,,,
+S,fmt/90,BOF,0,0,0A05(00|01)(01|02|04|08){60}00[01:04]{2}[00:02]00
+F,x-fmt/367,Truevision TGA,1.0,image/x-tga,
+E,x-fmt/367,tga,,,
+E,x-fmt/367,icb,,,
+E,x-fmt/367,vda,,,
+E,x-fmt/367,vst,,,
+S,x-fmt/367,BOF,0,0,??00(02|0A)0000000000{4}[01:FF][00:3F][01:FF][00:3F](0F|10|18|20)(00|01|08|20|21|28)
+S,x-fmt/367,BOF,0,0,??00(02|0A)0000000000{4}[01:FF][00:3F]00[01:3F](0F|10|18|20)(00|01|08|20|21|28)
+S,x-fmt/367,BOF,0,0,??00(02|0A)0000000000{4}00[01:3F][01:FF][00:3F](0F|10|18|20)(00|01|08|20|21|28)
+S,x-fmt/367,BOF,0,0,??00(02|0A)0000000000{4}00[01:3F]00[01:3F](0F|10|18|20)(00|01|08|20|21|28)
+S,x-fmt/367,BOF,0,0,??00(03|0B)0000000000{4}[01:FF][00:3F][01:FF][00:3F](08|10)(00|08|20|28)
+S,x-fmt/367,BOF,0,0,??00(03|0B)0000000000{4}[01:FF][00:3F]00[01:3F](08|10)(00|08|20|28)
+S,x-fmt/367,BOF,0,0,??00(03|0B)0000000000{4}00[01:3F][01:FF][00:3F](08|10)(00|08|20|28)
+S,x-fmt/367,BOF,0,0,??00(03|0B)0000000000{4}00[01:3F]00[01:3F](08|10)(00|08|20|28)
+S,x-fmt/367,BOF,0,0,??01(01|09)0000??(00|01)(0F|10|18|20){4}[01:FF][00:3F][01:FF][00:3F]08(00|20)
+S,x-fmt/367,BOF,0,0,??01(01|09)0000??(00|01)(0F|10|18|20){4}[01:FF][00:3F]00[01:3F]08(00|20)
+S,x-fmt/367,BOF,0,0,??01(01|09)0000??(00|01)(0F|10|18|20){4}00[01:3F][01:FF][00:3F]08(00|20)
+S,x-fmt/367,BOF,0,0,??01(01|09)0000??(00|01)(0F|10|18|20){4}00[01:3F]00[01:3F]08(00|20)
+F,fmt/402,Truevision TGA,2.0,image/x-tga,
+E,fmt/402,tga,,,
+E,fmt/402,icb,,,
+E,fmt/402,vda,,,
+E,fmt/402,vst,,,
+S,fmt/402,EOF,0,0,54525545564953494F4E2D5846494C452E00
+F,fmt/193,Digital Moving Picture Exchange,1.0,image/x-dpx,
+E,fmt/193,dpx,,,
+S,fmt/193,BOF,0,0,(53445058|58504453){4}56312E30
+F,fmt/541,Digital Moving Picture Exchange,2.0,image/x-dpx,
+E,fmt/541,dpx,,,
+S,fmt/541,BOF,0,0,(53445058|58504453){4}56322E30
 F,movkrin/pbm,Portable Bitmap,,image/x-portable-bitmap,
 E,movkrin/pbm,pbm,,,
 S,movkrin/pbm,BOF,0,0,50(31|34)(0A|0D0A|20|09)(23|30|31|32|33|34|35|36|37|38|39)
@@ -190,19 +268,19 @@ E,movkrin/ilbm,iff,,,
 E,movkrin/ilbm,lbm,,,
 E,movkrin/ilbm,ilbm,,,
 S,movkrin/ilbm,BOF,0,0,464F524D{4}494C424D
-F,movkrin/djvu,DjVu,,image/vnd.djvu,
-E,movkrin/djvu,djvu,,,
-E,movkrin/djvu,djv,,,
-S,movkrin/djvu,BOF,0,0,41542654464F524D{4}444A56(55|4D)
+F,fmt/255,DjVu,,image/vnd.djvu,
+E,fmt/255,djvu,,,
+E,fmt/255,djv,,,
+S,fmt/255,BOF,0,0,41542654464F524D{4}444A56(55|4D)
 F,fmt/574,Digital Imaging and Communications in Medicine,,application/dicom,
 E,fmt/574,dcm,,,
 E,fmt/574,dic,,,
 S,fmt/574,BOF,128,128,4449434D0200
-F,movkrin/fits,Flexible Image Transport System,,image/fits,
-E,movkrin/fits,fits,,,
-E,movkrin/fits,fit,,,
-E,movkrin/fits,fts,,,
-S,movkrin/fits,BOF,0,0,53494D504C4520203D202020202020202020202020202020202020202054
+F,x-fmt/383,Flexible Image Transport System,,image/fits,
+E,x-fmt/383,fits,,,
+E,x-fmt/383,fit,,,
+E,x-fmt/383,fts,,,
+S,x-fmt/383,BOF,0,0,53494D504C4520203D202020202020202020202020202020202020202054
 F,movkrin/heic,\"High Efficiency Image File, HEVC\",,image/heic,
 E,movkrin/heic,heic,,,
 E,movkrin/heic,heif,,,
@@ -216,10 +294,10 @@ S,movkrin/heif,BOF,0,0,0000????667479706D696631
 F,movkrin/avif,AV1 Image File,,image/avif,
 E,movkrin/avif,avif,,,
 S,movkrin/avif,BOF,0,0,0000????66747970617669(66|73)
-F,movkrin/wmf,Windows Metafile,,image/wmf,
-E,movkrin/wmf,wmf,,,
-S,movkrin/wmf,BOF,0,0,D7CDC69A0000
-S,movkrin/wmf,BOF,0,0,(0100|0200)0900(0001|0003)
+F,x-fmt/119,Windows Metafile,,image/wmf,
+E,x-fmt/119,wmf,,,
+S,x-fmt/119,BOF,0,0,D7CDC69A0000
+S,x-fmt/119,BOF,0,0,(0100|0200)0900(0001|0003)
 F,movkrin/emf,Enhanced Metafile,,image/emf,
 E,movkrin/emf,emf,,,
 S,movkrin/emf,BOF,0,0,01000000{36}20454D46
@@ -325,6 +403,8 @@ E,movkrin/postscript,ps,,,
 E,movkrin/postscript,ai,,,
 S,movkrin/postscript,BOF,0,0,25215053
 S,movkrin/postscript,BOF,0,0,0425215053
+S,movkrin/postscript,BOF,0,0,2521(0A|0D)
+B,movkrin/postscript,BOF,3,65535,(73686F7770616765|6D6F7665746F|66696E64666F6E74|62696E6420646566)
 F,movkrin/eps,Encapsulated PostScript,,application/postscript,
 E,movkrin/eps,eps,,,
 E,movkrin/eps,epsf,,,
@@ -374,10 +454,75 @@ E,fmt/111,mpp,,,
 E,fmt/111,db,,,
 E,fmt/111,wps,,,
 S,fmt/111,BOF,0,0,D0CF11E0A1B11AE1{18}(0300|0400)FEFF
-F,movkrin/pst,Outlook personal folders,,application/vnd.ms-outlook,
-E,movkrin/pst,pst,,,
-E,movkrin/pst,ost,,,
-S,movkrin/pst,BOF,0,0,2142444E{4}534D
+F,fmt/39,Microsoft Word Document,6.0/95,application/msword,
+E,fmt/39,doc,,,
+E,fmt/39,dot,,,
+S,fmt/39,BOF,0,0,D0CF11E0A1B11AE1
+B,fmt/39,BOF,512,65535,DCA5(65|66|67|68|69)00{8}(65|66|67|68|69)00
+B,fmt/39,BOF,512,65535,5200{62}(1600|0200)05(00|01){12}(0009020000000000C000000000000046|0609020000000000C000000000000046|00000000000000000000000000000000)*57006F007200640044006F00630075006D0065006E007400{40}1A0002(00|01)
+S,fmt/39,BOF,0,0,D0CF11E0A1B11AE1
+B,fmt/39,BOF,512,65535,DCA5(65|66|67|68|69)00{8}(65|66|67|68|69)00
+B,fmt/39,EOF,0,65535,5200{62}(1600|0200)05(00|01){12}(0009020000000000C000000000000046|0609020000000000C000000000000046|00000000000000000000000000000000)*57006F007200640044006F00630075006D0065006E007400{40}1A0002(00|01)
+F,fmt/40,Microsoft Word Document,97-2003,application/msword,
+E,fmt/40,doc,,,
+E,fmt/40,dot,,,
+S,fmt/40,BOF,0,0,D0CF11E0A1B11AE1
+B,fmt/40,BOF,512,65535,5200{62}(1600|0200)05(00|01){12}(0609020000000000C000000000000046|0009020000000000C000000000000046|00000000000000000000000000000000)*57006F007200640044006F00630075006D0065006E007400{40}1A0002(00|01)
+S,fmt/40,BOF,0,0,D0CF11E0A1B11AE1
+B,fmt/40,EOF,0,65535,5200{62}(1600|0200)05(00|01){12}(0609020000000000C000000000000046|0009020000000000C000000000000046|00000000000000000000000000000000)*57006F007200640044006F00630075006D0065006E007400{40}1A0002(00|01)
+F,fmt/59,Microsoft Excel Workbook,5.0/95,application/vnd.ms-excel,
+E,fmt/59,xls,,,
+E,fmt/59,xlt,,,
+E,fmt/59,xla,,,
+S,fmt/59,BOF,0,0,D0CF11E0A1B11AE1
+B,fmt/59,BOF,512,65535,5200{62}(1600|0200)05(00|01){12}(1008020000000000C000000000000046|1108020000000000C000000000000046|2008020000000000C000000000000046|00000000000000000000000000000000)*42006F006F006B00{56}0A0002(00|01)
+S,fmt/59,BOF,0,0,D0CF11E0A1B11AE1
+B,fmt/59,EOF,0,65535,5200{62}(1600|0200)05(00|01){12}(1008020000000000C000000000000046|1108020000000000C000000000000046|2008020000000000C000000000000046|00000000000000000000000000000000)*42006F006F006B00{56}0A0002(00|01)
+F,movkrin/xls,Microsoft Excel Workbook,97-2003,application/vnd.ms-excel,
+E,movkrin/xls,xls,,,
+E,movkrin/xls,xlt,,,
+E,movkrin/xls,xla,,,
+S,movkrin/xls,BOF,0,0,D0CF11E0A1B11AE1
+B,movkrin/xls,BOF,512,65535,5200{62}(1600|0200)05(00|01){12}(2008020000000000C000000000000046|2108020000000000C000000000000046|1008020000000000C000000000000046|1108020000000000C000000000000046|00000000000000000000000000000000)*57006F0072006B0062006F006F006B00{48}120002(00|01)
+S,movkrin/xls,BOF,0,0,D0CF11E0A1B11AE1
+B,movkrin/xls,EOF,0,65535,5200{62}(1600|0200)05(00|01){12}(2008020000000000C000000000000046|2108020000000000C000000000000046|1008020000000000C000000000000046|1108020000000000C000000000000046|00000000000000000000000000000000)*57006F0072006B0062006F006F006B00{48}120002(00|01)
+F,fmt/126,Microsoft PowerPoint Presentation,97-2003,application/vnd.ms-powerpoint,
+E,fmt/126,ppt,,,
+E,fmt/126,pot,,,
+E,fmt/126,pps,,,
+E,fmt/126,ppa,,,
+S,fmt/126,BOF,0,0,D0CF11E0A1B11AE1
+B,fmt/126,BOF,512,65535,5200{62}(1600|0200)05(00|01){12}(108D81649B4FCF1186EA00AA00B929E8|70AE7BEA3BFBCD11A90300AA00510EA3|00000000000000000000000000000000)*50006F0077006500720050006F0069006E007400200044006F00630075006D0065006E007400{26}280002(00|01)
+S,fmt/126,BOF,0,0,D0CF11E0A1B11AE1
+B,fmt/126,EOF,0,65535,5200{62}(1600|0200)05(00|01){12}(108D81649B4FCF1186EA00AA00B929E8|70AE7BEA3BFBCD11A90300AA00510EA3|00000000000000000000000000000000)*50006F0077006500720050006F0069006E007400200044006F00630075006D0065006E007400{26}280002(00|01)
+F,x-fmt/430,Microsoft Outlook Email Message,97-2003,application/vnd.ms-outlook,
+E,x-fmt/430,msg,,,
+S,x-fmt/430,BOF,0,0,D0CF11E0A1B11AE1
+B,x-fmt/430,BOF,512,65535,5200{62}(1600|0200)05(00|01){12}(0B0D020000000000C000000000000046|00000000000000000000000000000000)*5F005F00700072006F0070006500720074006900650073005F00760065007200730069006F006E0031002E003000{18}300002(00|01)
+S,x-fmt/430,BOF,0,0,D0CF11E0A1B11AE1
+B,x-fmt/430,EOF,0,65535,5200{62}(1600|0200)05(00|01){12}(0B0D020000000000C000000000000046|00000000000000000000000000000000)*5F005F00700072006F0070006500720074006900650073005F00760065007200730069006F006E0031002E003000{18}300002(00|01)
+F,movkrin/pub,Microsoft Publisher,,application/x-mspublisher,
+E,movkrin/pub,pub,,,
+S,movkrin/pub,BOF,0,0,D0CF11E0A1B11AE1
+B,movkrin/pub,BOF,512,65535,5200{62}(1600|0200)05(00|01)*5100750069006C006C00530075006200{48}120001(00|01)
+S,movkrin/pub,BOF,0,0,D0CF11E0A1B11AE1
+B,movkrin/pub,EOF,0,65535,5200{62}(1600|0200)05(00|01)*5100750069006C006C00530075006200{48}120001(00|01)
+F,movkrin/vsd,Microsoft Visio Drawing,,application/vnd.visio,
+E,movkrin/vsd,vsd,,,
+E,movkrin/vsd,vst,,,
+E,movkrin/vsd,vss,,,
+S,movkrin/vsd,BOF,0,0,D0CF11E0A1B11AE1
+B,movkrin/vsd,BOF,512,65535,5200{62}(1600|0200)05(00|01){12}(131A020000000000C000000000000046|141A020000000000C000000000000046|00000000000000000000000000000000)*56006900730069006F0044006F00630075006D0065006E007400{38}1C0002(00|01)
+S,movkrin/vsd,BOF,0,0,D0CF11E0A1B11AE1
+B,movkrin/vsd,EOF,0,65535,5200{62}(1600|0200)05(00|01){12}(131A020000000000C000000000000046|141A020000000000C000000000000046|00000000000000000000000000000000)*56006900730069006F0044006F00630075006D0065006E007400{38}1C0002(00|01)
+F,x-fmt/248,Microsoft Outlook Personal Folders (ANSI),97-2002,application/vnd.ms-outlook,
+E,x-fmt/248,pst,,,
+E,x-fmt/248,ost,,,
+S,x-fmt/248,BOF,0,0,2142444E{4}534D(0E|0F)00
+F,x-fmt/249,Microsoft Outlook Personal Folders (Unicode),2003-2007,application/vnd.ms-outlook,
+E,x-fmt/249,pst,,,
+E,x-fmt/249,ost,,,
+S,x-fmt/249,BOF,0,0,2142444E{4}534D[17:24]00
 F,movkrin/onenote,OneNote section,,application/onenote,
 E,movkrin/onenote,one,,,
 S,movkrin/onenote,BOF,0,0,E4525C7B8CD8A74DAEB15378D02996D3
@@ -406,37 +551,43 @@ B,fmt/215,EOF,22,65535,504B0102{24}1300{16}5B436F6E74656E745F54797065735D2E786D6
 B,fmt/215,EOF,22,65535,504B0102{24}1400{16}7070742F70726573656E746174696F6E2E786D6C
 S,fmt/215,BOF,0,0,504B0304{22}1300{2}5B436F6E74656E745F54797065735D2E786D6C
 B,fmt/215,BOF,0,65535,504B0304{22}1400{2}7070742F70726573656E746174696F6E2E786D6C
-F,movkrin/docm,\"Microsoft Word with macros, Office Open XML\",,application/vnd.ms-word.document.macroEnabled.12,
-E,movkrin/docm,docm,,,
-E,movkrin/docm,dotm,,,
-S,movkrin/docm,BOF,0,0,504B0304
-B,movkrin/docm,EOF,22,65535,504B0102{24}1300{16}5B436F6E74656E745F54797065735D2E786D6C
-B,movkrin/docm,EOF,22,65535,504B0102{24}1300{16}776F72642F76626150726F6A6563742E62696E
-F,movkrin/xlsm,\"Microsoft Excel with macros, Office Open XML\",,application/vnd.ms-excel.sheet.macroEnabled.12,
-E,movkrin/xlsm,xlsm,,,
-E,movkrin/xlsm,xltm,,,
-E,movkrin/xlsm,xlam,,,
-S,movkrin/xlsm,BOF,0,0,504B0304
-B,movkrin/xlsm,EOF,22,65535,504B0102{24}1300{16}5B436F6E74656E745F54797065735D2E786D6C
-B,movkrin/xlsm,EOF,22,65535,504B0102{24}1100{16}786C2F76626150726F6A6563742E62696E
-F,movkrin/pptm,\"Microsoft PowerPoint with macros, Office Open XML\",,application/vnd.ms-powerpoint.presentation.macroEnabled.12,
-E,movkrin/pptm,pptm,,,
-E,movkrin/pptm,potm,,,
-E,movkrin/pptm,ppsm,,,
-S,movkrin/pptm,BOF,0,0,504B0304
-B,movkrin/pptm,EOF,22,65535,504B0102{24}1300{16}5B436F6E74656E745F54797065735D2E786D6C
-B,movkrin/pptm,EOF,22,65535,504B0102{24}1200{16}7070742F76626150726F6A6563742E62696E
-F,movkrin/xlsb,\"Microsoft Excel, binary workbook\",,application/vnd.ms-excel.sheet.binary.macroEnabled.12,
-E,movkrin/xlsb,xlsb,,,
-S,movkrin/xlsb,BOF,0,0,504B0304
-B,movkrin/xlsb,EOF,22,65535,504B0102{24}1300{16}5B436F6E74656E745F54797065735D2E786D6C
-B,movkrin/xlsb,EOF,22,65535,504B0102{24}0F00{16}786C2F776F726B626F6F6B2E62696E
+F,fmt/523,\"Microsoft Word with macros, Office Open XML\",,application/vnd.ms-word.document.macroEnabled.12,
+E,fmt/523,docm,,,
+E,fmt/523,dotm,,,
+S,fmt/523,BOF,0,0,504B0304
+B,fmt/523,EOF,22,65535,504B0102{24}1300{16}5B436F6E74656E745F54797065735D2E786D6C
+B,fmt/523,EOF,22,65535,504B0102{24}1300{16}776F72642F76626150726F6A6563742E62696E
+F,fmt/445,\"Microsoft Excel with macros, Office Open XML\",,application/vnd.ms-excel.sheet.macroEnabled.12,
+E,fmt/445,xlsm,,,
+E,fmt/445,xltm,,,
+E,fmt/445,xlam,,,
+S,fmt/445,BOF,0,0,504B0304
+B,fmt/445,EOF,22,65535,504B0102{24}1300{16}5B436F6E74656E745F54797065735D2E786D6C
+B,fmt/445,EOF,22,65535,504B0102{24}1100{16}786C2F76626150726F6A6563742E62696E
+F,fmt/487,\"Microsoft PowerPoint with macros, Office Open XML\",,application/vnd.ms-powerpoint.presentation.macroEnabled.12,
+E,fmt/487,pptm,,,
+E,fmt/487,potm,,,
+E,fmt/487,ppsm,,,
+S,fmt/487,BOF,0,0,504B0304
+B,fmt/487,EOF,22,65535,504B0102{24}1300{16}5B436F6E74656E745F54797065735D2E786D6C
+B,fmt/487,EOF,22,65535,504B0102{24}1200{16}7070742F76626150726F6A6563742E62696E
+F,fmt/595,\"Microsoft Excel, binary workbook\",,application/vnd.ms-excel.sheet.binary.macroEnabled.12,
+E,fmt/595,xlsb,,,
+S,fmt/595,BOF,0,0,504B0304
+B,fmt/595,EOF,22,65535,504B0102{24}1300{16}5B436F6E74656E745F54797065735D2E786D6C
+B,fmt/595,EOF,22,65535,504B0102{24}0F00{16}786C2F776F726B626F6F6B2E62696E
 F,movkrin/odt,OpenDocument text,,application/vnd.oasis.opendocument.text,
 E,movkrin/odt,odt,,,
 S,movkrin/odt,BOF,0,0,504B0304{22}080000006D696D65747970656170706C69636174696F6E2F766E642E6F617369732E6F70656E646F63756D656E742E74657874504B
 F,movkrin/ott,OpenDocument text template,,application/vnd.oasis.opendocument.text-template,
 E,movkrin/ott,ott,,,
 S,movkrin/ott,BOF,0,0,504B0304{22}080000006D696D65747970656170706C69636174696F6E2F766E642E6F617369732E6F70656E646F63756D656E742E746578742D74656D706C617465504B
+F,movkrin/odm,OpenDocument master document,,application/vnd.oasis.opendocument.text-master,
+E,movkrin/odm,odm,,,
+S,movkrin/odm,BOF,0,0,504B0304{22}080000006D696D65747970656170706C69636174696F6E2F766E642E6F617369732E6F70656E646F63756D656E742E746578742D6D6173746572504B
+F,movkrin/oth,OpenDocument text for HTML pages,,application/vnd.oasis.opendocument.text-web,
+E,movkrin/oth,oth,,,
+S,movkrin/oth,BOF,0,0,504B0304{22}080000006D696D65747970656170706C69636174696F6E2F766E642E6F617369732E6F70656E646F63756D656E742E746578742D776562504B
 F,movkrin/ods,OpenDocument spreadsheet,,application/vnd.oasis.opendocument.spreadsheet,
 E,movkrin/ods,ods,,,
 S,movkrin/ods,BOF,0,0,504B0304{22}080000006D696D65747970656170706C69636174696F6E2F766E642E6F617369732E6F70656E646F63756D656E742E7370726561647368656574504B
@@ -452,6 +603,9 @@ S,movkrin/otp,BOF,0,0,504B0304{22}080000006D696D65747970656170706C69636174696F6E
 F,movkrin/odg,OpenDocument drawing,,application/vnd.oasis.opendocument.graphics,
 E,movkrin/odg,odg,,,
 S,movkrin/odg,BOF,0,0,504B0304{22}080000006D696D65747970656170706C69636174696F6E2F766E642E6F617369732E6F70656E646F63756D656E742E6772617068696373504B
+F,movkrin/otg,OpenDocument drawing template,,application/vnd.oasis.opendocument.graphics-template,
+E,movkrin/otg,otg,,,
+S,movkrin/otg,BOF,0,0,504B0304{22}080000006D696D65747970656170706C69636174696F6E2F766E642E6F617369732E6F70656E646F63756D656E742E67726170686963732D74656D706C617465504B
 F,movkrin/odf,OpenDocument formula,,application/vnd.oasis.opendocument.formula,
 E,movkrin/odf,odf,,,
 S,movkrin/odf,BOF,0,0,504B0304{22}080000006D696D65747970656170706C69636174696F6E2F766E642E6F617369732E6F70656E646F63756D656E742E666F726D756C61504B
@@ -464,6 +618,29 @@ S,movkrin/odb,BOF,0,0,504B0304{22}080000006D696D65747970656170706C69636174696F6E
 F,fmt/483,EPUB,,application/epub+zip,
 E,fmt/483,epub,,,
 S,fmt/483,BOF,0,0,504B0304{22}080000006D696D65747970656170706C69636174696F6E2F657075622B7A6970
+F,movkrin/key-09,Apple Keynote,2 to 5,application/vnd.apple.keynote,
+E,movkrin/key-09,key,,,
+S,movkrin/key-09,BOF,0,0,504B0304
+B,movkrin/key-09,EOF,22,65535,504B0102{24}0A00{16}696E6465782E6170786C
+S,movkrin/key-09,BOF,0,0,504B0304
+B,movkrin/key-09,BOF,0,65535,504B0304{22}0A00{2}696E6465782E6170786C
+F,movkrin/iwork-09,Apple Pages or Numbers,1 to 4,,
+E,movkrin/iwork-09,pages,,,
+E,movkrin/iwork-09,numbers,,,
+S,movkrin/iwork-09,BOF,0,0,504B0304
+B,movkrin/iwork-09,EOF,22,65535,504B0102{24}0900{16}696E6465782E786D6C
+B,movkrin/iwork-09,EOF,22,65535,504B0102{24}1900{16}6275696C6456657273696F6E486973746F72792E706C697374
+S,movkrin/iwork-09,BOF,0,0,504B0304
+B,movkrin/iwork-09,BOF,0,65535,504B0304{22}0900{2}696E6465782E786D6C
+B,movkrin/iwork-09,BOF,0,65535,504B0304{22}1900{2}6275696C6456657273696F6E486973746F72792E706C697374
+F,movkrin/iwork,\"Apple Pages, Numbers or Keynote\",2013,,
+E,movkrin/iwork,pages,,,
+E,movkrin/iwork,numbers,,,
+E,movkrin/iwork,key,,,
+S,movkrin/iwork,BOF,0,0,504B0304
+B,movkrin/iwork,EOF,22,65535,504B0102{24}1200{16}496E6465782F446F63756D656E742E697761
+S,movkrin/iwork,BOF,0,0,504B0304
+B,movkrin/iwork,BOF,0,65535,504B0304{22}1200{2}496E6465782F446F63756D656E742E697761
 F,x-fmt/263,ZIP,,application/zip,
 E,x-fmt/263,zip,,,
 S,x-fmt/263,BOF,0,0,504B0304
@@ -482,10 +659,10 @@ E,x-fmt/268,bz2,,,
 E,x-fmt/268,tbz2,,,
 E,x-fmt/268,tbz,,,
 S,x-fmt/268,BOF,0,0,425A68[31:39](314159265359|177245385090)
-F,movkrin/xz,XZ,,application/x-xz,
-E,movkrin/xz,xz,,,
-E,movkrin/xz,txz,,,
-S,movkrin/xz,BOF,0,0,FD377A585A0000(00|01|04|0A)
+F,fmt/1098,XZ,,application/x-xz,
+E,fmt/1098,xz,,,
+E,fmt/1098,txz,,,
+S,fmt/1098,BOF,0,0,FD377A585A0000(00|01|04|0A)
 F,movkrin/lzip,Lzip,,application/lzip,
 E,movkrin/lzip,lz,,,
 E,movkrin/lzip,tlz,,,
@@ -514,10 +691,10 @@ S,fmt/613,BOF,0,0,526172211A070100
 F,movkrin/cab,Windows Cabinet,,application/vnd.ms-cab-compressed,
 E,movkrin/cab,cab,,,
 S,movkrin/cab,BOF,0,0,4D53434600000000
-F,movkrin/cpio,cpio,,application/x-cpio,
-E,movkrin/cpio,cpio,,,
-S,movkrin/cpio,BOF,0,0,3037303730(31|32)
-S,movkrin/cpio,BOF,0,0,303730373037
+F,fmt/635,cpio,,application/x-cpio,
+E,fmt/635,cpio,,,
+S,fmt/635,BOF,0,0,3037303730(31|32)
+S,fmt/635,BOF,0,0,303730373037
 F,movkrin/ar,Unix archive,,application/x-archive,
 E,movkrin/ar,a,,,
 E,movkrin/ar,ar,,,
@@ -530,14 +707,28 @@ S,movkrin/deb,BOF,0,0,213C617263683E0A64656269616E2D62696E617279
 F,movkrin/rpm,RPM package,,application/x-rpm,
 E,movkrin/rpm,rpm,,,
 S,movkrin/rpm,BOF,0,0,EDABEEDB(03|04)
-F,movkrin/jar,Java archive,,application/java-archive,
-E,movkrin/jar,jar,,,
-E,movkrin/jar,war,,,
-E,movkrin/jar,ear,,,
-S,movkrin/jar,BOF,0,0,504B0304
-B,movkrin/jar,EOF,22,65535,504B0102{24}1400{16}4D4554412D494E462F4D414E49464553542E4D46
-S,movkrin/jar,BOF,0,0,504B0304
-B,movkrin/jar,BOF,0,65535,504B0304{22}1400{2}4D4554412D494E462F4D414E49464553542E4D46
+F,x-fmt/412,Java archive,,application/java-archive,
+E,x-fmt/412,jar,,,
+E,x-fmt/412,war,,,
+E,x-fmt/412,ear,,,
+S,x-fmt/412,BOF,0,0,504B0304
+B,x-fmt/412,EOF,22,65535,504B0102{24}1400{16}4D4554412D494E462F4D414E49464553542E4D46
+S,x-fmt/412,BOF,0,0,504B0304
+B,x-fmt/412,BOF,0,65535,504B0304{22}1400{2}4D4554412D494E462F4D414E49464553542E4D46
+F,movkrin/siard,Software Independent Archival of Relational Databases,,,
+E,movkrin/siard,siard,,,
+S,movkrin/siard,BOF,0,0,504B0304
+B,movkrin/siard,EOF,22,65535,504B0102{24}1300{16}6865616465722F6D657461646174612E786D6C
+B,movkrin/siard,EOF,22,65535,504B0102{24}1300{16}6865616465722F6D657461646174612E787364
+S,movkrin/siard,BOF,0,0,504B0304
+B,movkrin/siard,BOF,0,65535,504B0304{22}1300{2}6865616465722F6D657461646174612E786D6C
+B,movkrin/siard,BOF,0,65535,504B0304{22}1300{2}6865616465722F6D657461646174612E787364
+F,fmt/161,Software Independent Archival of Relational Databases,1.0,,
+E,fmt/161,siard,,,
+S,fmt/161,BOF,0,0,504B0304
+B,fmt/161,BOF,0,65535,504B0304{22}1300{2}6865616465722F6D657461646174612E786D6C*687474703A2F2F7777772E6261722E61646D696E2E63682F786D6C6E732F73696172642F312E302F6D657461646174612E787364
+S,fmt/161,BOF,0,0,504B0304
+B,fmt/161,EOF,0,65535,504B0304{22}1300{2}6865616465722F6D657461646174612E786D6C*687474703A2F2F7777772E6261722E61646D696E2E63682F786D6C6E732F73696172642F312E302F6D657461646174612E787364
 F,movkrin/apk,Android package,,application/vnd.android.package-archive,
 E,movkrin/apk,apk,,,
 S,movkrin/apk,BOF,0,0,504B0304
@@ -580,10 +771,10 @@ E,movkrin/aifc,aif,,,
 E,movkrin/aifc,aiff,,,
 E,movkrin/aifc,aifc,,,
 S,movkrin/aifc,BOF,0,0,464F524D{4}41494643
-F,movkrin/au,AU audio,,audio/basic,
-E,movkrin/au,au,,,
-E,movkrin/au,snd,,,
-S,movkrin/au,BOF,0,0,2E736E640000
+F,x-fmt/139,AU audio,,audio/basic,
+E,x-fmt/139,au,,,
+E,x-fmt/139,snd,,,
+S,x-fmt/139,BOF,0,0,2E736E640000
 F,movkrin/caf,Core Audio Format,,audio/x-caf,
 E,movkrin/caf,caf,,,
 S,movkrin/caf,BOF,0,0,636166660001
@@ -598,15 +789,33 @@ E,fmt/134,mp3,,,
 S,fmt/134,BOF,0,0,494433[02:04]00??[00:7F][00:7F][00:7F][00:7F]
 S,fmt/134,BOF,0,0,FF(FA|FB)[10:EB]{93-1438}FF(FA|FB)[10:EB]{93-1438}FF(FA|FB)[10:EB]
 S,fmt/134,BOF,0,0,FF(F2|F3)[10:EB]{21-718}FF(F2|F3)[10:EB]{21-718}FF(F2|F3)[10:EB]
+F,movkrin/mp2,MPEG 1/2 Audio Layer 2,,audio/mpeg,
+E,movkrin/mp2,mp2,,,
+E,movkrin/mp2,mpa,,,
+E,movkrin/mp2,m2a,,,
+S,movkrin/mp2,BOF,0,0,FF(FC|FD)[10:EB]{93-1726}FF(FC|FD)[10:EB]{93-1726}FF(FC|FD)[10:EB]
+S,movkrin/mp2,BOF,0,0,FF(F4|F5)[10:EB]{45-1438}FF(F4|F5)[10:EB]{45-1438}FF(F4|F5)[10:EB]
+F,movkrin/aac,Advanced Audio Coding,,audio/aac,
+E,movkrin/aac,aac,,,
+E,movkrin/aac,adts,,,
+S,movkrin/aac,BOF,0,0,FFF1[40:73]{4-4605}FFF1[40:73]{4-4605}FFF1[40:73]{4-4605}FFF1[40:73]
+S,movkrin/aac,BOF,0,0,FFF9[40:73]{4-4605}FFF9[40:73]{4-4605}FFF9[40:73]{4-4605}FFF9[40:73]
+F,movkrin/ac3,Dolby Digital,,audio/ac3,
+E,movkrin/ac3,ac3,,,
+S,movkrin/ac3,BOF,0,0,0B77????[00:A5][30:57]{122-3834}0B77????[00:A5][30:57]{122-3834}0B77????[00:A5][30:57]
+F,movkrin/eac3,Dolby Digital Plus,,audio/eac3,
+E,movkrin/eac3,eac3,,,
+E,movkrin/eac3,ec3,,,
+S,movkrin/eac3,BOF,0,0,0B77[00:07]????[80:87]{26-4090}0B77[00:07]????[80:87]{26-4090}0B77[00:07]????[80:87]
 F,fmt/203,Ogg Vorbis,,audio/ogg,
 E,fmt/203,ogg,,,
 E,fmt/203,oga,,,
 S,fmt/203,BOF,0,0,4F67675300[02:07]{22}01766F72626973
-F,movkrin/ogg-opus,Ogg Opus,,audio/ogg,
-E,movkrin/ogg-opus,opus,,,
-E,movkrin/ogg-opus,ogg,,,
-E,movkrin/ogg-opus,oga,,,
-S,movkrin/ogg-opus,BOF,0,0,4F67675300[02:07]{22}4F70757348656164
+F,fmt/946,Ogg Opus,,audio/ogg,
+E,fmt/946,opus,,,
+E,fmt/946,ogg,,,
+E,fmt/946,oga,,,
+S,fmt/946,BOF,0,0,4F67675300[02:07]{22}4F70757348656164
 F,movkrin/ogg-flac,Ogg FLAC,,audio/ogg,
 E,movkrin/ogg-flac,oga,,,
 E,movkrin/ogg-flac,ogg,,,
@@ -626,9 +835,9 @@ E,movkrin/ogg,ogx,,,
 E,movkrin/ogg,oga,,,
 E,movkrin/ogg,ogv,,,
 S,movkrin/ogg,BOF,0,0,4F67675300[00:07]
-F,movkrin/amr,Adaptive Multi-Rate Audio,,audio/AMR,
-E,movkrin/amr,amr,,,
-S,movkrin/amr,BOF,0,0,2321414D520A
+F,fmt/356,Adaptive Multi-Rate Audio,,audio/AMR,
+E,fmt/356,amr,,,
+S,fmt/356,BOF,0,0,2321414D520A
 F,movkrin/amr-wb,Adaptive Multi-Rate Wideband Audio,,audio/AMR-WB,
 E,movkrin/amr-wb,awb,,,
 E,movkrin/amr-wb,amr,,,
@@ -648,10 +857,10 @@ E,movkrin/m4a,m4a,,,
 E,movkrin/m4a,m4b,,,
 E,movkrin/m4a,m4p,,,
 S,movkrin/m4a,BOF,0,0,0000????667479704D34(41|42|50)20
-F,movkrin/3gp,3GPP multimedia,,video/3gpp,
-E,movkrin/3gp,3gp,,,
-E,movkrin/3gp,3gpp,,,
-S,movkrin/3gp,BOF,0,0,0000????667479703367(65|67|68|70|72|73)[34:39]
+F,fmt/357,3GPP multimedia,,video/3gpp,
+E,fmt/357,3gp,,,
+E,fmt/357,3gpp,,,
+S,fmt/357,BOF,0,0,0000????667479703367(65|67|68|70|72|73)[34:39]
 F,movkrin/3g2,3GPP2 multimedia,,video/3gpp2,
 E,movkrin/3g2,3g2,,,
 E,movkrin/3g2,3gpp2,,,
@@ -675,23 +884,33 @@ S,fmt/573,BOF,0,0,1A45DFA3{1-64}4282(84|4004|0100000000000004)7765626D
 F,fmt/5,Audio/Video Interleaved,,video/vnd.avi,
 E,fmt/5,avi,,,
 S,fmt/5,BOF,0,0,52494646{4}41564920
-F,movkrin/asf,Advanced Systems Format,,video/x-ms-asf,
-E,movkrin/asf,asf,,,
-E,movkrin/asf,wma,,,
-E,movkrin/asf,wmv,,,
-S,movkrin/asf,BOF,0,0,3026B2758E66CF11A6D900AA0062CE6C
-F,movkrin/flv,Flash Video,,video/x-flv,
-E,movkrin/flv,flv,,,
-S,movkrin/flv,BOF,0,0,464C5601(01|04|05)00000009
+F,fmt/131,Advanced Systems Format,,video/x-ms-asf,
+E,fmt/131,asf,,,
+E,fmt/131,wma,,,
+E,fmt/131,wmv,,,
+S,fmt/131,BOF,0,0,3026B2758E66CF11A6D900AA0062CE6C
+F,fmt/132,Windows Media Audio,,audio/x-ms-wma,
+E,fmt/132,wma,,,
+S,fmt/132,BOF,0,0,3026B2758E66CF11A6D900AA0062CE6C*9107DCB7B7A9CF118EE600C00C205365{8}409E69F84D5BCF11A8FD00805F5C442B{38}(6001|6101|6201|6301)
+F,fmt/133,Windows Media Video,,video/x-ms-wmv,
+E,fmt/133,wmv,,,
+S,fmt/133,BOF,0,0,3026B2758E66CF11A6D900AA0062CE6C*9107DCB7B7A9CF118EE600C00C205365{8}C0EF19BC4D5BCF11A8FD00805F5C442B{65}(574D5631|574D5632|574D5633|574D5641|57564331)
+F,x-fmt/382,Flash Video,,video/x-flv,
+E,x-fmt/382,flv,,,
+S,x-fmt/382,BOF,0,0,464C5601(01|04|05)00000009
 F,movkrin/swf,Flash movie,,application/vnd.adobe.flash.movie,
 E,movkrin/swf,swf,,,
 S,movkrin/swf,BOF,0,0,(46|43|5A)5753[01:33]{3}[00:07]
-F,movkrin/mpeg-ps,MPEG program stream,,video/mpeg,
-E,movkrin/mpeg-ps,mpg,,,
-E,movkrin/mpeg-ps,mpeg,,,
-E,movkrin/mpeg-ps,vob,,,
-S,movkrin/mpeg-ps,BOF,0,0,000001BA[40:7F]
-S,movkrin/mpeg-ps,BOF,0,0,000001BA[21:2F]
+F,x-fmt/386,MPEG-2 Program Stream,,video/mpeg,
+E,x-fmt/386,mpg,,,
+E,x-fmt/386,mpeg,,,
+E,x-fmt/386,vob,,,
+S,x-fmt/386,BOF,0,0,000001BA[40:7F]
+F,x-fmt/385,MPEG-1 Program Stream,,video/mpeg,
+E,x-fmt/385,mpg,,,
+E,x-fmt/385,mpeg,,,
+E,x-fmt/385,vob,,,
+S,x-fmt/385,BOF,0,0,000001BA[21:2F]
 F,movkrin/mpeg-video,MPEG video stream,,video/mpeg,
 E,movkrin/mpeg-video,mpg,,,
 E,movkrin/mpeg-video,mpeg,,,
@@ -706,6 +925,19 @@ E,movkrin/mpeg-ts,mts,,,
 E,movkrin/mpeg-ts,m2ts,,,
 S,movkrin/mpeg-ts,BOF,0,0,47{187}47{187}47{187}47{187}47
 S,movkrin/mpeg-ts,BOF,4,4,47{191}47{191}47{191}47{191}47
+F,x-fmt/152,Digital Video,,video/DV,
+E,x-fmt/152,dv,,,
+E,x-fmt/152,dif,,,
+S,x-fmt/152,BOF,0,0,1F0700(3F|BF){76}[20:3F]0700
+F,movkrin/realmedia,RealMedia,,application/vnd.rn-realmedia,
+E,movkrin/realmedia,rm,,,
+E,movkrin/realmedia,rmvb,,,
+E,movkrin/realmedia,rv,,,
+E,movkrin/realmedia,ra,,,
+S,movkrin/realmedia,BOF,0,0,2E524D46000000(10|12)00(00|01)
+F,movkrin/realaudio,RealAudio,,audio/x-pn-realaudio,
+E,movkrin/realaudio,ra,,,
+S,movkrin/realaudio,BOF,0,0,2E7261FD00(03|04|05)
 F,fmt/200,Material Exchange Format,,application/mxf,
 E,fmt/200,mxf,,,
 S,fmt/200,BOF,0,0,060E2B34020501010D0102010102
@@ -724,34 +956,34 @@ S,movkrin/xml-1-1,BOF,0,0,(3C|EFBBBF3C)3F786D6C(20|09|0A|0D){0-16}76657273696F6E
 F,fmt/96,Hypertext Markup Language,,text/html,
 E,fmt/96,html,,,
 E,fmt/96,htm,,,
-S,fmt/96,BOF,0,0,(3C|EFBBBF3C|0A3C|0D0A3C|203C)(48|68)(54|74)(4D|6D)(4C|6C)(3E|20|09|0A|0D)
-S,fmt/96,BOF,0,0,(3C|EFBBBF3C|0A3C|0D0A3C|203C)21(44|64)(4F|6F)(43|63)(54|74)(59|79)(50|70)(45|65)(20|09|0A|0D)(48|68)(54|74)(4D|6D)(4C|6C)(3E|20|09|0A|0D)
-S,fmt/96,BOF,0,0,(3C|EFBBBF3C|0A3C|0D0A3C|203C)(212D2D|3F786D6C)
+S,fmt/96,BOF,0,0,(3C|EFBBBF3C|0A3C|0D0A3C|203C|093C|0A0A3C|0D0A0D0A3C|20203C|EFBBBF0A3C|EFBBBF0D0A3C)(48|68)(54|74)(4D|6D)(4C|6C)(3E|20|09|0A|0D)
+S,fmt/96,BOF,0,0,(3C|EFBBBF3C|0A3C|0D0A3C|203C|093C|0A0A3C|0D0A0D0A3C|20203C|EFBBBF0A3C|EFBBBF0D0A3C)21(44|64)(4F|6F)(43|63)(54|74)(59|79)(50|70)(45|65)(20|09|0A|0D)(48|68)(54|74)(4D|6D)(4C|6C)(3E|20|09|0A|0D)
+S,fmt/96,BOF,0,0,(3C|EFBBBF3C|0A3C|0D0A3C|203C|093C|0A0A3C|0D0A0D0A3C|20203C|EFBBBF0A3C|EFBBBF0D0A3C)(212D2D|3F786D6C)
 B,fmt/96,BOF,0,1023,3C(48|68)(54|74)(4D|6D)(4C|6C)(3E|20|09|0A|0D)
 F,fmt/97,Hypertext Markup Language,2.0,text/html,
 E,fmt/97,html,,,
 E,fmt/97,htm,,,
-S,fmt/97,BOF,0,0,(3C|EFBBBF3C|0A3C|0D0A3C|203C)
+S,fmt/97,BOF,0,0,(3C|EFBBBF3C|0A3C|0D0A3C|203C|093C|0A0A3C|0D0A0D0A3C|20203C|EFBBBF0A3C|EFBBBF0D0A3C)
 B,fmt/97,BOF,0,1023,3C21(44|64)(4F|6F)(43|63)(54|74)(59|79)(50|70)(45|65)(20|09|0A|0D)(48|68)(54|74)(4D|6D)(4C|6C)(20|09|0A|0D)(50|70)(55|75)(42|62)(4C|6C)(49|69)(43|63){0-7}(22|27)(2D2F2F494554462F2F4454442048544D4C2F2F|2D2F2F494554462F2F4454442048544D4C20322E30|2D2F2F494554462F2F4454442048544D4C205374726963742F2F)
 F,fmt/98,Hypertext Markup Language,3.2,text/html,
 E,fmt/98,html,,,
 E,fmt/98,htm,,,
-S,fmt/98,BOF,0,0,(3C|EFBBBF3C|0A3C|0D0A3C|203C)
+S,fmt/98,BOF,0,0,(3C|EFBBBF3C|0A3C|0D0A3C|203C|093C|0A0A3C|0D0A0D0A3C|20203C|EFBBBF0A3C|EFBBBF0D0A3C)
 B,fmt/98,BOF,0,1023,3C21(44|64)(4F|6F)(43|63)(54|74)(59|79)(50|70)(45|65)(20|09|0A|0D)(48|68)(54|74)(4D|6D)(4C|6C)(20|09|0A|0D)(50|70)(55|75)(42|62)(4C|6C)(49|69)(43|63){0-7}(22|27)2D2F2F5733432F2F4454442048544D4C20332E32
 F,fmt/99,Hypertext Markup Language,4.0,text/html,
 E,fmt/99,html,,,
 E,fmt/99,htm,,,
-S,fmt/99,BOF,0,0,(3C|EFBBBF3C|0A3C|0D0A3C|203C)
+S,fmt/99,BOF,0,0,(3C|EFBBBF3C|0A3C|0D0A3C|203C|093C|0A0A3C|0D0A0D0A3C|20203C|EFBBBF0A3C|EFBBBF0D0A3C)
 B,fmt/99,BOF,0,1023,3C21(44|64)(4F|6F)(43|63)(54|74)(59|79)(50|70)(45|65)(20|09|0A|0D)(48|68)(54|74)(4D|6D)(4C|6C)(20|09|0A|0D)(50|70)(55|75)(42|62)(4C|6C)(49|69)(43|63){0-7}(22|27)(2D2F2F5733432F2F4454442048544D4C20342E302F2F|2D2F2F5733432F2F4454442048544D4C20342E3020)
 F,fmt/100,Hypertext Markup Language,4.01,text/html,
 E,fmt/100,html,,,
 E,fmt/100,htm,,,
-S,fmt/100,BOF,0,0,(3C|EFBBBF3C|0A3C|0D0A3C|203C)
+S,fmt/100,BOF,0,0,(3C|EFBBBF3C|0A3C|0D0A3C|203C|093C|0A0A3C|0D0A0D0A3C|20203C|EFBBBF0A3C|EFBBBF0D0A3C)
 B,fmt/100,BOF,0,1023,3C21(44|64)(4F|6F)(43|63)(54|74)(59|79)(50|70)(45|65)(20|09|0A|0D)(48|68)(54|74)(4D|6D)(4C|6C)(20|09|0A|0D)(50|70)(55|75)(42|62)(4C|6C)(49|69)(43|63){0-7}(22|27)2D2F2F5733432F2F4454442048544D4C20342E3031
 F,fmt/471,Hypertext Markup Language,5,text/html,
 E,fmt/471,html,,,
 E,fmt/471,htm,,,
-S,fmt/471,BOF,0,0,(3C|EFBBBF3C|0A3C|0D0A3C|203C)21(44|64)(4F|6F)(43|63)(54|74)(59|79)(50|70)(45|65)(20|09|0A|0D)(48|68)(54|74)(4D|6D)(4C|6C){0-2}3E
+S,fmt/471,BOF,0,0,(3C|EFBBBF3C|0A3C|0D0A3C|203C|093C|0A0A3C|0D0A0D0A3C|20203C|EFBBBF0A3C|EFBBBF0D0A3C)21(44|64)(4F|6F)(43|63)(54|74)(59|79)(50|70)(45|65)(20|09|0A|0D)(48|68)(54|74)(4D|6D)(4C|6C){0-2}3E
 F,movkrin/xhtml,Extensible Hypertext Markup Language,,application/xhtml+xml,
 E,movkrin/xhtml,xhtml,,,
 E,movkrin/xhtml,xht,,,
@@ -764,14 +996,14 @@ E,fmt/102,xhtml,,,
 E,fmt/102,xht,,,
 E,fmt/102,html,,,
 E,fmt/102,htm,,,
-S,fmt/102,BOF,0,0,(3C|EFBBBF3C|0A3C|0D0A3C|203C)
+S,fmt/102,BOF,0,0,(3C|EFBBBF3C|0A3C|0D0A3C|203C|093C|0A0A3C|0D0A0D0A3C|20203C|EFBBBF0A3C|EFBBBF0D0A3C)
 B,fmt/102,BOF,0,1023,3C21(44|64)(4F|6F)(43|63)(54|74)(59|79)(50|70)(45|65)(20|09|0A|0D)(48|68)(54|74)(4D|6D)(4C|6C)(20|09|0A|0D)(50|70)(55|75)(42|62)(4C|6C)(49|69)(43|63){0-7}(22|27)2D2F2F5733432F2F445444205848544D4C20312E3020
 F,fmt/103,Extensible Hypertext Markup Language,1.1,application/xhtml+xml,
 E,fmt/103,xhtml,,,
 E,fmt/103,xht,,,
 E,fmt/103,html,,,
 E,fmt/103,htm,,,
-S,fmt/103,BOF,0,0,(3C|EFBBBF3C|0A3C|0D0A3C|203C)
+S,fmt/103,BOF,0,0,(3C|EFBBBF3C|0A3C|0D0A3C|203C|093C|0A0A3C|0D0A0D0A3C|20203C|EFBBBF0A3C|EFBBBF0D0A3C)
 B,fmt/103,BOF,0,1023,3C21(44|64)(4F|6F)(43|63)(54|74)(59|79)(50|70)(45|65)(20|09|0A|0D)(48|68)(54|74)(4D|6D)(4C|6C)(20|09|0A|0D)(50|70)(55|75)(42|62)(4C|6C)(49|69)(43|63){0-7}(22|27)2D2F2F5733432F2F445444205848544D4C20312E31
 F,movkrin/svg,Scalable Vector Graphics,,image/svg+xml,
 E,movkrin/svg,svg,,,
@@ -807,15 +1039,22 @@ F,movkrin/gpx,GPS Exchange Format,1,application/gpx+xml,
 E,movkrin/gpx,gpx,,,
 S,movkrin/gpx,BOF,0,0,(3C|EFBBBF3C)
 B,movkrin/gpx,BOF,0,4095,3C677078(20|09|0A|0D){0-1023}687474703A2F2F7777772E746F706F6772616669782E636F6D2F4750582F312F
-F,movkrin/xslt,XSL Transformations,,application/xslt+xml,
-E,movkrin/xslt,xsl,,,
-E,movkrin/xslt,xslt,,,
-S,movkrin/xslt,BOF,0,0,(3C|EFBBBF3C)
-B,movkrin/xslt,BOF,0,4095,3C(78736C3A7374796C657368656574|78736C3A7472616E73666F726D)(20|09|0A|0D){0-1023}687474703A2F2F7777772E77332E6F72672F313939392F58534C2F5472616E73666F726D
-F,movkrin/xsd,XML Schema,,application/xml,
-E,movkrin/xsd,xsd,,,
-S,movkrin/xsd,BOF,0,0,(3C|EFBBBF3C)
-B,movkrin/xsd,BOF,0,4095,3C(736368656D61|78733A736368656D61|7873643A736368656D61)(20|09|0A|0D){0-1023}687474703A2F2F7777772E77332E6F72672F323030312F584D4C536368656D61
+F,movkrin/gml,Geography Markup Language,,application/gml+xml,
+E,movkrin/gml,gml,,,
+E,movkrin/gml,xml,,,
+S,movkrin/gml,BOF,0,0,(3C|EFBBBF3C)
+B,movkrin/gml,BOF,0,4095,3C(676D6C|6F6772|776673)3A46656174757265436F6C6C656374696F6E(20|09|0A|0D){0-1023}687474703A2F2F7777772E6F70656E6769732E6E65742F676D6C
+S,movkrin/gml,BOF,0,0,(3C|EFBBBF3C)
+B,movkrin/gml,BOF,0,4095,3C46656174757265436F6C6C656374696F6E(20|09|0A|0D){0-1023}687474703A2F2F7777772E6F70656E6769732E6E65742F676D6C
+F,x-fmt/281,XSL Transformations,,application/xslt+xml,
+E,x-fmt/281,xsl,,,
+E,x-fmt/281,xslt,,,
+S,x-fmt/281,BOF,0,0,(3C|EFBBBF3C)
+B,x-fmt/281,BOF,0,4095,3C(78736C3A7374796C657368656574|78736C3A7472616E73666F726D)(20|09|0A|0D){0-1023}687474703A2F2F7777772E77332E6F72672F313939392F58534C2F5472616E73666F726D
+F,x-fmt/280,XML Schema,,application/xml,
+E,x-fmt/280,xsd,,,
+S,x-fmt/280,BOF,0,0,(3C|EFBBBF3C)
+B,x-fmt/280,BOF,0,4095,3C(736368656D61|78733A736368656D61|7873643A736368656D61)(20|09|0A|0D){0-1023}687474703A2F2F7777772E77332E6F72672F323030312F584D4C536368656D61
 F,movkrin/mathml,Mathematical Markup Language,,application/mathml+xml,
 E,movkrin/mathml,mml,,,
 S,movkrin/mathml,BOF,0,0,(3C|EFBBBF3C)
@@ -829,27 +1068,43 @@ F,movkrin/plist,\"Property list, XML\",1.0,application/x-plist,
 E,movkrin/plist,plist,,,
 S,movkrin/plist,BOF,0,0,(3C|EFBBBF3C)
 B,movkrin/plist,BOF,0,4095,3C21444F435459504520706C697374205055424C4943
+F,movkrin/fodt,Flat OpenDocument text,,application/vnd.oasis.opendocument.text-flat-xml,
+E,movkrin/fodt,fodt,,,
+S,movkrin/fodt,BOF,0,0,(3C|EFBBBF3C)3F786D6C
+B,movkrin/fodt,BOF,0,4095,3C6F66666963653A646F63756D656E74(20|09|0A|0D){0-8191}6F66666963653A6D696D65747970653D(22|27)6170706C69636174696F6E2F766E642E6F617369732E6F70656E646F63756D656E742E74657874(22|27)
+F,movkrin/fods,Flat OpenDocument spreadsheet,,application/vnd.oasis.opendocument.spreadsheet-flat-xml,
+E,movkrin/fods,fods,,,
+S,movkrin/fods,BOF,0,0,(3C|EFBBBF3C)3F786D6C
+B,movkrin/fods,BOF,0,4095,3C6F66666963653A646F63756D656E74(20|09|0A|0D){0-8191}6F66666963653A6D696D65747970653D(22|27)6170706C69636174696F6E2F766E642E6F617369732E6F70656E646F63756D656E742E7370726561647368656574(22|27)
+F,movkrin/fodp,Flat OpenDocument presentation,,application/vnd.oasis.opendocument.presentation-flat-xml,
+E,movkrin/fodp,fodp,,,
+S,movkrin/fodp,BOF,0,0,(3C|EFBBBF3C)3F786D6C
+B,movkrin/fodp,BOF,0,4095,3C6F66666963653A646F63756D656E74(20|09|0A|0D){0-8191}6F66666963653A6D696D65747970653D(22|27)6170706C69636174696F6E2F766E642E6F617369732E6F70656E646F63756D656E742E70726573656E746174696F6E(22|27)
+F,movkrin/fodg,Flat OpenDocument drawing,,application/vnd.oasis.opendocument.graphics-flat-xml,
+E,movkrin/fodg,fodg,,,
+S,movkrin/fodg,BOF,0,0,(3C|EFBBBF3C)3F786D6C
+B,movkrin/fodg,BOF,0,4095,3C6F66666963653A646F63756D656E74(20|09|0A|0D){0-8191}6F66666963653A6D696D65747970653D(22|27)6170706C69636174696F6E2F766E642E6F617369732E6F70656E646F63756D656E742E6772617068696373(22|27)
 F,fmt/278,Internet Message Format,,message/rfc822,
 E,fmt/278,eml,,,
-S,fmt/278,BOF,0,0,(52657475726E2D506174683A|44656C6976657265642D546F3A|52656365697665643A|4D6573736167652D49443A|4D6573736167652D49643A|4D494D452D56657273696F6E3A|5375626A6563743A|546F3A|5265706C792D546F3A|582D)
+S,fmt/278,BOF,0,0,(52657475726E2D506174683A|44656C6976657265642D546F3A|52656365697665643A|4D6573736167652D49443A|4D6573736167652D49643A|4D494D452D56657273696F6E3A|5375626A6563743A|546F3A|5265706C792D546F3A|582D|436F6E74656E742D547970653A|444B494D2D5369676E61747572653A|41757468656E7469636174696F6E2D526573756C74733A|4152432D|53656E6465723A|43633A|5265666572656E6365733A|496E2D5265706C792D546F3A|557365722D4167656E743A)
 B,fmt/278,BOF,0,65535,0A46726F6D3A
 B,fmt/278,BOF,0,65535,0A446174653A
 S,fmt/278,BOF,0,0,46726F6D3A
 B,fmt/278,BOF,0,65535,0A446174653A
 S,fmt/278,BOF,0,0,446174653A
 B,fmt/278,BOF,0,65535,0A46726F6D3A
-F,movkrin/mbox,Mailbox,,application/mbox,
-E,movkrin/mbox,mbox,,,
-E,movkrin/mbox,mbx,,,
-S,movkrin/mbox,BOF,0,0,46726F6D20{1-254}20(4D6F6E|547565|576564|546875|467269|536174|53756E)20(4A616E|466562|4D6172|417072|4D6179|4A756E|4A756C|417567|536570|4F6374|4E6F76|446563)20
+F,fmt/720,Mailbox,,application/mbox,
+E,fmt/720,mbox,,,
+E,fmt/720,mbx,,,
+S,fmt/720,BOF,0,0,46726F6D20{1-254}20(4D6F6E|547565|576564|546875|467269|536174|53756E)20(4A616E|466562|4D6172|417072|4D6179|4A756E|4A756C|417567|536570|4F6374|4E6F76|446563)20
 F,movkrin/vcard,vCard,,text/vcard,
 E,movkrin/vcard,vcf,,,
 E,movkrin/vcard,vcard,,,
 S,movkrin/vcard,BOF,0,0,(42|62)(45|65)(47|67)(49|69)(4E|6E)3A(56|76)(43|63)(41|61)(52|72)(44|64)(0D|0A)
-F,movkrin/icalendar,iCalendar,,text/calendar,
-E,movkrin/icalendar,ics,,,
-E,movkrin/icalendar,ifb,,,
-S,movkrin/icalendar,BOF,0,0,(42|62)(45|65)(47|67)(49|69)(4E|6E)3A(56|76)(43|63)(41|61)(4C|6C)(45|65)(4E|6E)(44|64)(41|61)(52|72)(0D|0A)
+F,fmt/388,iCalendar,,text/calendar,
+E,fmt/388,ics,,,
+E,fmt/388,ifb,,,
+S,fmt/388,BOF,0,0,(42|62)(45|65)(47|67)(49|69)(4E|6E)3A(56|76)(43|63)(41|61)(4C|6C)(45|65)(4E|6E)(44|64)(41|61)(52|72)(0D|0A)
 F,movkrin/pem-certificate,\"Certificate, textual encoding\",,application/pem-certificate-chain,
 E,movkrin/pem-certificate,pem,,,
 E,movkrin/pem-certificate,crt,,,
@@ -926,9 +1181,9 @@ E,movkrin/mach-o-fat,o,,,
 E,movkrin/mach-o-fat,bundle,,,
 E,movkrin/mach-o-fat,a,,,
 S,movkrin/mach-o-fat,BOF,0,0,CAFEBABE000000[01:1E]
-F,movkrin/java-class,Java class file,,application/x-java-applet,
-E,movkrin/java-class,class,,,
-S,movkrin/java-class,BOF,0,0,CAFEBABE????00[2D:7F]
+F,x-fmt/415,Java class file,,application/x-java-applet,
+E,x-fmt/415,class,,,
+S,x-fmt/415,BOF,0,0,CAFEBABE????00[2D:7F]
 F,movkrin/wasm,WebAssembly,1,application/wasm,
 E,movkrin/wasm,wasm,,,
 S,movkrin/wasm,BOF,0,0,0061736D01000000
@@ -987,8 +1242,28 @@ S,movkrin/pcap,BOF,0,0,(A1B2C3D4|A1B23C4D)00020004
 F,movkrin/pcapng,\"Packet capture, next generation\",,application/x-pcapng,
 E,movkrin/pcapng,pcapng,,,
 S,movkrin/pcapng,BOF,0,0,0A0D0D0A{4}(4D3C2B1A|1A2B3C4D)
+F,x-fmt/9,dBASE Database,III,application/vnd.dbf,
+E,x-fmt/9,dbf,,,
+S,x-fmt/9,BOF,0,0,(03|83)??[01:0C][01:1F]{4}(01|21|41|61|81|A1|C1|E1|02|22|42|62|82|A2|C2|E2)[00:10]{2}0000{18}[41:7A]{10}(43|44|46|4C|4D|4E)
+F,movkrin/dbf,dBASE IV or FoxPro table,,application/vnd.dbf,
+E,movkrin/dbf,dbf,,,
+S,movkrin/dbf,BOF,0,0,(30|31|32|43|63|8B|CB|F5|FB)??[01:0C][01:1F]{4}(01|21|41|61|81|A1|C1|E1|02|22|42|62|82|A2|C2|E2|08|28|48|68|88|A8|C8|E8)[00:20]{2}0000{18}[41:7A]{10}(42|43|44|46|47|49|4C|4D|4E|50|51|54|56|57|59)
+F,movkrin/sylk,Symbolic Link,,application/x-sylk,
+E,movkrin/sylk,slk,,,
+E,movkrin/sylk,sylk,,,
+E,movkrin/sylk,slc,,,
+S,movkrin/sylk,BOF,0,0,49443B50{0-64}(0A|0D)(42|43|46|4F|50)3B
+B,movkrin/sylk,EOF,0,2,(0A|0D)45
+F,movkrin/dif,Data Interchange Format,,application/x-dif,
+E,movkrin/dif,dif,,,
+S,movkrin/dif,BOF,0,0,5441424C45(0A|0D0A|0D)302C31(0A|0D0A|0D)22
+F,movkrin/icc,ICC profile,,application/vnd.iccprofile,
+E,movkrin/icc,icc,,,
+E,movkrin/icc,icm,,,
+S,movkrin/icc,BOF,8,8,(02|04|05)[00:50]{2}(73636E72|6D6E7472|70727472|6C696E6B|73706163|61627374|6E6D636C){20}61637370
 F,movkrin/shp,ESRI Shapefile,,application/vnd.shp,
 E,movkrin/shp,shp,,,
+E,movkrin/shp,shx,,,
 S,movkrin/shp,BOF,0,0,0000270A0000000000000000000000000000000000000000{4}E8030000
 F,movkrin/gettext-mo,Gettext message catalogue,,application/x-gettext-translation,
 E,movkrin/gettext-mo,mo,,,
@@ -1015,12 +1290,12 @@ S,movkrin/qcow2,BOF,0,0,514649FB000000(02|03)
 F,movkrin/vmdk,VMware sparse disk,,,
 E,movkrin/vmdk,vmdk,,,
 S,movkrin/vmdk,BOF,0,0,4B444D56[01:03]000000
-F,movkrin/ttf,TrueType font,,font/ttf,
-E,movkrin/ttf,ttf,,,
-S,movkrin/ttf,BOF,0,0,0001000000[04:7F](0040|0080|0100|0200|0400)00[02:06]
-F,movkrin/otf,\"OpenType font, CFF\",,font/otf,
-E,movkrin/otf,otf,,,
-S,movkrin/otf,BOF,0,0,4F54544F00[04:7F](0040|0080|0100|0200|0400)00[02:06]
+F,x-fmt/453,TrueType font,,font/ttf,
+E,x-fmt/453,ttf,,,
+S,x-fmt/453,BOF,0,0,0001000000[04:7F](0040|0080|0100|0200|0400)00[02:06]
+F,fmt/520,\"OpenType font, CFF\",,font/otf,
+E,fmt/520,otf,,,
+S,fmt/520,BOF,0,0,4F54544F00[04:7F](0040|0080|0100|0200|0400)00[02:06]
 F,movkrin/ttc,Font collection,,font/collection,
 E,movkrin/ttc,ttc,,,
 E,movkrin/ttc,otc,,,
@@ -1031,6 +1306,13 @@ S,movkrin/woff,BOF,0,0,774F4646(00010000|4F54544F|74727565)
 F,movkrin/woff2,Web Open Font Format,2,font/woff2,
 E,movkrin/woff2,woff2,,,
 S,movkrin/woff2,BOF,0,0,774F4632(00010000|4F54544F|74727565|74746366)
+F,movkrin/type1,Type 1 font,,application/x-font-type1,
+E,movkrin/type1,pfa,,,
+E,movkrin/type1,t1,,,
+S,movkrin/type1,BOF,0,0,2521(50532D41646F6265466F6E742D31|466F6E745479706531)
+F,movkrin/pfb,\"Type 1 font, binary\",,application/x-font-type1,
+E,movkrin/pfb,pfb,,,
+S,movkrin/pfb,BOF,0,0,8001{4}2521(50532D41646F6265466F6E742D31|466F6E745479706531)
 F,x-fmt/111,Plain Text File,,text/plain,
 E,x-fmt/111,txt,,,
 E,x-fmt/111,text,,,
@@ -1051,6 +1333,8 @@ E,movkrin/xml-by-name,xml,,,
 F,movkrin/html-by-name,HTML by its name,,text/html,
 E,movkrin/html-by-name,html,,,
 E,movkrin/html-by-name,htm,,,
+F,movkrin/postscript-by-name,PostScript by its name,,application/postscript,
+E,movkrin/postscript-by-name,ps,,,
 F,movkrin/tar-by-name,Tape archive by its name,,application/x-tar,
 E,movkrin/tar-by-name,tar,,,
 F,movkrin/geojson,GeoJSON,,application/geo+json,
@@ -1079,8 +1363,8 @@ F,movkrin/n-triples,N-Triples,,application/n-triples,
 E,movkrin/n-triples,nt,,,
 F,movkrin/dtd,XML document type definition,,application/xml-dtd,
 E,movkrin/dtd,dtd,,,
-F,movkrin/css,Cascading Style Sheets,,text/css,
-E,movkrin/css,css,,,
+F,x-fmt/224,Cascading Style Sheets,,text/css,
+E,x-fmt/224,css,,,
 F,movkrin/restructured-text,reStructuredText,,,
 E,movkrin/restructured-text,rst,,,
 F,movkrin/asciidoc,AsciiDoc,,,
@@ -1120,16 +1404,16 @@ E,movkrin/kotlin,kt,,,
 E,movkrin/kotlin,kts,,,
 F,movkrin/scala,Scala source,,,
 E,movkrin/scala,scala,,,
-F,movkrin/javascript,JavaScript,,text/javascript,
-E,movkrin/javascript,js,,,
-E,movkrin/javascript,mjs,,,
-E,movkrin/javascript,cjs,,,
+F,x-fmt/423,JavaScript,,text/javascript,
+E,x-fmt/423,js,,,
+E,x-fmt/423,mjs,,,
+E,x-fmt/423,cjs,,,
 F,movkrin/typescript,TypeScript,,,
 E,movkrin/typescript,ts,,,
 E,movkrin/typescript,tsx,,,
-F,movkrin/python,Python source,,text/x-python,
-E,movkrin/python,py,,,
-E,movkrin/python,pyi,,,
+F,fmt/938,Python source,,text/x-python,
+E,fmt/938,py,,,
+E,fmt/938,pyi,,,
 F,movkrin/ruby,Ruby source,,,
 E,movkrin/ruby,rb,,,
 F,movkrin/php,PHP source,,,
@@ -1186,9 +1470,9 @@ E,movkrin/gettext,pot,,,
 P,fmt/12,fmt/11,,,
 P,fmt/13,fmt/11,,,
 P,fmt/13,fmt/12,,,
-P,movkrin/apng,fmt/11,,,
-P,movkrin/apng,fmt/12,,,
-P,movkrin/apng,fmt/13,,,
+P,fmt/935,fmt/11,,,
+P,fmt/935,fmt/12,,,
+P,fmt/935,fmt/13,,,
 P,fmt/42,fmt/41,,,
 P,fmt/43,fmt/41,,,
 P,fmt/44,fmt/41,,,
@@ -1202,6 +1486,11 @@ P,x-fmt/391,movkrin/jpeg-exif,,,
 P,fmt/645,fmt/41,,,
 P,fmt/645,movkrin/jpeg-exif,,,
 P,movkrin/dng,fmt/353,,,
+P,fmt/592,fmt/353,,,
+P,fmt/202,fmt/353,,,
+P,movkrin/arw,fmt/353,,,
+P,movkrin/pef,fmt/353,,,
+P,fmt/402,x-fmt/367,,,
 P,fmt/95,fmt/14,,,
 P,fmt/95,fmt/15,,,
 P,fmt/95,fmt/16,,,
@@ -1274,37 +1563,59 @@ P,fmt/123,movkrin/postscript,,,
 P,fmt/123,movkrin/eps,,,
 P,fmt/124,movkrin/postscript,,,
 P,fmt/124,movkrin/eps,,,
+P,fmt/39,fmt/40,,,
+P,fmt/39,fmt/111,,,
+P,fmt/40,fmt/111,,,
+P,fmt/59,fmt/111,,,
+P,movkrin/xls,fmt/59,,,
+P,movkrin/xls,fmt/111,,,
+P,fmt/126,fmt/111,,,
+P,x-fmt/430,fmt/111,,,
+P,movkrin/pub,fmt/111,,,
+P,movkrin/vsd,fmt/111,,,
 P,fmt/412,x-fmt/263,,,
 P,fmt/214,x-fmt/263,,,
 P,fmt/215,x-fmt/263,,,
-P,movkrin/docm,x-fmt/263,,,
-P,movkrin/docm,fmt/412,,,
-P,movkrin/xlsm,x-fmt/263,,,
-P,movkrin/xlsm,fmt/214,,,
-P,movkrin/pptm,x-fmt/263,,,
-P,movkrin/pptm,fmt/215,,,
-P,movkrin/xlsb,x-fmt/263,,,
+P,fmt/523,x-fmt/263,,,
+P,fmt/523,fmt/412,,,
+P,fmt/445,x-fmt/263,,,
+P,fmt/445,fmt/214,,,
+P,fmt/487,x-fmt/263,,,
+P,fmt/487,fmt/215,,,
+P,fmt/595,x-fmt/263,,,
 P,movkrin/odt,x-fmt/263,,,
 P,movkrin/ott,x-fmt/263,,,
+P,movkrin/odm,x-fmt/263,,,
+P,movkrin/oth,x-fmt/263,,,
 P,movkrin/ods,x-fmt/263,,,
 P,movkrin/ots,x-fmt/263,,,
 P,movkrin/odp,x-fmt/263,,,
 P,movkrin/otp,x-fmt/263,,,
 P,movkrin/odg,x-fmt/263,,,
+P,movkrin/otg,x-fmt/263,,,
 P,movkrin/odf,x-fmt/263,,,
 P,movkrin/odc,x-fmt/263,,,
 P,movkrin/odb,x-fmt/263,,,
 P,fmt/483,x-fmt/263,,,
+P,movkrin/key-09,x-fmt/263,,,
+P,movkrin/iwork-09,x-fmt/263,,,
+P,movkrin/iwork,x-fmt/263,,,
 P,movkrin/deb,movkrin/ar,,,
-P,movkrin/jar,x-fmt/263,,,
+P,x-fmt/412,x-fmt/263,,,
+P,movkrin/siard,x-fmt/263,,,
+P,fmt/161,x-fmt/263,,,
+P,fmt/161,movkrin/siard,,,
 P,movkrin/apk,x-fmt/263,,,
-P,movkrin/apk,movkrin/jar,,,
+P,movkrin/apk,x-fmt/412,,,
 P,movkrin/bwf,fmt/6,,,
 P,fmt/203,movkrin/ogg,,,
-P,movkrin/ogg-opus,movkrin/ogg,,,
+P,fmt/946,movkrin/ogg,,,
 P,movkrin/ogg-flac,movkrin/ogg,,,
 P,movkrin/ogg-speex,movkrin/ogg,,,
 P,movkrin/ogg-theora,movkrin/ogg,,,
+P,fmt/132,fmt/131,,,
+P,fmt/133,fmt/131,,,
+P,fmt/133,fmt/132,,,
 P,fmt/96,fmt/101,,,
 P,fmt/96,movkrin/xml-1-1,,,
 P,fmt/96,movkrin/svg,,,
@@ -1355,28 +1666,40 @@ P,movkrin/kml,fmt/101,,,
 P,movkrin/kml,movkrin/xml-1-1,,,
 P,movkrin/gpx,fmt/101,,,
 P,movkrin/gpx,movkrin/xml-1-1,,,
-P,movkrin/xslt,fmt/101,,,
-P,movkrin/xslt,movkrin/xml-1-1,,,
-P,movkrin/xslt,fmt/96,,,
-P,movkrin/xslt,movkrin/xhtml,,,
-P,movkrin/xslt,movkrin/svg,,,
-P,movkrin/xslt,fmt/91,,,
-P,movkrin/xslt,fmt/92,,,
-P,movkrin/xslt,movkrin/atom,,,
-P,movkrin/xslt,movkrin/rss,,,
-P,movkrin/xslt,movkrin/kml,,,
-P,movkrin/xslt,movkrin/gpx,,,
-P,movkrin/xslt,movkrin/xsd,,,
-P,movkrin/xslt,movkrin/mathml,,,
-P,movkrin/xsd,fmt/101,,,
-P,movkrin/xsd,movkrin/xml-1-1,,,
+P,movkrin/gml,fmt/101,,,
+P,movkrin/gml,movkrin/xml-1-1,,,
+P,x-fmt/281,fmt/101,,,
+P,x-fmt/281,movkrin/xml-1-1,,,
+P,x-fmt/281,fmt/96,,,
+P,x-fmt/281,movkrin/xhtml,,,
+P,x-fmt/281,movkrin/svg,,,
+P,x-fmt/281,fmt/91,,,
+P,x-fmt/281,fmt/92,,,
+P,x-fmt/281,movkrin/atom,,,
+P,x-fmt/281,movkrin/rss,,,
+P,x-fmt/281,movkrin/kml,,,
+P,x-fmt/281,movkrin/gpx,,,
+P,x-fmt/281,x-fmt/280,,,
+P,x-fmt/281,movkrin/mathml,,,
+P,x-fmt/281,movkrin/gml,,,
+P,x-fmt/281,movkrin/fodt,,,
+P,x-fmt/281,movkrin/fods,,,
+P,x-fmt/281,movkrin/fodp,,,
+P,x-fmt/281,movkrin/fodg,,,
+P,x-fmt/280,fmt/101,,,
+P,x-fmt/280,movkrin/xml-1-1,,,
 P,movkrin/mathml,fmt/101,,,
 P,movkrin/mathml,movkrin/xml-1-1,,,
 P,movkrin/musicxml,fmt/101,,,
 P,movkrin/musicxml,movkrin/xml-1-1,,,
 P,movkrin/plist,fmt/101,,,
 P,movkrin/plist,movkrin/xml-1-1,,,
+P,movkrin/fodt,fmt/101,,,
+P,movkrin/fods,fmt/101,,,
+P,movkrin/fodp,fmt/101,,,
+P,movkrin/fodg,fmt/101,,,
 P,fmt/899,x-fmt/409,,,
 P,fmt/900,x-fmt/409,,,
 P,movkrin/geopackage,fmt/729,,,
+P,movkrin/type1,movkrin/postscript,,,
 ";

@@ -8,7 +8,7 @@ use crate::rows::{Anchor, ByteSequence};
 use droid_pattern::FirstBytes;
 
 /// Bytes, and their offset from the beginning of a file.
-#[derive(Clone, Copy, Debug)]
+#[derive(Clone, Copy)]
 pub(crate) struct Head {
     pub(crate) offset: u16,
     pub(crate) bytes: FirstBytes,
@@ -18,6 +18,7 @@ impl Head {
     /// Returns the bytes with one of which a match of the byte sequence begins.
     ///
     /// There are such if the byte sequence has one offset from the beginning, and its pattern begins with one of them.
+    /// `None` is always right, and only makes identification slower.
     pub(crate) fn of(sequence: &ByteSequence) -> Option<Head>
         ensures { IfSome result (λ head. IsHeadOf head sequence.now) }
     {

@@ -25,7 +25,7 @@ pub struct Priority {
 }
 
 /// The end of a file from which the offsets of a byte sequence count.
-#[derive(Clone, Copy, Debug, PartialEq, Eq)]
+#[derive(Clone, Copy)]
 pub enum Anchor {
     /// The beginning: the offset is the number of bytes before the match.
     Bof,
@@ -34,7 +34,7 @@ pub enum Anchor {
 }
 
 /// The offsets at which a byte sequence may match: from `min` to `max`, both included.
-#[derive(Clone, Copy, Debug)]
+#[derive(Clone, Copy)]
 pub struct Offsets {
     pub anchor: Anchor,
     pub min: u16,
@@ -42,14 +42,14 @@ pub struct Offsets {
 }
 
 /// A byte sequence: a pattern and the offsets at which it may match.
-#[derive(Debug, Drop)]
+#[derive(Drop)]
 pub struct ByteSequence {
     pub offsets: Offsets,
     pub pattern: Pattern,
 }
 
 /// A signature of a format. It hits if all of its byte sequences hit.
-#[derive(Debug, Drop)]
+#[derive(Drop)]
 pub struct Signature {
     place: u32,
     // The bytes with one of which a match of the first byte sequence begins, if that is known.
@@ -100,7 +100,8 @@ impl Signature {
         self.place
     }
 
-    /// Returns whether a byte among the file's first bytes shows that not all byte sequences hit.
+    /// Returns whether a byte among the file's first bytes shows that not all byte sequences hit. Only `true` promises
+    /// anything: it spares the search for matches.
     pub(crate) fn is_ruled_out(&self, first: &[u8]) -> bool
         ensures { IsTrue result → (last : List ℕ) → AllByRecursion (HitsWindows first.now last) self.now.sequences → ⊥ }
     {

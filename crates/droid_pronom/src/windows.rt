@@ -29,6 +29,7 @@ fn left_formats(
     let count = registry.len();
     let hit = hit_formats(alloc, count, registry.signatures(), first, last)?;
     let none = !is_any_set(hit.as_slice());
+    // For speed: nothing hits, so priority drops nothing.
     if none {
         return Ok(hit);
     }

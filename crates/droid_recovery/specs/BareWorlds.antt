@@ -24,14 +24,17 @@ abbrev pub bare_content : Bool → Content → Content
 bare_content true content = if content.finished then content else record content { pieces = [] }
 bare_content false content = content
 
+-- the node, without its bytes if it is a bare file
 abbrev pub bare_node : Bool → Node → Node
 bare_node bare (Folder parent modified name) = Folder parent modified name
 bare_node bare (File parent modified name content) = File parent modified name (bare_content bare content)
 bare_node bare Abandoned = Abandoned
 
+-- the nodes of a profile, of which those with these numbers are bare
 abbrev pub bare_nodes : (ℕ → Bool) → List Node → List Node
 bare_nodes bare nodes = by_number (λ id. bare_node (bare id)) nodes
 
+-- the profile with such nodes
 abbrev pub bare_profile : (ℕ → Bool) → Profile → Profile
 bare_profile bare profile = record profile { nodes = bare_nodes bare profile.nodes }
 

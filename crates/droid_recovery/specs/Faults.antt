@@ -4,6 +4,7 @@ use Rattle.droid_store.specs.declared.fault.StoreFault.TheVariants as stores
 use Rattle.droid_recovery.specs.declared.revival_fault.RecoveryFault.{RecoveryFault}
 use Rattle.droid_recovery.specs.declared.revival_fault.RecoveryFault.TheVariants.{Memory, Unfit}
 
+-- a lack of memory is one here too; whatever else the store refuses, no service accepted it
 abbrev pub of_store : StoreFault → RecoveryFault
 of_store stores.Memory = Memory
 of_store stores.Refused = Unfit

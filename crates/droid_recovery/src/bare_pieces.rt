@@ -1,4 +1,4 @@
-//! Pieces of bare files.
+//! Recovering a piece of a bare file: there are no bytes to take, so only its reply is kept.
 
 ghost use Rattle.std.specs.Prelude.{◌≡◌, ◌++◌, ◌∷◌, [], IfErr, OnErr, OnOk};
 ghost use Rattle.droid_recovery.specs.BareWorlds.{Bare};

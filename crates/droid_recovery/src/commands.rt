@@ -1,4 +1,4 @@
-//! Commands that need no bytes of a bare file.
+//! Recovering a command that needs no bytes of a bare file: it is carried out as a service does.
 
 ghost use Rattle.std.specs.Prelude.{◌≡◌, ◌<◌, ◌^◌, ◌++◌, ◌∷◌, [], Err, None, Some, MatchBool, true, false};
 ghost use Rattle.droid_recovery.specs.BareWorlds.{Bare};
@@ -96,7 +96,7 @@ fn apply(holdings: &mut Holdings, stamp: Stamp, request: Request) -> Result<Repl
     }
 }
 
-/// Refuses a query, which is in no journal.
+/// Refuses an Export, as no query is in a journal, and drops its filter.
 fn refuse_export(_filter: Filter) -> Result<Reply, Refusal>
     ensures { result ≡ Err Refusal.Malformed }
 {

@@ -1,4 +1,4 @@
-//! Finish of bare files.
+//! Recovering the Finish of a bare file: there are no bytes to identify, so its reply says what was found.
 
 ghost use Rattle.std.specs.Prelude.{◌≡◌, ◌<◌, ◌^◌, ◌++◌, ◌∷◌, [], None, IfErr, OnErr, OnOk};
 ghost use Rattle.droid_recovery.specs.BareWorlds.{Bare};

@@ -1,4 +1,4 @@
-//! Reading bare frames.
+//! Reading bare frames, which droid_compaction writes in the place of the frames of a bare file's requests.
 
 ghost use Rattle.std.specs.Prelude.{◌≡◌, ◌++◌, ℕ, IfOk, MatchResult, length};
 ghost use Rattle.droid_core.specs.Changes.{stamp_of};

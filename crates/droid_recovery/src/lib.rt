@@ -1,5 +1,6 @@
 //! A service made again from its accepted requests and their replies, where the pieces of finished and abandoned files
-//! have no bytes, as in a journal that was made small.
+//! have no bytes, as in a journal that was made small. Such a file is called bare, and so are its pieces and its
+//! Finish.
 //!
 //! [`RecoveringMachine`] takes the records in order, like any machine of a journal. A request that needs no bytes of
 //! such a file, or that came again, is handled as ever. Of a piece of such a file the reply alone is kept, and its

@@ -1,4 +1,4 @@
-//! Handling the frame of one record.
+//! Handling the frame of one record, by its kind.
 
 ghost use Rattle.std.specs.Prelude.{◌≡◌, ◌≢◌, ℕ, true};
 ghost use Rattle.droid_core_spec.specs.MemoryFaults.{is_out_of_memory};

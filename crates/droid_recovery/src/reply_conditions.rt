@@ -1,4 +1,4 @@
-//! What has to hold of the rows before a reply is kept.
+//! What the rows say before a reply is kept: whether one is kept already, and whether they can take what it says.
 
 ghost use Rattle.std.specs.Prelude.{◌≡◌, ◌<◌, ◌^◌, ◌↔◌, ◌==◌, None, IsTrue, IfErr, IfOk, OnOk};
 ghost use Rattle.std.specs.List.{list_all, list_any};
@@ -46,7 +46,7 @@ pub(crate) fn see_new(store: &mut Store, stamp: Stamp) -> Result<(), RecoveryFau
     }
 }
 
-/// Whether this profile's files have hashes of the kind of this one.
+/// Returns whether this profile's files have hashes of the kind of this one.
 pub(crate) fn is_of_kind(
     store: &mut Store,
     profile: u32,
@@ -63,7 +63,7 @@ pub(crate) fn is_of_kind(
     }
 }
 
-/// Whether this profile has an unfinished file with this number.
+/// Returns whether this profile has an unfinished file with this number.
 pub(crate) fn is_open(store: &mut Store, profile: u32, file: u32) -> Result<bool, StoreFault>
     ensures same { store.new ≡ store.old }
     ensures found { IfOk result (λ it. IsTrue it ↔ IsOpen profile file store.old) }
@@ -76,14 +76,14 @@ pub(crate) fn is_open(store: &mut Store, profile: u32, file: u32) -> Result<bool
     }
 }
 
-/// Whether each text is a word: not empty and without a space.
+/// Returns whether each text is a word: not empty and without a space.
 pub(crate) fn are_words(texts: &Texts) -> bool
     ensures { result ≡ list_all is_word texts.now }
 {
     are_all_words(texts.as_slice())
 }
 
-/// Returns whether each text is a word.
+/// Does the work of [`are_words`].
 fn are_all_words(texts: &[Text]) -> bool
     ensures { result ≡ list_all is_word texts.now }
 {

@@ -1,4 +1,5 @@
-//! The identifiers of a registry.
+//! The identifiers of a registry have no space. A store keeps those that were found in one text, with spaces between
+//! them.
 
 ghost use Rattle.droid_core.specs.Identified.{IsOf};
 ghost use Rattle.droid_core_spec.specs.Setting.{Setting};

@@ -2,6 +2,7 @@
 use Rattle.std.specs.Prelude.{◌≡◌, List, [], ◌∷◌, ◌++◌}
 use Rattle.droid_frame.specs.declared.frame.Frame.{Frame}
 
+-- one event of a connection
 pub data Event : Type 0 where
   -- a new connection was made
   Joined : Event
@@ -22,6 +23,7 @@ pub data Event : Type 0 where
   -- the time that may be waited was started anew
   Started : Event
 
+-- what is known of the connection that stands
 pub data Fact : Type 0 where
   -- this frame was written, whole, on the connection that stands
   Written : (frame : Frame) → Fact

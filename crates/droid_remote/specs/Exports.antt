@@ -26,6 +26,7 @@ use Rattle.droid_remote.specs.declared.remote_fault.DownloadFault.TheVariants.{L
 abbrev pub part_request : ℕ → ℕ → Request
 part_request profile from = Export profile from 1048576 all_records
 
+-- the bytes of all parts, in order
 abbrev pub joined : List (List ℕ) → List ℕ
 joined parts = flat_map (λ part. part) parts
 

@@ -4,6 +4,7 @@ use Rattle.droid_remote.specs.Sharing.{IsAsked, SharesNumber}
 use Rattle.droid_upload.specs.Calls.{Call, attempt_of, request_of}
 use Rattle.droid_remote.specs.Conversations.{frame_of_call}
 
+-- the call is one of a submission
 abbrev pub IsAskedCall : Call → Type 0
 IsAskedCall call = IsAsked (attempt_of call) (request_of call)
 

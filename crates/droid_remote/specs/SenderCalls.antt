@@ -36,11 +36,12 @@ abbrev pub is_busy : Reply → Bool
 is_busy (replies.Refused (refusals.LimitReached limits.Unfinished)) = true
 is_busy _ = false
 
--- what the walk learns: a refused piece does not stop the sender, and every other fault does
+-- what the walk learns: a refused piece, or that nothing more is sent
 abbrev pub client_fault_of : TransferFault → ClientFault
 client_fault_of (transfers.Refused refusal) = Piece refusal
 client_fault_of _ = Ended
 
+-- why nothing more is sent: any fault but a refused piece
 abbrev pub stop_of : TransferFault → Option TransferFault
 stop_of (transfers.Refused refusal) = None
 stop_of fault = Some fault

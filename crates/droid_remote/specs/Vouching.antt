@@ -16,6 +16,7 @@ nothing_known = record { profile = None; change = None }
 abbrev pub IsKnown : KnownRequests → Known → Type 0
 IsKnown all known = (all.profile ≡ Some known) ⊎ (all.change ≡ Some known)
 
+-- it is a known request, if it is there
 abbrev pub AreKnown : Option Known → KnownRequests → Type 0
 AreKnown some all = (known : Known) → some ≡ Some known → IsKnown all known
 

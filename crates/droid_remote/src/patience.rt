@@ -77,7 +77,7 @@ fn ask_copy<C: Connection>(
     Ok(reply)
 }
 
-/// Copies a frame.
+/// Copies a frame, which may have to be sent again.
 fn copy_of(alloc: Global, frame: &Frame) -> Result<Frame, AllocError>
     ensures { IfOk result (λ copy. copy ≡ frame.now) }
 {

@@ -6,16 +6,13 @@ ghost use Rattle.droid_remote.specs.RemoteSubmissions.{remote_fault_of};
 use crate::transfer::transfer_fault::TransferFault;
 use droid_upload::SubmissionFault;
 use std::alloc::AllocError;
-use thiserror::Error;
 
 /// Why a tree was not submitted, or only in part.
-#[derive(Clone, Copy, Debug, PartialEq, Eq, Error)]
+#[derive(Clone, Copy)]
 pub enum RemoteFault {
     /// The walk ended early. It is never `SubmissionFault::Ended`: then this is `Sending`.
-    #[error("the tree could not be walked")]
     Walking(SubmissionFault),
     /// A request got no reply that the client accepts.
-    #[error("the tree could not be sent")]
     Sending(TransferFault),
 }
 
@@ -30,16 +27,13 @@ pub(crate) fn remote_fault_of(stopped: Option<TransferFault>, fault: SubmissionF
 }
 
 /// Why an export was not read.
-#[derive(Clone, Copy, Debug, PartialEq, Eq, Error)]
+#[derive(Clone, Copy)]
 pub enum DownloadFault {
     /// A part was not received.
-    #[error("the export could not be read")]
     Sending(TransferFault),
     /// The export has this many bytes, more than `EXPORT_LIMIT`.
-    #[error("the export is too long")]
     Long(u64),
     /// Out of memory for the export's text.
-    #[error("out of memory for the export")]
     NoRoom,
 }
 

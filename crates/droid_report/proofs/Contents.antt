@@ -11,7 +11,7 @@ use Rattle.droid_report.specs.Groups.{IsContentOf, has_key, key_of}
 use Rattle.droid_report.specs.Rows.{Line, text_at}
 use Rattle.droid_report.specs.Totals.{is_first_of_file}
 use Rattle.droid_report.specs.declared.keys.Alike.TheVariants as alike
-use Rattle.droid_report.proofs.Numbers.{digits, first_holds}
+use Rattle.droid_export.proofs.Numbers.{digits, first_holds}
 
 -- ---- the last comma
 

@@ -6,7 +6,6 @@ mod HtmlReading
 mod Letters
 mod Lines
 mod Listing
-mod Numbers
 pub mod Pages
 mod Reading
 mod RowSteps

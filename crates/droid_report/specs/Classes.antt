@@ -36,6 +36,7 @@ class_of by.Year facts = option_map (λ year. min year 9999) facts.year
 class_of by.Size facts = Some (min (size_class facts.size) 32)
 class_of by.Depth facts = Some (min facts.depth 64)
 
+-- whether a file has this class
 abbrev pub is_class : Option ℕ → ℕ → Bool
 is_class None class = false
 is_class (Some one) class = one == class
@@ -57,9 +58,11 @@ pub record AreClasses (lines : List Line) (classes : Classes) : Type 0 where
 
 -- ---- for proofs: one row more
 
+-- a table before the first row
 unfoldable pub no_files : By → List ℕ
 no_files by = replicate (last_class by + 1) 0
 
+-- a row adds one to its class, if it has one, and changes nothing else
 pub record IsCountedIn (by : By) (line : Line) (old new : List ℕ) : Type 0 where
   pub same_length : length new ≡ length old
   pub counts : (class : ℕ) → class < length old

@@ -5,21 +5,16 @@ use Rattle.std.specs.Char.{is_ascii_digit}
 use Rattle.std.specs.List.{fold, list_all}
 use Rattle.std.specs.Option.{option_map}
 use Rattle.std.specs.Str.{bytes_eq}
-use Rattle.std.specs.Str.Parse.{digits_value}
+use Rattle.droid_export.specs.Fields.{number_of}
 use Rattle.droid_frame.specs.declared.method.Method.{Method}
 use Rattle.droid_frame.specs.declared.method.Method.TheVariants.{Unidentified, Signature, Extension}
 use Rattle.droid_frame.specs.declared.node_kind.NodeKind.{NodeKind}
 use Rattle.droid_frame.specs.declared.node_kind.NodeKind.TheVariants.{File, Folder}
 
+-- whether a field is a path: it begins with `/`
 abbrev pub is_path : List ℕ → Bool
 is_path [] = false
 is_path (b ∷ bytes) = b == 47
-
--- TYPE
-abbrev pub kind_of : List ℕ → Option NodeKind
-kind_of text =
-    if bytes_eq text (codes "File") then Some File
-    else if bytes_eq text (codes "Folder") then Some Folder else None
 
 -- METHOD
 abbrev pub method_of : List ℕ → Option Method
@@ -33,12 +28,6 @@ abbrev pub truth_of : List ℕ → Option Bool
 truth_of text =
     if bytes_eq text (codes "true") then Some true
     else if bytes_eq text (codes "false") then Some false else None
-
--- the number that decimal digits stand for, below 2 ^ 64
-abbrev pub number_of : List ℕ → Option ℕ
-number_of text =
-    if list_all is_ascii_digit text && nat_lt 0 (length text) && nat_lt (digits_value 10 text) (2 ^ 64)
-    then Some (digits_value 10 text) else None
 
 -- SIZE and FORMAT_COUNT: a folder has neither, which counts as 0
 abbrev pub number_for : NodeKind → List ℕ → Option ℕ

@@ -22,6 +22,7 @@ key_of alike.Content line =
     if is_first_of_file line && not (length (text_at line.fields (place_of columns.Hash)) == 0)
     then text_at line.fields (place_of columns.Hash) ++ (codes ", " ++ decimal line.facts.size) else []
 
+-- whether a row is one of those with this key
 abbrev pub has_key : Alike → List ℕ → Line → Bool
 has_key alike key line = not (length (key_of alike line) == 0) && bytes_eq (key_of alike line) key
 
@@ -51,6 +52,7 @@ pub record Summed : Type 0 where
   pub first_size : ℕ
   pub label : List ℕ
 
+-- a group of a table, seen so
 abbrev pub summed : GroupSum → Summed
 summed sum =
     record { count = sum.count; bytes = sum.bytes; first_size = sum.first_size; label = string_bytes sum.label }
@@ -64,6 +66,7 @@ abbrev pub first_with : (Line → Bool) → List Line → Option Line
 first_with test [] = None
 first_with test (line ∷ lines) = if test line then Some line else first_with test lines
 
+-- the size of a row, if it passes a test
 abbrev pub size_if : (Line → Bool) → Line → ℕ
 size_if test line = if test line then line.facts.size else 0
 
@@ -87,9 +90,11 @@ AreGroups alike lines groups = (key : List ℕ) → sum_at groups key ≡ group_
 
 -- ---- for proofs: one row more
 
+-- the group that a row begins, before that row is counted
 abbrev pub fresh : Alike → Line → Summed
 fresh alike line = record { count = 0; bytes = 0; first_size = line.facts.size; label = label_of alike line }
 
+-- a group with one row more, of this size
 abbrev pub grown : Summed → ℕ → Summed
 grown sum size = record {
   count = held (sum.count + 1);
@@ -98,6 +103,7 @@ grown sum size = record {
   label = sum.label;
 }
 
+-- what a table has for a key after a row
 abbrev pub sum_after : Alike → List ℕ → Option Summed → Line → Option Summed
 sum_after alike key old line =
     if has_key alike key line then Some (grown (unwrap_or old (fresh alike line)) line.facts.size) else old

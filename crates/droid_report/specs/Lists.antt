@@ -31,6 +31,7 @@ rank_of ranks.Newest line = 2 ^ 64 - 1 - line.facts.moment
 abbrev pub place_for : Rank → Line → List Line → ℕ
 place_for rank line lines = position_or_len (λ other. nat_lt (rank_of rank line) (rank_of rank other)) lines
 
+-- rows with one more, in its place
 abbrev pub placed : Rank → List Line → Line → List Line
 placed rank lines line = insert lines (place_for rank line lines) line
 
@@ -53,15 +54,18 @@ pub record AreLists (lines : List Line) (lists : Lists) : Type 0 where
 
 -- ---- for proofs: one row more
 
+-- the first rows that count for a total, after one row more
 abbrev pub first_after : What → ℕ → List Line → Line → List Line
 first_after what limit lines line =
     if nat_lt (length lines) limit && is_counted what line then lines ++ line ∷ [] else lines
 
+-- the first rows of an order, after one row more
 abbrev pub ranked_after : Rank → ℕ → List Line → Line → List Line
 ranked_after rank limit lines line =
     if is_ranked rank line && nat_lt (place_for rank line lines) limit then take limit (placed rank lines line)
     else lines
 
+-- the lists after one row more; the numbers are how long each list is at most
 pub record ListsAfter (line : Line) (old new : Lists) : Type 0 where
   pub unidentified : lines_in new.unidentified.items
       ≡ first_after what.Unidentified 200 (lines_in old.unidentified.items) line

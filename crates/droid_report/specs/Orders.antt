@@ -15,6 +15,7 @@ pub record IsOrder (key : Group → ℕ) (least : ℕ) (groups : BTreeMap (Strin
   pub all : map group_seen listed ≡ groups_in least groups.entries
   pub order : AreRanked key listed ranked
 
+-- the orders of a page: formats by files and by bytes, and contents of two files or more by what their copies take
 pub record AreOrders (counts : Counts) (orders : Orders) : Type 0 where
   pub files : IsOrder by_count 1 counts.formats orders.by_count.items
   pub bytes : IsOrder by_bytes 1 counts.formats orders.by_bytes.items

@@ -14,6 +14,7 @@ is key text = record { key = key; value = Words text }
 unfoldable pub style : List ℕ
 style = STYLE.now
 
+-- what stands before the body: how its bytes are read, that nothing is loaded, the title and the style
 abbrev pub head : List ℕ → Tree
 head title =
     Meta (is trees.Charset (codes "utf-8") ∷ [])
@@ -36,10 +37,12 @@ page_text title body = codes "<!DOCTYPE html>" ++ text_of (page title body) []
 
 -- ---- the same by the text of the body
 
+-- the text of the head, and then the rest
 abbrev pub framed : List ℕ → List ℕ → List ℕ → List ℕ
 framed title style rest =
     codes "<!DOCTYPE html><html lang=\"en\"><head><meta charset=\"utf-8\"><meta http-equiv=\"Content-Security-Policy\" content=\"default-src 'none'; style-src 'unsafe-inline'\"><meta name=\"viewport\" content=\"width=device-width, initial-scale=1\"><title>"
     ++ (escape title ++ (codes "</title><style>" ++ (style ++ (codes "</style></head><body>" ++ rest))))
 
+-- the text of a page with this text as its body
 unfoldable pub page_around : List ℕ → List ℕ → List ℕ
 page_around title body = framed title style (body ++ codes "</body></html>")

@@ -18,6 +18,7 @@ pub record Ranked : Type 0 where
   pub bytes : ℕ
   pub saved : ℕ
 
+-- a group, seen so
 abbrev pub group_seen : Group → Ranked
 group_seen group = record {
   key = group.key.now;
@@ -38,6 +39,7 @@ group_in entry =
       saved = entry.1.bytes - entry.1.first_size;
     }
 
+-- whether an entry has at least this many rows
 abbrev pub has_at_least : ℕ → String Global × GroupSum → Bool
 has_at_least least entry = nat_le least entry.1.count
 
@@ -58,12 +60,15 @@ together groups =
 abbrev pub behind : ℕ → ℕ
 behind n = 2 ^ 64 - 1 - n
 
+-- the key that puts the group with the most rows first
 abbrev pub by_count : Group → ℕ
 by_count group = behind group.count
 
+-- the key that puts the group with the most bytes first
 abbrev pub by_bytes : Group → ℕ
 by_bytes group = behind group.bytes
 
+-- the key that puts the group first whose copies take the most bytes
 abbrev pub by_saved : Group → ℕ
 by_saved group = behind group.saved
 
@@ -75,6 +80,7 @@ pub record AreRanked (key : Group → ℕ) (groups ranked : List Group) : Type 0
 
 -- ---- for proofs: one group more
 
+-- what groups come to with one more
 abbrev pub with_group : GroupsTotal → Group → GroupsTotal
 with_group sum group = record {
   count = held (sum.count + group.count);

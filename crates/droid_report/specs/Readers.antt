@@ -14,6 +14,7 @@ pub record Setting : Type 0 where
   pub name : List ℕ
   pub value : List ℕ
 
+-- what a reader finds: a start tag, an end tag, a byte of text, or a fault
 pub data Token : Type 0 where
   Start : List ℕ → List Setting → Token
   End : List ℕ → Token
@@ -40,15 +41,19 @@ pub data State : Type 0 where
 abbrev pub Step : Type 0
 Step = State × List Token
 
+-- a byte with which nothing is finished
 abbrev pub goes : State → Step
 goes state = (state, [])
 
+-- a byte with which this is finished; text follows
 abbrev pub says : Token → Step
 says token = (Data, token ∷ [])
 
+-- a byte that may not stand there
 abbrev pub loses : Step
 loses = (Lost, Fault ∷ [])
 
+-- whether a byte is a lower-case letter
 abbrev pub is_letter : ℕ → Bool
 is_letter b = nat_le 97 b && nat_le b 122
 
@@ -64,6 +69,7 @@ referred name found =
     else if bytes_eq name (codes "gt") then found 62
     else if bytes_eq name (codes "quot") then found 34 else loses
 
+-- what a byte does in a state
 unfoldable pub step : State → ℕ → Step
 step Data b = if b == 38 then goes (Reference []) else if b == 60 then goes TagOpen else says (Character b)
 step (Reference name) b =
@@ -107,16 +113,20 @@ read state (b ∷ text) = (step state b).1 ++ read (step state b).0 text
 
 -- ---- the tokens of a tree
 
+-- the bytes of a text, one by one
 abbrev pub characters : List ℕ → List Token
 characters text = map Character text
 
+-- an attribute's value as a browser has it, with its references read
 abbrev pub value_of : Value → List ℕ
 value_of (Words text) = shown text
 value_of (Count n) = decimal n
 
+-- an attribute as a browser has it
 abbrev pub setting_of : Attribute → Setting
 setting_of attribute = record { name = key_name attribute.key; value = value_of attribute.value }
 
+-- what a browser is to read of a tree
 abbrev pub tokens_of : Tree → List Token
 tokens_of Nothing = []
 tokens_of (Text text more) = characters (shown text) ++ tokens_of more

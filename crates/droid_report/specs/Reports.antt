@@ -9,6 +9,7 @@ use Rattle.droid_report.specs.declared.counts.Counts.{Counts}
 use Rattle.droid_report.specs.declared.keys.Alike.TheVariants as alike
 use Rattle.droid_report.specs.declared.report.Report.{Report}
 
+-- what a report counts in these rows
 pub record AreCounts (lines : List Line) (counts : Counts) : Type 0 where
   pub totals : AreTotals lines counts.totals
   pub classes : AreClasses lines counts.classes
@@ -16,6 +17,7 @@ pub record AreCounts (lines : List Line) (counts : Counts) : Type 0 where
   pub contents : AreGroups alike.Content lines counts.contents
   pub lists : AreLists lines counts.lists
 
+-- the report of a profile
 pub record IsReport (profile : Profile) (report : Report) : Type 0 where
   pub hash : report.hash ≡ profile.hash
   pub counts : AreCounts profile.lines report.counts

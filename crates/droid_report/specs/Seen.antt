@@ -12,24 +12,29 @@ pub data Seen : Type 0 where
   Amount : ℕ → Seen
   Bar : ℕ → Seen
 
+-- a cell, seen so
 abbrev pub seen : Cell → Seen
 seen (cells.Text text) = Words (string_bytes text)
 seen (cells.Link target text) = Link (string_bytes target) (string_bytes text)
 seen (cells.Number n) = Amount n
 seen (cells.Bar share) = Bar share
 
+-- a row, seen so
 abbrev pub row_seen : Vec Cell Global → List Seen
 row_seen row = map seen row.items
 
+-- rows, seen so
 abbrev pub rows_seen : List (Vec Cell Global) → List (List Seen)
 rows_seen rows = map row_seen rows
 
+-- a table: its title, what stands below that, the names of its columns, and its rows
 pub record Shown : Type 0 where
   pub title : List ℕ
   pub note : List ℕ
   pub heads : List (List ℕ)
   pub rows : List (List Seen)
 
+-- a table, seen so
 abbrev pub table_seen : Table → Shown
 table_seen table =
     record {
@@ -39,6 +44,7 @@ table_seen table =
       rows = rows_seen table.rows.items;
     }
 
+-- tables, seen so
 abbrev pub tables_seen : List Table → List Shown
 tables_seen tables = map table_seen tables
 

@@ -39,5 +39,6 @@ abbrev pub flat_map_at : {A B : Type 0} → (ℕ → A → List B) → ℕ → L
 flat_map_at f at [] = []
 flat_map_at f at (x ∷ xs) = f at x ++ flat_map_at f (at + 1) xs
 
+-- the rows of a table of classes; the greatest number has the longest bar
 abbrev pub class_rows : By → List ℕ → List (List Seen)
 class_rows by counts = flat_map_at (class_row by (greatest counts)) 0 counts

@@ -28,19 +28,23 @@ more_text more elsewhere = if more == 0 then [] else decimal more ++ (texts.MORE
 
 -- ---- totals
 
+-- a name and a number
 abbrev pub figure : List ℕ → ℕ → List Seen
 figure name number = Words name ∷ Amount number ∷ []
 
+-- folders, files and bytes
 abbrev pub count_figures : Totals → List (List Seen)
 count_figures totals =
     figure texts.FOLDERS.now totals.folders ∷ figure texts.FILES.now totals.files ∷ figure texts.BYTES.now totals.bytes
     ∷ []
 
+-- how many files were identified by which method
 abbrev pub method_figures : Totals → List (List Seen)
 method_figures totals =
     figure texts.BY_SIGNATURE.now totals.by_signature ∷ figure texts.BY_EXTENSION.now totals.by_extension
     ∷ figure texts.UNIDENTIFIED.now totals.unidentified ∷ []
 
+-- how many files ask for a look
 abbrev pub odd_figures : Totals → List (List Seen)
 odd_figures totals =
     figure texts.MISMATCHES.now totals.mismatches ∷ figure texts.SEVERAL_FORMATS.now totals.several_formats
@@ -54,9 +58,11 @@ group_figures orders =
     ∷ figure texts.COPIED_BYTES.now (together orders.copies.items).saved
     ∷ []
 
+-- all rows of the table of totals
 abbrev pub figures : Totals → Orders → List (List Seen)
 figures totals orders = ((count_figures totals ++ method_figures totals) ++ odd_figures totals) ++ group_figures orders
 
+-- the table of totals
 abbrev pub totals_table : Totals → Orders → Shown
 totals_table totals orders = record {
   title = texts.TOTALS.now;
@@ -67,6 +73,7 @@ totals_table totals orders = record {
 
 -- ---- pictures
 
+-- a picture of formats by one measure, as a table with bars
 abbrev pub picture : List ℕ → List ℕ → List Group → Measure → ℕ → Shown
 picture title unit groups measure limit =
     record {
@@ -76,15 +83,18 @@ picture title unit groups measure limit =
       rows = picture_rows measure limit groups;
     }
 
+-- the two pictures of formats: by files and by bytes
 abbrev pub pictures : Orders → ℕ → List Shown
 pictures orders limit =
     picture texts.FORMATS_BY_FILES.now texts.FILES.now orders.by_count.items measures.Files limit
     ∷ picture texts.FORMATS_BY_BYTES.now texts.BYTES.now orders.by_bytes.items measures.Bytes limit
     ∷ []
 
+-- the totals, and the pictures of formats
 abbrev pub overview : Totals → Orders → ℕ → List Shown
 overview totals orders limit = totals_table totals orders ∷ pictures orders limit
 
+-- the table of one kind of classes; `limit` is how many rows it has at most
 abbrev pub class_table : List ℕ → List ℕ → List ℕ → By → List ℕ → ℕ → Shown
 class_table title note head by counts limit = record {
   title = title;
@@ -93,6 +103,7 @@ class_table title note head by counts limit = record {
   rows = take limit (class_rows by counts);
 }
 
+-- the tables by year, size and depth; those by size and depth have all rows, of which there are at most 65
 abbrev pub class_tables : Classes → ℕ → List Shown
 class_tables classes limit =
     class_table texts.YEARS.now texts.YEARS_NOTE.now texts.YEAR.now by.Year classes.years.items limit
@@ -111,9 +122,11 @@ abbrev pub puid_seen : List ℕ → Seen
 puid_seen puid =
     if is_pronom puid then Link (codes "https://www.nationalarchives.gov.uk/PRONOM/" ++ puid) puid else Words puid
 
+-- a format: its PUID, its name, its files and their bytes
 abbrev pub format_row : Group → List Seen
 format_row group = puid_seen group.key.now ∷ Words group.label.now ∷ Amount group.count ∷ Amount group.bytes ∷ []
 
+-- the table of formats, those with the most files first
 abbrev pub format_table : List Group → ℕ → Shown
 format_table groups limit =
     record {
@@ -123,9 +136,11 @@ format_table groups limit =
       rows = map format_row (take limit groups);
     }
 
+-- equal files: the path of the first, their hash and size, how many they are, and what the copies take
 abbrev pub copy_row : Group → List Seen
 copy_row group = Words group.label.now ∷ Words group.key.now ∷ Amount group.count ∷ Amount group.saved ∷ []
 
+-- the table of equal files, those whose copies take the most bytes first
 abbrev pub copy_table : List Group → ℕ → Shown
 copy_table groups limit =
     record {
@@ -135,19 +150,23 @@ copy_table groups limit =
       rows = map copy_row (take limit groups);
     }
 
+-- the tables of formats and of equal files
 abbrev pub group_tables : Orders → ℕ → List Shown
 group_tables orders limit = format_table orders.by_count.items limit ∷ copy_table orders.copies.items limit ∷ []
 
 -- ---- files
 
+-- a file: its path, its size, and when it was changed
 abbrev pub file_row : Row → List Seen
 file_row row =
     Words (text_at (line_of row).fields (place_of columns.FilePath)) ∷ Amount row.facts.size
     ∷ Words (text_at (line_of row).fields (place_of columns.LastModified)) ∷ []
 
+-- how many of `total` files a list of these rows leaves out
 abbrev pub note_for : ℕ → List Row → ℕ → List ℕ → List ℕ
 note_for total rows limit elsewhere = more_text (total - min limit (length rows)) elsewhere
 
+-- a list of files
 abbrev pub file_table : List ℕ → List ℕ → List Row → ℕ → Shown
 file_table title note rows limit =
     record {
@@ -161,6 +180,7 @@ file_table title note rows limit =
 abbrev pub list_table : List ℕ → ℕ → List ℕ → List Row → ℕ → Shown
 list_table title total elsewhere rows limit = file_table title (note_for total rows limit elsewhere) rows limit
 
+-- the lists of files that ask for a look
 abbrev pub list_tables : Totals → Lists → ℕ → List Shown
 list_tables totals lists limit =
     list_table texts.NOT_IDENTIFIED.now totals.unidentified texts.UNIDENTIFIED_ELSEWHERE.now lists.unidentified.items
@@ -169,6 +189,7 @@ list_tables totals lists limit =
     ∷ list_table texts.SEVERAL.now totals.several_formats texts.SEVERAL_ELSEWHERE.now lists.several_formats.items limit
     ∷ []
 
+-- the lists of the largest, the oldest and the newest files
 abbrev pub extreme_tables : Totals → Lists → ℕ → List Shown
 extreme_tables totals lists limit =
     list_table texts.LARGEST_FILES.now totals.files texts.LARGEST_ELSEWHERE.now lists.largest.items limit

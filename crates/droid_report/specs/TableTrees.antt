@@ -23,6 +23,7 @@ abbrev pub each : {X : Type 0} → (X → Tree) → List X → Tree
 each tree [] = Nothing
 each tree (x ∷ xs) = then (tree x) (each tree xs)
 
+-- an attribute that is a number
 abbrev pub number_at : Key → ℕ → Attribute
 number_at key n = record { key = key; value = Count n }
 
@@ -41,6 +42,7 @@ link_tree target text =
     (Element trees.A (is trees.Href target ∷ is trees.Rel (codes "noreferrer") ∷ []) (Text text Nothing) Nothing)
     Nothing
 
+-- a cell; a text may run in either direction, whatever stands around it
 abbrev pub cell_tree : Cell → Tree
 cell_tree (cells.Text text) =
     Element trees.Td [] (Element trees.Bdi [] (Text (string_bytes text) Nothing) Nothing) Nothing
@@ -48,12 +50,15 @@ cell_tree (cells.Link target text) = link_tree (string_bytes target) (string_byt
 cell_tree (cells.Number n) = Element trees.Td (is trees.Class (codes "n") ∷ []) (Number n Nothing) Nothing
 cell_tree (cells.Bar share) = Element trees.Td (is trees.Class (codes "b") ∷ []) (bar share) Nothing
 
+-- a row
 abbrev pub row_tree : Vec Cell Global → Tree
 row_tree row = Element trees.Tr [] (each cell_tree row.items) Nothing
 
+-- the name of a column
 abbrev pub head_tree : String Global → Tree
 head_tree head = Element trees.Th (is trees.Scope (codes "col") ∷ []) (Text (string_bytes head) Nothing) Nothing
 
+-- a table, its title and what stands below that
 abbrev pub table_tree : Table → Tree
 table_tree table =
     Element trees.Section []
@@ -63,6 +68,7 @@ table_tree table =
     (Element trees.Thead [] (Element trees.Tr [] (each head_tree table.heads.items) Nothing)
     (Element trees.Tbody [] (each row_tree table.rows.items) Nothing)) Nothing))) Nothing
 
+-- what stands in the body of a page
 abbrev pub body_tree : List ℕ → List ℕ → List Table → Tree
 body_tree title about tables =
     Element trees.Main []
@@ -71,15 +77,19 @@ body_tree title about tables =
 
 -- ---- their texts
 
+-- the text of a cell that leads elsewhere
 unfoldable pub link_text : List ℕ → List ℕ → List ℕ
 link_text target text = text_of (link_tree target text) []
 
+-- the text of a cell
 unfoldable pub cell_text : Cell → List ℕ
 cell_text cell = text_of (cell_tree cell) []
 
+-- the text of a row
 unfoldable pub row_text : Vec Cell Global → List ℕ
 row_text row = codes "<tr>" ++ (flat_map cell_text row.items ++ codes "</tr>")
 
+-- the text of a column's name
 unfoldable pub head_text : String Global → List ℕ
 head_text head = text_of (head_tree head) []
 
@@ -87,12 +97,14 @@ head_text head = text_of (head_tree head) []
 unfoldable pub rows_text : List (Vec Cell Global) → List ℕ
 rows_text rows = codes "</tr></thead><tbody>" ++ (flat_map row_text rows ++ codes "</tbody></table></section>")
 
+-- the text of a table
 unfoldable pub table_text : Table → List ℕ
 table_text table =
     codes "<section><h2>" ++ (escape (string_bytes table.title)
     ++ (codes "</h2><p>" ++ (escape (string_bytes table.note)
     ++ (codes "</p><table><thead><tr>" ++ (flat_map head_text table.heads.items ++ rows_text table.rows.items)))))
 
+-- the text of what stands in the body of a page
 unfoldable pub body_text : List ℕ → List ℕ → List Table → List ℕ
 body_text title about tables =
     codes "<main><h1>" ++ (escape title

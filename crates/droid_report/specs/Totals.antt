@@ -14,16 +14,19 @@ use Rattle.droid_report.specs.declared.totals.What.TheVariants as what
 abbrev pub is_first_of_file : Line → Bool
 is_first_of_file line = line.is_first && is_file line.facts.kind
 
+-- whether a file was identified by a signature
 abbrev pub is_by_signature : Method → Bool
 is_by_signature methods.Unidentified = false
 is_by_signature methods.Signature = true
 is_by_signature methods.Extension = false
 
+-- whether a file was identified by its extension
 abbrev pub is_by_extension : Method → Bool
 is_by_extension methods.Unidentified = false
 is_by_extension methods.Signature = false
 is_by_extension methods.Extension = true
 
+-- whether a file was not identified
 abbrev pub is_unidentified : Method → Bool
 is_unidentified methods.Unidentified = true
 is_unidentified methods.Signature = false
@@ -70,9 +73,11 @@ pub record AreTotals (lines : List Line) (totals : Totals) : Type 0 where
 
 -- ---- for proofs: one row more
 
+-- a total after one row more
 abbrev pub counted : What → ℕ → Line → ℕ
 counted what count line = if is_counted what line then held (count + 1) else count
 
+-- the totals before the first row
 abbrev pub no_totals : Totals
 no_totals =
     record {
@@ -87,6 +92,7 @@ no_totals =
       bytes = 0;
     }
 
+-- the totals after one row more
 abbrev pub totals_after : Totals → Line → Totals
 totals_after totals line =
     record {

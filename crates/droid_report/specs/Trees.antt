@@ -27,6 +27,7 @@ pub data Tag : Type 0 where
   Svg : Tag
   Rect : Tag
 
+-- the name in a tag
 abbrev pub tag_name : Tag → List ℕ
 tag_name Html = codes "html"
 tag_name Head = codes "head"
@@ -67,6 +68,7 @@ pub data Key : Type 0 where
   Width : Key
   Height : Key
 
+-- the name in front of `=`
 abbrev pub key_name : Key → List ℕ
 key_name Lang = codes "lang"
 key_name Charset = codes "charset"
@@ -88,6 +90,7 @@ pub data Value : Type 0 where
   Words : List ℕ → Value
   Count : ℕ → Value
 
+-- an attribute of an element
 pub record Attribute : Type 0 where
   pub key : Key
   pub value : Value
@@ -103,6 +106,7 @@ pub data Tree : Type 0 where
 
 -- ---- the text of a tree
 
+-- the text of a value
 abbrev pub value_text : Value → List ℕ
 value_text (Words text) = escape text
 value_text (Count n) = decimal n

@@ -1,6 +1,6 @@
 //! A profile that is being read.
 
-ghost use Rattle.std.specs.Prelude.{◌≡◌, ◌≢◌, IfOk, None};
+ghost use Rattle.std.specs.Prelude.{◌≡◌, ◌≢◌, IfOk, None, Some};
 ghost use Rattle.std.specs.Option.{option_copied, option_map};
 ghost use Rattle.csv.specs.Records.{fields_of};
 ghost use Rattle.droid_report.specs.Lines.{line_of};
@@ -9,15 +9,30 @@ ghost use Rattle.droid_report.specs.Rows as profiles;
 use crate::counts::Counts;
 use crate::fault::ProfileFault;
 use crate::report::Report;
-use crate::row::{Row, facts_in, field};
+use crate::row::{Row, facts_in};
 use csv::ByteRecord;
-use droid_export::{Column, hash_of_header};
-use droid_frame::HashKind;
+use droid_export::{Column, Header, said};
 use std::alloc::{AllocError, Global};
+
+/// The columns that a report is made of.
+const NEEDED: [Column; 12] = [
+    Column::Id,
+    Column::FilePath,
+    Column::Method,
+    Column::Size,
+    Column::Kind,
+    Column::LastModified,
+    Column::ExtensionMismatch,
+    Column::Hash,
+    Column::FormatCount,
+    Column::Puid,
+    Column::FormatName,
+    Column::FormatVersion,
+];
 
 /// What was read so far.
 pub(crate) struct Draft {
-    header: Option<HashKind>,
+    header: Option<Header>,
     records: u64,
     last: Option<Row>,
     counts: Counts,
@@ -36,7 +51,7 @@ impl Drop for Draft {
 }
 
 impl Draft {
-    ghost use Rattle.droid_export.specs.Headers.{hash_of_header};
+    ghost use Rattle.droid_export.specs.Headers.{header_of, whole_row};
     ghost use Rattle.droid_report.specs.Calls.{Gives, IsDraft, Leaves};
     ghost use Rattle.droid_report.specs.Rows.{Draft as Read, facts_in, finished, nothing_read, taken};
     ghost use Rattle.droid_report.specs.Rows.{with_header, with_row};
@@ -59,25 +74,57 @@ impl Draft {
         ensures { (old : Read) → IsDraft self.old old → Leaves result self.new (taken old (fields_of row)) }
     {
         match self.header {
-            Some(_) => self.take_row(alloc, row),
+            Some(header) => self.take_behind(alloc, header, row),
             None => self.take_header(&row),
         }
     }
 
+    /// Takes the first record, which has to be the header of a profile's CSV.
     fn take_header(&mut self, row: &ByteRecord) -> Result<(), ProfileFault>
         ensures { (old : Read) → IsDraft self.old old → old.header ≡ None
-            → Leaves result self.new (with_header (hash_of_header (fields_of row.now))) }
+            → Leaves result self.new (with_header (header_of (fields_of row.now))) }
     {
-        match hash_of_header(row) {
-            Some(hash) => {
-                self.header = Some(hash);
-                self.records = 1;
-                Ok(())
-            }
+        match Header::of(row) {
+            Some(header) => self.begin(header),
             None => Err(ProfileFault::Header),
         }
     }
 
+    /// Begins the rows behind a header, if it has the columns that are needed.
+    fn begin(&mut self, header: Header) -> Result<(), ProfileFault>
+        ensures { (old : Read) → IsDraft self.old old → old.header ≡ None
+            → Leaves result self.new (with_header (Some header)) }
+    {
+        match header.missing(&NEEDED) {
+            Some(column) => Err(ProfileFault::Missing { column }),
+            None => {
+                self.header = Some(header);
+                self.records = 1;
+                Ok(())
+            }
+        }
+    }
+
+    /// Adds a row behind this header. Columns that the CSV lacks are read as empty.
+    fn take_behind(
+        &mut self,
+        alloc: Global,
+        header: Header,
+        row: ByteRecord,
+    ) -> Result<(), ProfileFault>
+        ensures { (old : Read) → IsDraft self.old old → old.header ≢ None
+            → Leaves result self.new
+            (with_row old (whole_row header (fields_of row)) (facts_in (whole_row header (fields_of row)))) }
+    {
+        if header.is_whole() {
+            return self.take_row(alloc, row);
+        }
+        let mut wide = ByteRecord::new(alloc);
+        header.widen(&row, &mut wide)?;
+        self.take_row(alloc, wide)
+    }
+
+    /// Takes a record behind the header: it counts as a row and is kept till the next, which may be of the same file.
     fn take_row(&mut self, alloc: Global, row: ByteRecord) -> Result<(), ProfileFault>
         ensures { (old : Read) → IsDraft self.old old → old.header ≢ None
             → Leaves result self.new (with_row old (fields_of row) (facts_in (fields_of row))) }
@@ -112,7 +159,10 @@ impl Draft {
             counts,
         } = self;
         match header {
-            Some(hash) => Ok(Report { hash, counts }),
+            Some(header) => Ok(Report {
+                hash: header.hash,
+                counts,
+            }),
             None => Err(ProfileFault::Header),
         }
     }
@@ -123,7 +173,7 @@ fn has_id(other: Option<&Row>, row: &ByteRecord) -> bool
     ensures { result ≡ profiles.has_id (option_map line_of (option_copied other.entry)) (fields_of row.now) }
 {
     match other {
-        Some(other) => field(&other.fields, Column::Id) == field(row, Column::Id),
+        Some(other) => said(&other.fields, Column::Id) == said(row, Column::Id),
         None => false,
     }
 }

@@ -2,20 +2,22 @@
 
 ghost use Rattle.std.specs.Prelude.{◌≡◌};
 
+use droid_export::Column;
 use std::alloc::AllocError;
-use thiserror::Error;
 
 /// Why a profile cannot be read.
-#[derive(Clone, Copy, Debug, PartialEq, Eq, Error)]
+#[derive(Clone, Copy, Debug)]
 pub enum ProfileFault {
     /// Out of memory.
-    #[error("out of memory")]
     Memory,
     /// The CSV does not begin with the names of a profile's columns.
-    #[error("the first record is not that of a profile")]
     Header,
+    /// The CSV lacks a column that is needed.
+    Missing {
+        /// The first such column.
+        column: Column,
+    },
     /// A record is malformed.
-    #[error("record {record} is malformed")]
     Record {
         /// Its number. The record with the names of the columns has number 1.
         record: u64,

@@ -1,10 +1,9 @@
 //! The fields of a row.
 
 ghost use Rattle.std.specs.Prelude.{◌≡◌, ◌==◌, IsTrue, length};
-ghost use Rattle.std.specs.Char.{is_ascii_digit};
-ghost use Rattle.std.specs.List.{list_all};
 ghost use Rattle.droid_report.specs.Fields as fields;
 
+use droid_export::number_of;
 use droid_frame::{Method, NodeKind};
 
 /// Returns whether a field is a path: it begins with `/`.
@@ -14,21 +13,6 @@ pub(crate) fn is_path(text: &[u8]) -> bool
     match text.first() {
         Some(first) => *first == b'/',
         None => false,
-    }
-}
-
-/// Reads TYPE.
-pub(crate) fn kind_of(text: &[u8]) -> Option<NodeKind>
-    ensures { result ≡ fields.kind_of text.now }
-{
-    let file: &[u8] = b"File";
-    let folder: &[u8] = b"Folder";
-    if text == file {
-        Some(NodeKind::File)
-    } else if text == folder {
-        Some(NodeKind::Folder)
-    } else {
-        None
     }
 }
 
@@ -120,23 +104,4 @@ pub(crate) fn depth_of(path: &[u8]) -> usize
     ensures { result ≡ fields.depth_of path.now }
 {
     path.iter().filter(|b| **b == b'/').count()
-}
-
-/// Reads a number in decimal digits.
-fn number_of(text: &[u8]) -> Option<u64>
-    ensures { result ≡ fields.number_of text.now }
-{
-    if !are_digits(text) {
-        return None;
-    }
-    match str::from_utf8(text) {
-        Ok(text) => text.parse::<u64>().ok(),
-        Err(_) => None,
-    }
-}
-
-fn are_digits(text: &[u8]) -> bool
-    ensures { result ≡ list_all is_ascii_digit text.now }
-{
-    text.iter().all(|c| c.is_ascii_digit())
 }

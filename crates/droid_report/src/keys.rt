@@ -55,7 +55,7 @@ pub(crate) fn label_of(alloc: Global, row: &Row, alike: Alike) -> Result<String,
     }
 }
 
-/// Returns how a format is called: its name, and its version if it has one.
+/// Returns how a format is called: its name, a space and its version, which may be empty.
 fn format_label(alloc: Global, name: &str, version: &str) -> Result<String, AllocError>
     ensures { IfOk result (λ label. string_bytes label ≡ groups.format_label name.now version.now) }
 {

@@ -5,7 +5,6 @@
 
 mod classes;
 mod counts;
-mod csv_error;
 mod draft;
 mod facts;
 mod fault;

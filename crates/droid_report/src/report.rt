@@ -7,10 +7,10 @@ ghost use Rattle.droid_report.specs.Calls.{Gives, IsDraft};
 ghost use Rattle.droid_report.specs.Rows.{nothing_read, profile_of};
 
 use crate::counts::Counts;
-use crate::csv_error::csv_fault;
 use crate::draft::Draft;
 use crate::fault::ProfileFault;
 use csv::ReaderBuilder;
+use droid_export::no_memory;
 use droid_frame::HashKind;
 use std::alloc::Global;
 
@@ -52,7 +52,7 @@ fn read_rows(alloc: Global, text: &[u8], draft: Draft) -> Result<Report, Profile
     let mut draft = draft;
     for row in reader.into_byte_records() {
         match row {
-            Err(error) => return Err(csv_fault(error)),
+            Err(error) => return Err(ProfileFault::from(no_memory(error))),
             Ok(row) => {
                 if let Err(fault) = draft.take(alloc, row) {
                     return Err(fault);

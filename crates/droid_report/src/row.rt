@@ -4,16 +4,14 @@ ghost use Rattle.std.specs.Prelude.{◌≡◌, IfOk, MatchOption, false, true};
 ghost use Rattle.std.specs.List.{list_all};
 ghost use Rattle.std.specs.Str.{is_utf8};
 ghost use Rattle.csv.specs.Records.{fields_of};
-ghost use Rattle.droid_export.specs.Table.{field_or, place_of};
+ghost use Rattle.droid_export.specs.Table.{place_of};
 ghost use Rattle.droid_report.specs.Lines.{line_of};
 ghost use Rattle.droid_report.specs.Rows as rows;
 
 use crate::facts::Facts;
-use crate::fields::{
-    depth_of, digits_of, is_path, kind_of, method_of, number_for, truth_of, year_of,
-};
+use crate::fields::{depth_of, digits_of, is_path, method_of, number_for, truth_of, year_of};
 use csv::ByteRecord;
-use droid_export::{COLUMNS, Column, Row as CsvRow};
+use droid_export::{COLUMNS, Column, kind_of, said};
 use std::alloc::AllocError;
 
 /// A row of a profile: a folder, or a file with one of its formats.
@@ -32,7 +30,7 @@ impl Row {
     pub fn text(&self, column: Column) -> &str
         ensures { result.now ≡ rows.text_at (fields_of self.now.fields) (place_of column) }
     {
-        match text_in(field(&self.fields, column)) {
+        match text_in(said(&self.fields, column)) {
             Some(text) => text,
             None => "",
         }
@@ -73,19 +71,21 @@ pub(crate) fn facts_in(row: &ByteRecord) -> Option<Facts>
 fn is_whole(row: &ByteRecord) -> bool
     ensures { result ≡ rows.is_whole (fields_of row.now) }
 {
-    row.len() == COLUMNS.len() && is_path(field(row, Column::FilePath)) && are_texts(row)
+    row.len() == COLUMNS.len() && is_path(said(row, Column::FilePath)) && are_texts(row)
 }
 
+/// Returns whether the columns that a report prints are UTF-8.
 fn are_texts(row: &ByteRecord) -> bool
     ensures { result ≡ list_all (rows.is_printable (fields_of row.now)) rows.printed }
 {
     PRINTED.iter().all(|column| is_text(row, *column))
 }
 
+/// Returns whether a column is UTF-8.
 fn is_text(row: &ByteRecord, column: Column) -> bool
     ensures { result ≡ rows.is_printable (fields_of row.now) column }
 {
-    match text_in(field(row, column)) {
+    match text_in(said(row, column)) {
         Some(_) => true,
         None => false,
     }
@@ -102,18 +102,19 @@ fn text_in(bytes: &[u8]) -> Option<&str>
     }
 }
 
+/// Reads each field that has facts. Returns `None` if one of them is malformed.
 #[tactic(auto, unfolding(crate::specs::Rows::facts_of))]
 fn facts_of(row: &ByteRecord) -> Option<Facts>
     ensures { result ≡ rows.facts_of (fields_of row.now) }
 {
-    let kind = kind_of(field(row, Column::Kind))?;
-    let size = number_for(kind, field(row, Column::Size))?;
-    let method = method_of(field(row, Column::Method))?;
-    let is_mismatch = truth_of(field(row, Column::ExtensionMismatch))?;
-    let formats = number_for(kind, field(row, Column::FormatCount))?;
-    let year = year_of(field(row, Column::LastModified))?;
-    let moment = digits_of(field(row, Column::LastModified));
-    let depth = depth_of(field(row, Column::FilePath));
+    let kind = kind_of(said(row, Column::Kind))?;
+    let size = number_for(kind, said(row, Column::Size))?;
+    let method = method_of(said(row, Column::Method))?;
+    let is_mismatch = truth_of(said(row, Column::ExtensionMismatch))?;
+    let formats = number_for(kind, said(row, Column::FormatCount))?;
+    let year = year_of(said(row, Column::LastModified))?;
+    let moment = digits_of(said(row, Column::LastModified));
+    let depth = depth_of(said(row, Column::FilePath));
     Some(Facts {
         kind,
         size,
@@ -124,11 +125,4 @@ fn facts_of(row: &ByteRecord) -> Option<Facts>
         moment,
         depth,
     })
-}
-
-/// Returns the field of a column, or no bytes past the last.
-pub(crate) fn field(row: &ByteRecord, column: Column) -> &[u8]
-    ensures { result.now ≡ field_or (fields_of row.now) (place_of column) }
-{
-    row.field(column.place())
 }

@@ -78,7 +78,8 @@ fn run_line<W: SteadyWrite>(
     Ok(answer.is_none())
 }
 
-/// Returns the reply to the request of a line, or `None` if the line is bad. After an error nothing was handled.
+/// Returns the reply to the request of a line, or `None` if the line is bad. Out of memory for the line or its frame,
+/// nothing was handled.
 fn handle_line(
     alloc: Global,
     service: &mut Service,

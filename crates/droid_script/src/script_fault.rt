@@ -5,11 +5,8 @@ ghost use Rattle.droid_script.specs.Scripts.{script_fault_name};
 
 use droid_frame::{InputFault, WriteFault};
 use std::alloc::AllocError;
-use std::error::Error;
-use std::fmt;
-use std::fmt::{Display, Formatter, Write};
 
-/// Why a script ended before its last line. Displayed by its name, as the program prints it.
+/// Why a script ended before its last line.
 #[derive(Debug, Drop)]
 pub enum ScriptFault {
     /// The script has more than 67,108,864 bytes. No line was handled.
@@ -35,14 +32,6 @@ impl ScriptFault {
         }
     }
 }
-
-impl Display for ScriptFault {
-    fn fmt<W: Write>(&self, f: &mut Formatter<W>) -> fmt::Result {
-        f.write_str(self.name())
-    }
-}
-
-impl Error for ScriptFault {}
 
 impl From<AllocError> for ScriptFault {
     ghost use Rattle.droid_script.specs.declared.script_fault.ScriptFault.TheVariants.{Memory};

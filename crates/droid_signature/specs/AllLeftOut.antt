@@ -20,6 +20,7 @@ holder_of format (items.Extension at) = None
 holder_of format (items.Priority id) = None
 holder_of format (items.Signature id) = format
 
+-- whether this is the place
 abbrev pub is_place : ℕ → Option ℕ → Bool
 is_place place None = false
 is_place place (Some other) = other == place
@@ -36,9 +37,11 @@ count_of place left = min (count_by (is_of place) left) (2 ^ 64 - 1)
 abbrev pub is_without : FormatRecord → ℕ → Bool
 is_without format count = nat_lt 0 (length format.signatures) && (count == length format.signatures)
 
+-- the format at a place, as one that is left without a signature
 abbrev pub without_item : ℕ → LeftOut
 without_item place = record { format = Some place; item = items.Format; why = why.NoSignatureLeft }
 
+-- the same, if it is
 abbrev pub listed_if : Bool → ℕ → List LeftOut
 listed_if is place = if is then without_item place ∷ [] else []
 
@@ -50,6 +53,7 @@ without_at left place format = listed_if (is_without format (count_of place left
 abbrev pub without : List LeftOut → List FormatRecord → List LeftOut
 without left formats = by_place (without_at left) 0 formats
 
+-- the signature with an ID, as one that no format names
 abbrev pub unnamed_item : ℕ → LeftOut
 unnamed_item id = record { format = None; item = items.Signature id; why = why.Unnamed }
 

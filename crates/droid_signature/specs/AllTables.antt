@@ -25,15 +25,18 @@ pub record AreTablesOf (file : FileRecord) (it : AllTables) : Type 0 where
       (all_priorities (kept_in it)) it.priorities
   pub signatures : Signs file.signatures (all_signatures (kept_in it)) it.signatures
 
+-- the text of all rows
 abbrev pub all_text : AllTables → List ℕ
 all_text it =
     it.formats.table.text.items ++ it.extensions.text.items ++ it.priorities.text.items ++ it.signatures.text.items
 
+-- what is left out of all tables
 abbrev pub all_left : AllTables → List LeftOut
 all_left it =
     it.formats.table.left_out.items ++ it.extensions.left_out.items ++ it.priorities.left_out.items
     ++ it.signatures.left_out.items
 
+-- how much the tables have
 abbrev pub taken_in : AllTables → Taken
 taken_in it = record {
   formats = length it.formats.kept.items;

@@ -26,6 +26,7 @@ abbrev pub pick_fields : (letter puid : List ℕ) → Pick → List (List ℕ)
 pick_fields letter puid it =
     letter ∷ puid ∷ anchor_text it.offsets.anchor ∷ decimal it.offsets.min ∷ decimal it.offsets.max ∷ it.text ∷ []
 
+-- the fields of the rows of byte sequences behind the first
 abbrev pub further_fields : List ℕ → List Pick → List (List (List ℕ))
 further_fields puid its = map (pick_fields (codes "B") puid) its
 

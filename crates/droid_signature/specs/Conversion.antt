@@ -46,6 +46,7 @@ pub record Parts (file : FileRecord) : Type 0 where
   pub signatures_sifted : Sifted (TakesSignature file.signatures) (LeavesSignature file.signatures)
       (all_signatures kept) signatures left_signatures
 
+-- the tables that the parts make
 abbrev pub tables_of : {file : FileRecord} → Parts file → Tables
 tables_of parts = record {
   formats = formats_of parts.kept;
@@ -54,6 +55,7 @@ tables_of parts = record {
   signatures = flat parts.signatures;
 }
 
+-- what is left out of all parts
 abbrev pub left_of : {file : FileRecord} → Parts file → List LeftOut
 left_of parts = parts.left_formats ++ parts.left_extensions ++ parts.left_priorities ++ parts.left_signatures
 

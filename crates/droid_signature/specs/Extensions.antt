@@ -39,5 +39,6 @@ IsReasonOfExtension before text why.BadExtension = is_extension text ≡ false
 IsReasonOfExtension before text why.Full = 16384 ≤ length before
 IsReasonOfExtension before text other = ⊥
 
+-- an extension is left out of a registry that has these
 abbrev pub LeavesExtension : List ExtensionRow → Extension → LeftOut → Type 0
 LeavesExtension before it left = IsLeft it.of.place (items.Extension it.at) (IsReasonOfExtension before it.text) left

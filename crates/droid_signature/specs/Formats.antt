@@ -28,6 +28,7 @@ puid_in format = unwrap_or format.puid []
 abbrev pub format_of : FormatRecord → Format
 format_of format = record { puid = puid_in format; name = format.name; version = format.version; mime = format.mime }
 
+-- the same formats in a registry
 abbrev pub formats_of : List Placed → List Format
 formats_of kept = map (λ it. format_of it.format) kept
 
@@ -46,5 +47,6 @@ IsReasonOfFormat before format why.LongNote = (is_note format.version && is_note
 IsReasonOfFormat before format why.Full = 4096 ≤ length before
 IsReasonOfFormat before format other = ⊥
 
+-- a format is left out of a registry that has these
 abbrev pub LeavesFormat : List Placed → Placed → LeftOut → Type 0
 LeavesFormat before it left = IsLeft it.place items.Format (IsReasonOfFormat (formats_of before) it.format) left

@@ -14,6 +14,7 @@ holder_of [] = Nobody
 holder_of (place ∷ []) = Only place
 holder_of (place ∷ next ∷ places) = Several
 
+-- what has an ID, where these are the IDs by place
 abbrev pub holder : ℕ → List ℕ → Holder
 holder id ids = holder_of (holding id 0 ids)
 

@@ -15,6 +15,7 @@ abbrev pub IsOutcome : SignatureRecord → Outcome → Type 0
 IsOutcome signature (outcomes.Taken all) = AreTaken signature.sequences all.items
 IsOutcome signature (outcomes.LeftOut reason) = IsReasonOf signature.sequences reason
 
+-- what each signature becomes is true of it
 abbrev pub AreOutcomes : List SignatureRecord → List Outcome → Type 0
 AreOutcomes [] [] = ⊤
 AreOutcomes [] (outcome ∷ more) = ⊥

@@ -61,6 +61,7 @@ IsReasonOfPriority kept before of id why.OverItself =
 IsReasonOfPriority kept before of id why.Full = 16384 ≤ length before
 IsReasonOfPriority kept before of id other = ⊥
 
+-- a priority is left out of a registry that has these
 abbrev pub LeavesPriority : List Placed → List PriorityRow → Priority → LeftOut → Type 0
 LeavesPriority kept before it left =
     IsLeft it.of.place (items.Priority it.id) (IsReasonOfPriority kept before it.of it.id) left

@@ -41,22 +41,26 @@ pub record SignatureRow : Type 0 where
   pub puid : List ℕ
   pub sequences : List SequenceRow
 
+-- the tables of a registry
 pub record Tables : Type 0 where
   pub formats : List Format
   pub extensions : List ExtensionRow
   pub priorities : List PriorityRow
   pub signatures : List SignatureRow
 
--- the fields of each row
+-- the fields of a format's row
 abbrev pub format_fields : Format → List (List ℕ)
 format_fields it = codes "F" ∷ it.puid ∷ it.name ∷ it.version ∷ it.mime ∷ [] ∷ []
 
+-- the fields of an extension's row
 abbrev pub extension_fields : ExtensionRow → List (List ℕ)
 extension_fields row = codes "E" ∷ row.puid ∷ row.text ∷ [] ∷ [] ∷ [] ∷ []
 
+-- the fields of a priority's row
 abbrev pub priority_fields : PriorityRow → List (List ℕ)
 priority_fields row = codes "P" ∷ row.puid ∷ row.other ∷ [] ∷ [] ∷ [] ∷ []
 
+-- the field for the end of the file from which offsets count
 abbrev pub anchor_text : Anchor → List ℕ
 anchor_text Bof = codes "BOF"
 anchor_text Eof = codes "EOF"
@@ -66,20 +70,24 @@ abbrev pub sequence_fields : (letter puid : List ℕ) → SequenceRow → List (
 sequence_fields letter puid row =
     letter ∷ puid ∷ anchor_text row.offsets.anchor ∷ decimal row.offsets.min ∷ decimal row.offsets.max ∷ row.text ∷ []
 
+-- the fields of a signature's rows, one for each byte sequence
 abbrev pub signature_fields : List ℕ → List SequenceRow → List (List (List ℕ))
 signature_fields puid [] = []
 signature_fields puid (row ∷ rows) = sequence_fields (codes "S") puid row ∷ map (sequence_fields (codes "B") puid) rows
 
--- the texts of the rows
+-- the text of the formats' rows
 abbrev pub format_lines : List Format → List ℕ
 format_lines formats = flat_map (λ it. line (format_fields it)) formats
 
+-- the text of the extensions' rows
 abbrev pub extension_lines : List ExtensionRow → List ℕ
 extension_lines rows = flat_map (λ row. line (extension_fields row)) rows
 
+-- the text of the priorities' rows
 abbrev pub priority_lines : List PriorityRow → List ℕ
 priority_lines rows = flat_map (λ row. line (priority_fields row)) rows
 
+-- the text of the signatures' rows
 abbrev pub signature_lines : List SignatureRow → List ℕ
 signature_lines rows = flat_map (λ row. flat_map line (signature_fields row.puid row.sequences)) rows
 
@@ -89,19 +97,23 @@ file_of tables =
     format_lines tables.formats
     ++ (extension_lines tables.extensions ++ (priority_lines tables.priorities ++ signature_lines tables.signatures))
 
--- what the registry has
+-- the extension that a registry has of a row
 abbrev pub listed : ExtensionRow → ListedExtension
 listed row = record { place = row.place; extension = str_to_ascii_lowercase row.text }
 
+-- the priority that a registry has of a row
 abbrev pub prior : PriorityRow → Priority
 prior row = record { place = row.place; over = row.over }
 
+-- the byte sequence that a registry has of a row
 abbrev pub sequence_of : SequenceRow → ByteSequence
 sequence_of row = record { offsets = row.offsets; pattern = row.pattern }
 
+-- the signature that a registry has of its rows
 abbrev pub signed : SignatureRow → Signed
 signed row = record { place = row.place; sequences = map sequence_of row.sequences }
 
+-- the registry of the tables
 abbrev pub registry_of : Tables → Contents
 registry_of tables = record {
   formats = tables.formats;

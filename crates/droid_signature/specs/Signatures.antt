@@ -83,6 +83,7 @@ IsReasonOfSignature signatures before id (why.Signature reason) =
 IsReasonOfSignature signatures before id why.Full = IsFull signatures before id
 IsReasonOfSignature signatures before id other = ⊥
 
+-- a signature is left out of a registry that has these
 abbrev pub LeavesSignature : List SignatureRecord → List (List SignatureRow) → Named → LeftOut → Type 0
 LeavesSignature signatures before it left =
     IsLeft it.of.place (items.Signature it.id) (IsReasonOfSignature signatures before it.id) left

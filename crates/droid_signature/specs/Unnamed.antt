@@ -10,6 +10,7 @@ use Rattle.droid_signature.specs.declared.nameless_signatures.Named.{Named}
 abbrev pub ids_named : List FormatRecord → List ℕ
 ids_named formats = flat_map (λ format. format.signatures) formats
 
+-- whether an ID is among these
 abbrev pub is_named : List ℕ → ℕ → Bool
 is_named ids id = list_any (λ other. other == id) ids
 
@@ -19,6 +20,7 @@ unnamed_among ids [] = []
 unnamed_among ids (signature ∷ signatures) =
     (if is_named ids signature.id then [] else signature.id ∷ []) ++ unnamed_among ids signatures
 
+-- the IDs of the signatures that no format names
 abbrev pub unnamed : FileRecord → List ℕ
 unnamed file = unnamed_among (ids_named file.formats) file.signatures
 

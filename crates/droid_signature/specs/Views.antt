@@ -7,5 +7,6 @@ use Rattle.droid_signature.specs.declared.formats.Kept.{Kept}
 abbrev pub kept_of : Kept → Placed
 kept_of it = record { place = it.place; format = it.format.now }
 
+-- the formats that the registry has
 abbrev pub all_of : List Kept → List Placed
 all_of kept = map kept_of kept

@@ -1,4 +1,4 @@
-//! The registry of a signature file.
+//! Makes the registry of a signature file, within a registry's limits.
 
 ghost use Rattle.std.specs.Prelude.{◌≡◌, ◌<◌, ◌≤◌, Err, IfOk, length};
 ghost use Rattle.droid_signature.specs.Conversion.{IsConversion, IsTooLong};
@@ -14,7 +14,7 @@ use std::alloc::{AllocError, AllocFailed, Global};
 const BYTES_LIMIT: usize = 16_777_216;
 
 /// Why no registry could be made.
-#[derive(Clone, Copy, PartialEq, Eq)]
+#[derive(Clone, Copy)]
 pub enum ConversionFault {
     /// Out of memory.
     Memory,
@@ -39,7 +39,7 @@ impl<T: Drop> From<AllocFailed<T>> for ConversionFault {
 }
 
 /// How much of the signature file the registry has.
-#[derive(Clone, Copy, PartialEq, Eq)]
+#[derive(Clone, Copy)]
 pub struct Taken {
     pub formats: u64,
     pub extensions: u64,

@@ -65,7 +65,8 @@ fn add_extension(
     Ok(())
 }
 
-/// Returns whether the text is an extension: 1 to 64 bytes, none of them a dot or a slash.
+/// Returns whether the text is an extension, by the definition of the registry's reader: 1 to 64 bytes, none of them a
+/// dot or a slash.
 fn is_extension(text: &str) -> bool
     ensures { result ≡ field.is_extension text.now }
 {

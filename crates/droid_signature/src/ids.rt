@@ -1,4 +1,4 @@
-//! What has an ID.
+//! Which signature of the file, or which format of the registry, has an ID.
 
 ghost use Rattle.std.specs.Prelude.{◌≡◌, ℕ, List, ◌++◌, ◌∷◌, [], length, OnOk};
 ghost use Rattle.droid_signature.specs.Holders.{holder, one_more};
@@ -7,7 +7,7 @@ use std::alloc::{AllocError, Global};
 use std::collections::BTreeMap;
 
 /// What has an ID, by its place.
-#[derive(Clone, Copy, PartialEq, Eq)]
+#[derive(Clone, Copy)]
 pub enum Holder {
     Nobody,
     Only(usize),
@@ -23,7 +23,7 @@ pub struct Ids {
 impl Ids {
     ghost use Rattle.droid_signature.specs.Holdings.{AreOf};
 
-    /// Nothing has an ID yet. Allocates nothing.
+    /// Begins with no ID. Allocates nothing.
     pub fn new(alloc: Global) -> Ids
         ensures { AreOf result [] }
     {
@@ -53,7 +53,7 @@ impl Ids {
     }
 }
 
-/// Returns what has an ID that one more has, at a place.
+/// Returns what has an ID once what stands at a place has it too.
 fn one_more(holder: Holder, place: usize) -> Holder
     ensures { result ≡ one_more holder place }
 {

@@ -3,7 +3,7 @@
 use droid_signature_pattern::Reason;
 
 /// Something that the registry does not have.
-#[derive(Clone, Copy, PartialEq, Eq)]
+#[derive(Clone, Copy)]
 pub struct LeftOut {
     /// The format that it belongs to, by its place in the signature file, if it belongs to one.
     pub format: Option<usize>,
@@ -12,7 +12,7 @@ pub struct LeftOut {
 }
 
 /// What the registry does not have.
-#[derive(Clone, Copy, PartialEq, Eq)]
+#[derive(Clone, Copy)]
 pub enum Item {
     /// A whole format, with its signatures, extensions and priorities.
     Format,
@@ -25,7 +25,7 @@ pub enum Item {
 }
 
 /// Why the registry does not have it.
-#[derive(Clone, Copy, PartialEq, Eq)]
+#[derive(Clone, Copy)]
 pub enum Why {
     /// The format has no PUID.
     NoPuid,

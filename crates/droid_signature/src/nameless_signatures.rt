@@ -1,4 +1,4 @@
-//! The signatures that no format names.
+//! Finds the signatures that no format names.
 
 ghost use Rattle.std.specs.Prelude.{◌≡◌, ◌++◌, ◌∷◌, [], ℕ, List, IfOk, OnOk, if◌then◌else◌};
 ghost use Rattle.droid_signature.specs.Unnamed.{AreNamed, ids_named, is_named, unnamed, unnamed_among};
@@ -24,7 +24,7 @@ struct Named {
 }
 
 impl Named {
-    /// Nothing is named yet. Allocates nothing.
+    /// Begins with no ID. Allocates nothing.
     fn new(alloc: Global) -> Named
         ensures { AreNamed result [] }
     {

@@ -1,4 +1,4 @@
-//! All that a registry does not have of a signature file.
+//! Lists all that a registry does not have of a signature file.
 
 ghost use Rattle.std.specs.Prelude.{◌≡◌, ◌+◌, ◌-◌, ◌^◌, ◌++◌, ◌∷◌, [], List, map, min, IfOk, OnOk};
 ghost use Rattle.droid_signature.specs.declared.left_out.LeftOut.{LeftOut};
@@ -39,7 +39,7 @@ struct Counts {
 }
 
 impl Counts {
-    /// Nothing is counted yet. Allocates nothing.
+    /// Begins with no count. Allocates nothing.
     fn new(alloc: Global) -> Counts
         ensures { AreCountsOf [] result }
     {

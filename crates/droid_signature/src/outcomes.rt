@@ -1,4 +1,4 @@
-//! What each signature of a file becomes.
+//! What each signature of a file becomes in the registry.
 
 ghost use Rattle.std.specs.Prelude.{◌≡◌, ℕ, List, Some, slice_get, option_copied, IfErr, IfOk};
 ghost use Rattle.droid_signature_pattern.specs.Choices.{AreTaken};

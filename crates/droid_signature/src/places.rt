@@ -1,4 +1,4 @@
-//! The PUIDs of the formats so far.
+//! The places of the registry's formats so far, by PUID.
 
 ghost use Rattle.std.specs.Prelude.{◌≡◌, ℕ, List, ◌++◌, ◌∷◌, [], None, is_some, length, OnOk};
 ghost use Rattle.droid_pronom.specs.Registry.{place_of};
@@ -16,7 +16,7 @@ pub(crate) struct Places {
 impl Places {
     ghost use Rattle.droid_signature.specs.PlaceMaps.{AreOf};
 
-    /// There is no format yet. Allocates nothing.
+    /// Begins with no format. Allocates nothing.
     pub(crate) fn new(alloc: Global) -> Places
         ensures { AreOf result [] }
     {

@@ -1,4 +1,4 @@
-//! The signatures of all formats.
+//! Which signatures the registry has.
 
 ghost use Rattle.std.specs.Prelude.{◌≡◌, ◌++◌, ◌∷◌, [], ℕ, List, IfOk, OnOk};
 ghost use Rattle.droid_signature_file.specs.Records.{SignatureRecord};

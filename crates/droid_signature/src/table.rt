@@ -8,13 +8,23 @@ use crate::row_text::push_row;
 use std::alloc::{AllocError, Global};
 
 /// The rows of a table, and what it does not have.
-#[derive(Drop)]
 pub struct Table {
     /// The rows' text.
     pub text: Vec<u8>,
     /// How many rows there are.
     pub count: u64,
     pub left_out: Vec<LeftOut>,
+}
+
+// Written by hand, so that whatever drops it does not prove again how each part is dropped.
+impl Drop for Table {
+    fn drop(self) {
+        let Table {
+            text: _text,
+            count: _,
+            left_out: _left_out,
+        } = self;
+    }
 }
 
 impl Table {

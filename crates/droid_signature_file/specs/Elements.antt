@@ -100,6 +100,7 @@ abbrev pub value_of : List ℕ → List Setting → Option (List ℕ)
 value_of name [] = None
 value_of name (setting ∷ settings) = if bytes_eq setting.name name then Some setting.value else value_of name settings
 
+-- whether an element has this name
 abbrev pub is_named : List ℕ → Node → Bool
 is_named name element = bytes_eq element.name name
 

@@ -56,12 +56,14 @@ ranges (l ∷ low) (h ∷ high) =
     if l == h then with_byte l (ranges low high)
     else with_byte l (upward_from low) ++ range_before (l + 1) h (length low) ++ with_byte h (up_to high)
 
+-- the patterns of one item
 abbrev pub patterns_of_atom : Atom → List (List Element)
 patterns_of_atom (Plain e) = (e ∷ []) ∷ []
 patterns_of_atom (Outside low high) = (Choice (runs_outside low high) ∷ []) ∷ []
 patterns_of_atom (Between low high) = ranges low high
 patterns_of_atom (Quoted bytes) = map Byte bytes ∷ []
 
+-- the patterns of items one behind the other
 abbrev pub patterns_of_atoms : List Atom → List (List Element)
 patterns_of_atoms [] = [] ∷ []
 patterns_of_atoms (a ∷ atoms) = joined (patterns_of_atom a) (patterns_of_atoms atoms)
@@ -80,11 +82,12 @@ run_of (Outside low high ∷ atoms) = None
 run_of (Between low high ∷ atoms) = None
 run_of (Quoted text ∷ atoms) = option_map (λ bytes. text ++ bytes) (run_of atoms)
 
--- the runs of alternatives, if each of them is one
+-- one run in front of the others, if all are runs
 abbrev pub with_run : Option (List ℕ) → Option (List (List ℕ)) → Option (List (List ℕ))
 with_run None runs = None
 with_run (Some run) runs = option_map (λ more. run ∷ more) runs
 
+-- the runs of bytes that the alternatives are, if each of them is one
 abbrev pub runs_of : List (List Atom) → Option (List (List ℕ))
 runs_of [] = Some []
 runs_of (atoms ∷ more) = with_run (run_of atoms) (runs_of more)
@@ -99,10 +102,12 @@ abbrev pub patterns_of_choice : Option (List (List ℕ)) → List (List Atom) �
 patterns_of_choice (Some runs) alternatives = (Choice runs ∷ []) ∷ []
 patterns_of_choice None alternatives = patterns_of_each alternatives
 
+-- the patterns of one term
 abbrev pub patterns_of_term : Term → List (List Element)
 patterns_of_term (One a) = patterns_of_atom a
 patterns_of_term (OneOf alternatives) = patterns_of_choice (runs_of alternatives) alternatives
 
+-- the patterns of terms one behind the other
 abbrev pub patterns_of : List Term → List (List Element)
 patterns_of [] = [] ∷ []
 patterns_of (t ∷ terms) = joined (patterns_of_term t) (patterns_of terms)

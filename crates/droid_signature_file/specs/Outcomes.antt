@@ -22,11 +22,12 @@ node_of node = record {
   inside = map part node.inside.now;
 }
 
--- what was returned, seen by view, is what the definition gives, unless memory ran out
+-- a call that stopped: the definition gives the same wrong, unless memory ran out
 abbrev pub Stops : {A : Type 0} → Stop → Result A Wrong → Type 0
 Stops stops.Memory expected = ⊤
 Stops (stops.Wrong wrong) expected = expected ≡ Err wrong
 
+-- what was returned, seen by view, is what the definition gives, unless memory ran out
 abbrev pub Gives : {X A : Type 0} → (X → A) → Result X Stop → Result A Wrong → Type 0
 Gives view (Ok x) expected = expected ≡ Ok (view x)
 Gives view (Err stop) expected = Stops stop expected

@@ -78,6 +78,7 @@ pub record IsSide (fragment : Fragment) (side : Side) : Type 0 where
   pub ordered : side.least ≤ side.most
   pub patterns : ArePatternsOf (TextMatches fragment.text) side.patterns
 
+-- the fragments are read as these sides, one for one
 abbrev pub AreSides : List Fragment → List Side → Type 0
 AreSides [] [] = ⊤
 AreSides [] (side ∷ sides) = ⊥
@@ -91,6 +92,7 @@ pub record IsPiece (part : SubSequenceRecord) (piece : Piece) : Type 0 where
   pub patterns : ArePatternsOf (TextMatches part.text) piece.patterns
   pub right : AreSides part.right piece.right
 
+-- the subsequences are read as these pieces, one for one
 abbrev pub ArePieces : List SubSequenceRecord → List Piece → Type 0
 ArePieces [] [] = ⊤
 ArePieces [] (piece ∷ pieces) = ⊥

@@ -19,6 +19,7 @@ use Rattle.droid_signature_file.specs.declared.sequence.Reference.TheVariants.{B
 use Rattle.droid_signature_file.specs.declared.fault.Wrong.{Wrong}
 use Rattle.droid_signature_file.specs.declared.fault.Wrong.TheVariants as wrongs
 
+-- the next step, unless the one before it found something wrong
 infixl 10 ◌>>=◌
 abbrev pub ◌>>=◌ : {A B : Type 0} → Result A Wrong → (A → Result B Wrong) → Result B Wrong
 (Ok x) >>= next = next x
@@ -34,15 +35,21 @@ abbrev pub every : {A B : Type 0} → (A → Result B Wrong) → List A → Resu
 every read [] = Ok []
 every read (x ∷ xs) = read x >>= (λ y. every_with y (every read xs))
 
--- without the white space at the beginning, at the end, and at both: ASCII's, of which XML has all but the form feed
+-- ---- without white space: ASCII's, of which XML has all but the form feed
+
+-- at the beginning
 abbrev pub trimmed_front : List ℕ → List ℕ
 trimmed_front text = drop (prefix_len is_ascii_whitespace text) text
 
+-- at the end
 abbrev pub trimmed_back : List ℕ → List ℕ
 trimmed_back text = take (length text - suffix_len is_ascii_whitespace text) text
 
+-- at both
 abbrev pub trimmed : List ℕ → List ℕ
 trimmed text = trimmed_back (trimmed_front text)
+
+-- ---- the parts of a signature file
 
 -- one decimal digit or more, and less than 2^32
 abbrev pub is_number : List ℕ → Bool
@@ -60,6 +67,7 @@ attribute name element = value_of name element.attributes
 abbrev pub text_of : Node → List ℕ
 text_of element = trimmed (words_from 0 element.inside)
 
+-- the text of an element, in which nothing can be wrong
 abbrev pub text : Node → Result (List ℕ) Wrong
 text element = Ok (text_of element)
 
@@ -99,6 +107,7 @@ only_sequence element = do
   texts ← every text (inside_named (codes "Sequence") element)
   only texts
 
+-- SubSequence
 unfoldable pub sub_sequence : Node → Result SubSequenceRecord Wrong
 sub_sequence element = do
   position ← wanted (attribute (codes "Position") element)
@@ -114,11 +123,13 @@ reference None = Other
 reference (Some text) =
     if bytes_eq text (codes "BOFoffset") then Beginning else if bytes_eq text (codes "EOFoffset") then End else Other
 
+-- ByteSequence
 unfoldable pub byte_sequence : Node → Result ByteSequenceRecord Wrong
 byte_sequence element = do
   parts ← every sub_sequence (inside_named (codes "SubSequence") element)
   Ok (record { reference = reference (attribute (codes "Reference") element); parts = parts })
 
+-- InternalSignature
 unfoldable pub signature : Node → Result SignatureRecord Wrong
 signature element = do
   id ← wanted (attribute (codes "ID") element)
@@ -145,6 +156,7 @@ attributes element = do
     mime = or_empty (attribute (codes "MIMEType") element);
   })
 
+-- FileFormat
 unfoldable pub format : Node → Result FormatRecord Wrong
 format element = do
   it ← attributes element

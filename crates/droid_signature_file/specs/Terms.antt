@@ -58,6 +58,7 @@ abbrev pub AlternativesMatch : List (List Atom) → List ℕ → Type 0
 AlternativesMatch [] bytes = ⊥
 AlternativesMatch (atoms ∷ more) bytes = AtomsMatch atoms bytes ⊎ AlternativesMatch more bytes
 
+-- the bytes that one term stands for
 abbrev pub TermMatches : Term → List ℕ → Type 0
 TermMatches (One a) bytes = AtomMatches a bytes
 TermMatches (OneOf alternatives) bytes = AlternativesMatch alternatives bytes

@@ -23,10 +23,11 @@ pub record Tally : Type 0 where
   pub names : List UnknownName
   pub unlisted : ℕ
 
--- the element of this name, by the element that it stands in; outside of all is the root
+-- the kind of the outermost element, by its name
 abbrev pub kind_outside : List ℕ → Option Kind
 kind_outside name = if bytes_eq name (codes "FFSignatureFile") then Some kinds.Root else None
 
+-- the kind of an element of this name, by the kind of the element that it stands in
 abbrev pub kind_in : Kind → List ℕ → Option Kind
 kind_in kinds.Root name =
     if bytes_eq name (codes "InternalSignatureCollection") then Some kinds.SignatureCollection
@@ -96,6 +97,7 @@ noted_new part name found =
     then record found { names = found.names ++ record { part = part; name = name; count = 1 } ∷ [] }
     else record found { unlisted = capped (found.unlisted + 1) }
 
+-- one more name, at its place among the names or past them
 abbrev pub noted_at : ℕ → UnknownPart → List ℕ → Tally → Tally
 noted_at place part name found =
     if nat_lt place (length found.names) then record found { names = again_at place found.names }
@@ -105,13 +107,15 @@ noted_at place part name found =
 unfoldable pub noted : UnknownPart → List ℕ → Tally → Tally
 noted part name found = noted_at (position_or_len (is_name part name) found.names) part name found
 
--- the attributes of an element of a kind, by their names
+-- what an attribute of an element of a kind adds, by its name
 abbrev pub noted_attribute : Kind → Tally → List ℕ → Tally
 noted_attribute kind found name = if has_attribute kind name then found else noted parts.Attribute name found
 
+-- what all attributes of an element of a kind add
 unfoldable pub noted_attributes : Kind → List (List ℕ) → Tally → Tally
 noted_attributes kind names found = fold (noted_attribute kind) found names
 
+-- the name of an attribute
 abbrev pub name_of : Attribute → List ℕ
 name_of attribute = attribute.name.now
 
@@ -126,6 +130,7 @@ kind_by None name = kind_outside name
 kind_by (Some None) name = None
 kind_by (Some (Some kind)) name = kind_in kind name
 
+-- the same, where these elements are open
 abbrev pub kind_under : List (Option Kind) → List ℕ → Option Kind
 kind_under stack name = kind_by (innermost stack) name
 
@@ -135,6 +140,7 @@ noted_by None name found = found
 noted_by (Some None) name found = found
 noted_by (Some (Some kind)) name found = noted parts.Element name found
 
+-- what an unknown element adds, where these elements are open
 abbrev pub noted_element : List (Option Kind) → List ℕ → Tally → Tally
 noted_element stack name found = noted_by (innermost stack) name found
 
@@ -148,12 +154,14 @@ abbrev pub noted_tag : Counting → Option Kind → Tag → Tally
 noted_tag so_far (Some kind) tag = noted_attributes kind (map (λ setting. setting.name) tag.attributes) so_far.found
 noted_tag so_far None tag = noted_element so_far.stack tag.name so_far.found
 
+-- what is open and counted after a start tag
 abbrev pub counted_tag : Counting → Tag → Counting
 counted_tag so_far tag = record {
   stack = if tag.is_empty then so_far.stack else kind_under so_far.stack tag.name ∷ so_far.stack;
   found = noted_tag so_far (kind_under so_far.stack tag.name) tag;
 }
 
+-- the elements that are open after an end tag
 abbrev pub closed : List (Option Kind) → List (Option Kind)
 closed [] = []
 closed (kind ∷ others) = others

@@ -7,7 +7,7 @@ use droid_xml::Problem;
 use std::alloc::{AllocError, AllocFailed};
 
 /// What is wrong with a document that is no signature file.
-#[derive(Clone, Copy, PartialEq, Eq)]
+#[derive(Clone, Copy)]
 pub enum Wrong {
     /// Its root is not `FFSignatureFile`.
     Root,
@@ -18,7 +18,7 @@ pub enum Wrong {
 }
 
 /// Why a signature file is not read.
-#[derive(Clone, Copy, PartialEq, Eq)]
+#[derive(Clone, Copy)]
 pub enum FileFault {
     /// Out of memory.
     Memory,

@@ -1,4 +1,4 @@
-//! A whole signature file.
+//! Reads a whole signature file.
 
 ghost use Rattle.std.specs.Prelude.{map};
 ghost use Rattle.droid_xml.specs.LineEnds.{with_line_feeds};

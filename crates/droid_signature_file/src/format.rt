@@ -1,4 +1,4 @@
-//! Formats.
+//! The record of a format.
 
 ghost use Rattle.std.specs.Prelude.{◌≡◌};
 ghost use Rattle.std.specs.Option.{option_copied};

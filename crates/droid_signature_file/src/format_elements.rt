@@ -1,4 +1,4 @@
-//! Formats.
+//! Reads the element `FileFormat`, and the texts of attributes that may be missing.
 
 ghost use Rattle.std.specs.Prelude.{◌≡◌, IfOk};
 ghost use Rattle.std.specs.Option.{option_map};

@@ -1,4 +1,7 @@
-//! What elements are read as.
+//! Reads elements as records.
+//!
+//! A record's `impl` of [`FromNode`] reads one element; its `ghost says` is the definition that its `from_node` meets.
+//! The functions below read all elements of a name, each by its record's `from_node`.
 
 ghost use Rattle.std.specs.Prelude.{◌∷◌, ◌<◌, ◌≤◌, [], drop, filter, length, map, IfOk, IfSome};
 ghost use Rattle.std.specs.List.{flat_map};

@@ -5,7 +5,7 @@ ghost use Rattle.std.specs.Str.{bytes_eq};
 ghost use Rattle.droid_signature_file.specs.Unknown as known;
 
 /// A known element, by what may stand in it.
-#[derive(Clone, Copy, PartialEq, Eq)]
+#[derive(Clone, Copy)]
 pub(crate) enum Kind {
     /// `FFSignatureFile`.
     Root,

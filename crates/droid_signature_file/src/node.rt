@@ -1,4 +1,4 @@
-//! Elements, and what stands directly in them.
+//! Finds elements among the pieces of a document, and what stands directly in them.
 
 ghost use Rattle.std.specs.Prelude.{◌≡◌, ◌+◌, ◌<◌, ◌≤◌, ◌^◌, ◌++◌, ◌∷◌, [], IfOk, IfSome, MatchOption, OnOk, drop};
 ghost use Rattle.std.specs.Prelude.{length, map, string_bytes};

@@ -1,4 +1,4 @@
-//! Numbers, and the white space around texts.
+//! Reads numbers, and takes the white space off texts.
 
 ghost use Rattle.std.specs.Prelude.{◌≡◌};
 ghost use Rattle.std.specs.Char.{is_ascii_digit};

@@ -1,4 +1,4 @@
-//! The pieces of a document that mean something.
+//! Reads the pieces of a document that mean something: no comment, no processing instruction and no search table.
 
 ghost use Rattle.std.specs.Prelude.{◌≡◌, ◌++◌, List, map, IfOk, IfErr, OnOk};
 ghost use Rattle.droid_xml.specs.Documents.{IsDocument};
@@ -19,6 +19,7 @@ pub(crate) fn pieces_of(alloc: Global, text: &[u8]) -> Result<Vec<Piece<'_>>, Fa
     let mut reader = Reader::new(alloc, text)?;
     let mut pieces = Vec::new(alloc);
     let mut depth = 0;
+    // The prover asks for a bound. No document has as many pieces.
     for _ in 0..u64::MAX {
         match reader.next(alloc) {
             Ok(Some(piece)) => {

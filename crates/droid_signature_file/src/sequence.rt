@@ -1,4 +1,4 @@
-//! Byte sequences of a signature.
+//! The record of a byte sequence of a signature.
 
 ghost use Rattle.std.specs.Prelude.{◌≡◌};
 
@@ -6,7 +6,7 @@ use crate::subsequence::SubSequence;
 use std::marker::Model;
 
 /// From where the offsets of a byte sequence count.
-#[derive(Clone, Copy, PartialEq, Eq)]
+#[derive(Clone, Copy)]
 pub enum Reference {
     /// `BOFoffset`: the beginning of the file.
     Beginning,

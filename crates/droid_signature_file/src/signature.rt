@@ -1,4 +1,4 @@
-//! Signatures.
+//! The record of a signature.
 
 ghost use Rattle.std.specs.Prelude.{◌≡◌};
 

@@ -1,4 +1,4 @@
-//! Signatures, with their byte sequences, subsequences and fragments.
+//! Reads the elements of signatures, with their byte sequences, subsequences and fragments.
 
 ghost use Rattle.std.specs.Prelude.{◌≡◌};
 ghost use Rattle.std.specs.Option.{option_map};
@@ -39,7 +39,7 @@ impl FromNode for SequenceRecord {
     }
 }
 
-/// Reads from where offsets count.
+/// Reads from where offsets count: the attribute `Reference`.
 fn reference(value: Option<&str>) -> Reference
     ensures { result ≡ spec.reference (option_map (λ text. text.now) value.entry) }
 {
@@ -80,7 +80,7 @@ fn only_sequence(alloc: Global, node: &Node<'_, '_>) -> Result<Text, Stop>
     Ok(text)
 }
 
-/// Returns the one text.
+/// Returns the text if there is exactly one.
 fn only(texts: Vec<Text>) -> Result<Text, Stop>
     ensures { Gives (λ text. text) result (spec.only texts.items) }
 {

@@ -1,4 +1,4 @@
-//! Subsequences and their fragments.
+//! The records of subsequences and their fragments.
 
 ghost use Rattle.std.specs.Prelude.{◌≡◌};
 
@@ -6,7 +6,7 @@ use droid_frame::Text;
 use std::marker::Model;
 
 /// Two offsets in bytes, as the attributes give them. An attribute that is missing is `None`.
-#[derive(Clone, Copy, PartialEq, Eq)]
+#[derive(Clone, Copy)]
 pub struct OffsetRange {
     /// `SubSeqMinOffset` or `MinOffset`.
     pub min: Option<u32>,

@@ -142,7 +142,7 @@ impl Counting {
         }
     }
 
-    /// Returns the kind of the innermost element.
+    /// Returns the kind of the innermost open element, or `None` if none is open. An unknown element has no kind.
     #[tactic(auto, using(crate::proofs::Loops::innermost_last))]
     fn innermost(&self) -> Option<Option<Kind>>
         ensures { result ≡ spec.innermost self.now.stack }

@@ -1,4 +1,4 @@
-//! The whole file.
+//! The record of a whole signature file.
 
 ghost use Rattle.std.specs.Prelude.{◌≡◌};
 

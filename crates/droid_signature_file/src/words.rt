@@ -1,4 +1,4 @@
-//! Texts and numbers that are the text of an element.
+//! Reads elements whose text is a text or a number.
 
 ghost use Rattle.std.specs.Prelude.{◌≡◌};
 ghost use Rattle.droid_signature_file.specs.Signatures as spec;

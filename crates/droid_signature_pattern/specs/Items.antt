@@ -6,5 +6,6 @@ use Rattle.droid_signature_pattern.specs.TermValues.{atom_of}
 use Rattle.droid_signature_pattern.specs.declared.term.TextItem.{TextItem}
 use Rattle.droid_signature_file.specs.Terms.{Atom}
 
+-- the items of an alternative
 abbrev pub items_of : Vec TextItem Global → List Atom
 items_of items = map atom_of items.items

@@ -15,6 +15,7 @@ abbrev pub Says : Stop → (Reason → Type 0) → Type 0
 Says stops.Memory P = ⊤
 Says (stops.LeftOut reason) P = P reason
 
+-- where something was left out, its reason satisfies P
 abbrev pub IfLeftOut : {X : Type 0} → Result X Stop → (Reason → Type 0) → Type 0
 IfLeftOut (Ok x) P = ⊤
 IfLeftOut (Err stop) P = Says stop P

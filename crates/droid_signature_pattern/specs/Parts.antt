@@ -28,10 +28,11 @@ pub record ReadPart : Type 0 where
   pub terms : List Term
   pub right : List ReadFragment
 
--- the same, with the patterns of the texts
+-- a fragment, with the patterns of its text
 abbrev pub side_of : ReadFragment → Side
 side_of it = record { position = it.position; least = it.least; most = it.most; patterns = patterns_of it.terms }
 
+-- a subsequence, with the patterns of its texts
 abbrev pub piece_of : ReadPart → Piece
 piece_of part = record {
   least = part.least;
@@ -53,6 +54,7 @@ pub record IsReadFragment (fragment : Fragment) (it : ReadFragment) : Type 0 whe
   pub small : it.most ≤ 65535
   pub text : IsReadText fragment.text it.terms
 
+-- the fragments are read as these, one for one
 abbrev pub AreReadFragments : List Fragment → List ReadFragment → Type 0
 AreReadFragments [] [] = ⊤
 AreReadFragments [] (it ∷ its) = ⊥
@@ -69,13 +71,14 @@ pub record IsReadPart (part : SubSequenceRecord) (read : ReadPart) : Type 0 wher
   pub left_positions : ArePositions part.left
   pub right_positions : ArePositions part.right
 
+-- the subsequences are read as these, one for one
 abbrev pub AreReadParts : List SubSequenceRecord → List ReadPart → Type 0
 AreReadParts [] [] = ⊤
 AreReadParts [] (read ∷ more) = ⊥
 AreReadParts (part ∷ parts) [] = ⊥
 AreReadParts (part ∷ parts) (read ∷ more) = IsReadPart part read × AreReadParts parts more
 
--- of lists of patterns that stand one behind the other, one of each
+-- of lists of patterns that stand one behind the other (levels), one of each
 abbrev pub joined_all : List (List (List Element)) → List (List Element)
 joined_all [] = [] ∷ []
 joined_all (level ∷ levels) = joined level (joined_all levels)
@@ -85,10 +88,11 @@ abbrev pub in_order : {X : Type 0} → Way → X → X → List X
 in_order way.Left outer inner = outer ∷ inner ∷ []
 in_order way.Right outer inner = inner ∷ outer ∷ []
 
--- a fragment with its gap: a left one before it, a right one behind it
+-- the two levels of a fragment and its gap: a left fragment lies before its gap, a right one behind it
 abbrev pub side_levels : Way → ReadFragment → List (List (List Element))
 side_levels from it = in_order from (patterns_of it.terms) (gap_patterns it.least it.most)
 
+-- the patterns of a fragment with its gap
 abbrev pub side_patterns : Way → ReadFragment → List (List Element)
 side_patterns from it = joined_all (side_levels from it)
 
@@ -98,11 +102,12 @@ level from position [] = []
 level from position (it ∷ more) =
     (if it.position == position then side_patterns from it else []) ++ level from position more
 
--- the left fragments from a position down to 1, and the right ones from 1 up to a position
+-- the levels of the left fragments, from a position down to 1
 abbrev pub left_levels : List ReadFragment → ℕ → List (List (List Element))
 left_levels fragments zero = []
 left_levels fragments (suc inner) = level way.Left (suc inner) fragments ∷ left_levels fragments inner
 
+-- the levels of the right fragments, from 1 up to a position
 abbrev pub right_levels : List ReadFragment → ℕ → List (List (List Element))
 right_levels fragments zero = []
 right_levels fragments (suc inner) = right_levels fragments inner ++ level way.Right (suc inner) fragments ∷ []
@@ -112,24 +117,25 @@ abbrev pub outermost_of : List ReadFragment → ℕ
 outermost_of [] = 0
 outermost_of (it ∷ more) = max it.position (outermost_of more)
 
--- a subsequence
+-- the levels of a subsequence
 abbrev pub part_levels : ReadPart → List (List (List Element))
 part_levels part =
     left_levels part.left (outermost_of part.left)
     ++ (patterns_of part.terms ∷ right_levels part.right (outermost_of part.right))
 
--- one behind others, with an open gap in front of it
+-- the levels of a subsequence behind others, with an open gap in front of it
 abbrev pub next_levels : ReadPart → List (List (List Element))
 next_levels part = ((OpenGap part.least ∷ []) ∷ []) ∷ part_levels part
 
--- further subsequences, each behind an open gap
+-- the levels of further subsequences, each behind an open gap
 abbrev pub further_levels : List ReadPart → List (List (List Element))
 further_levels [] = []
 further_levels (part ∷ parts) = ((OpenGap part.least ∷ []) ∷ []) ∷ (part_levels part ++ further_levels parts)
 
--- a subsequence and those behind it
+-- the levels of a subsequence and of those behind it
 abbrev pub row_levels : ReadPart → List ReadPart → List (List (List Element))
 row_levels part further = part_levels part ++ further_levels further
 
+-- the patterns of a subsequence and of those behind it
 abbrev pub row_patterns : ReadPart → List ReadPart → List (List Element)
 row_patterns part further = joined_all (row_levels part further)

@@ -34,15 +34,17 @@ IsReasonOfUpper offsets None reason = reason ≡ reasons.NoUpperOffset
 IsReasonOfUpper offsets (Some most) reason =
     ((reason ≡ reasons.LargeOffset) × (65535 < most)) ⊎ ((reason ≡ reasons.OffsetOrder) × (most < lowest offsets))
 
+-- one of the two offsets is wrong
 abbrev pub IsReasonOfBounds : OffsetRange → Reason → Type 0
 IsReasonOfBounds offsets reason = IsReasonOfLower offsets reason ⊎ IsReasonOfUpper offsets offsets.max reason
 
--- a fragment's position is 0 or over 64, or no fragment has a position below the outermost
+-- a fragment's position is 0 or over 64
 abbrev pub IsReasonOfPosition : Reason → Fragment → Type 0
 IsReasonOfPosition reason fragment =
     ((reason ≡ reasons.FragmentPositions) × (fragment.position ≡ 0))
     ⊎ ((reason ≡ reasons.LargePosition) × (64 < fragment.position))
 
+-- that, or no fragment has a position below the outermost
 abbrev pub IsReasonOfPositions : List Fragment → Reason → Type 0
 IsReasonOfPositions fragments reason =
     Any (IsReasonOfPosition reason) fragments
@@ -55,33 +57,39 @@ IsReasonOfText text reason =
     ((reason ≡ reasons.LongText) × (65536 < length text))
     ⊎ ((reason ≡ reasons.Text) × ((terms : List Term) → SpellsTerms text terms → ⊥))
 
+-- why a fragment is not read
 abbrev pub IsReasonOfFragment : Reason → Fragment → Type 0
 IsReasonOfFragment reason fragment = IsReasonOfBounds fragment.offsets reason ⊎ IsReasonOfText fragment.text reason
 
+-- why the fragments on one side are not read
 abbrev pub IsReasonOfSide : List Fragment → Reason → Type 0
 IsReasonOfSide fragments reason = IsReasonOfPositions fragments reason ⊎ Any (IsReasonOfFragment reason) fragments
 
+-- why a subsequence is not read
 abbrev pub IsReasonOfPart : Reason → SubSequenceRecord → Type 0
 IsReasonOfPart reason part =
     IsReasonOfLower part.offsets reason ⊎ IsReasonOfSide part.left reason ⊎ IsReasonOfText part.text reason
     ⊎ IsReasonOfSide part.right reason
 
--- a subsequence behind the first has an upper offset other than 0, or cannot be read
+-- the upper offset is other than 0
 abbrev pub HasUpper : SubSequenceRecord → Type 0
 HasUpper part = 0 < unwrap_or part.offsets.max 0
 
+-- the upper offset is missing or 0
 abbrev pub HasNoUpper : SubSequenceRecord → Type 0
 HasNoUpper part = unwrap_or part.offsets.max 0 ≡ 0
 
+-- why a subsequence behind the first is not read
 abbrev pub IsReasonOfFurther : Reason → SubSequenceRecord → Type 0
 IsReasonOfFurther reason part = ((reason ≡ reasons.FurtherUpperOffset) × HasUpper part) ⊎ IsReasonOfPart reason part
 
--- why a byte sequence is not read
+-- why the subsequences of a byte sequence are not read
 abbrev pub IsReasonOfParts : Reason → List SubSequenceRecord → Type 0
 IsReasonOfParts reason [] = reason ≡ reasons.NoSubsequence
 IsReasonOfParts reason (part ∷ further) =
     IsReasonOfBounds part.offsets reason ⊎ IsReasonOfPart reason part ⊎ Any (IsReasonOfFurther reason) further
 
+-- why a byte sequence is not read
 abbrev pub IsReasonOfSequence : ByteSequenceRecord → Reason → Type 0
 IsReasonOfSequence sequence reason =
     ((reason ≡ reasons.Reference) × (sequence.reference ≡ Other))
@@ -89,30 +97,34 @@ IsReasonOfSequence sequence reason =
     ⊎ ((reason ≡ reasons.SubsequencePositions) × (are_numbered 1 sequence.parts ≡ false))
     ⊎ IsReasonOfParts reason sequence.parts
 
--- why what was read cannot be written: a fragment with its gap, the fragments of a position, a subsequence, all of them
+-- why a fragment that was read cannot be written with its gap
 abbrev pub IsReasonOfReadFragment : Way → Reason → ReadFragment → Type 0
 IsReasonOfReadFragment from reason it =
     IsReasonOfTerms it.terms reason ⊎ AreTooMuch (map written_each (side_levels from it)) reason
 
+-- why the fragments of a position cannot be written
 abbrev pub IsReasonOfLevel : Way → ℕ → List ReadFragment → Reason → Type 0
 IsReasonOfLevel from position fragments reason =
     Any (IsReasonOfReadFragment from reason) fragments
     ⊎ ((count : ℕ) × IsTooMuch (written_each (level from position (take count fragments))) reason)
 
+-- why a part of a subsequence cannot be written
 abbrev pub IsReasonOfReadPart : Reason → ReadPart → Type 0
 IsReasonOfReadPart reason part =
     ((position : ℕ) × IsReasonOfLevel way.Left position part.left reason) ⊎ IsReasonOfTerms part.terms reason
     ⊎ ((position : ℕ) × IsReasonOfLevel way.Right position part.right reason)
 
--- the first subsequence, and one behind others
+-- why the first subsequence cannot be written
 abbrev pub IsReasonOfFirstPart : Reason → ReadPart → Type 0
 IsReasonOfFirstPart reason part =
     IsReasonOfReadPart reason part ⊎ AreTooMuch (map written_each (part_levels part)) reason
 
+-- why a subsequence behind others cannot be written
 abbrev pub IsReasonOfNextPart : Reason → ReadPart → Type 0
 IsReasonOfNextPart reason part =
     IsReasonOfReadPart reason part ⊎ AreTooMuch (map written_each (next_levels part)) reason
 
+-- why the subsequences of a byte sequence cannot be written
 abbrev pub IsReasonOfRow : ReadPart → List ReadPart → Reason → Type 0
 IsReasonOfRow part further reason =
     IsReasonOfFirstPart reason part ⊎ Any (IsReasonOfNextPart reason) further

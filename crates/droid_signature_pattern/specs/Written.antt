@@ -84,8 +84,10 @@ IsWritable (Range low high) = (low ≤ high) × (high < 256)
 IsWritable (Except b) = b < 256
 IsWritable (Choice runs) = (0 < length runs) × AllByRecursion (λ run. (0 < length run) × AreBytes run) runs
 
+-- a pattern that a text can spell
 abbrev pub AreWritable : List Element → Type 0
 AreWritable es = AllByRecursion IsWritable es
 
+-- patterns that texts can spell
 abbrev pub AreAllWritable : List (List Element) → Type 0
 AreAllWritable patterns = AllByRecursion AreWritable patterns

@@ -1,4 +1,4 @@
-//! The texts of a pattern's elements.
+//! Writes the texts of a pattern's elements.
 
 ghost use Rattle.std.specs.Prelude.{◌≡◌, ◌++◌, ◌<◌, OnOk, decimal};
 ghost use Rattle.std.specs.List.{flat_map};
@@ -18,7 +18,7 @@ pub(crate) fn push_byte(text: &mut Vec<u8>, byte: u8) -> Result<(), AllocError>
     Ok(())
 }
 
-/// Returns a hexadecimal digit.
+/// Returns the hexadecimal digit of a value, a capital one.
 fn digit(value: u8) -> u8
     requires { value < 16 }
     ensures { result ≡ spec.digit value }

@@ -1,4 +1,5 @@
-//! Texts that grow by one list of texts after another.
+//! Texts that grow by one list of texts after another. Such a list is a level: any of its texts may stand at that
+//! place.
 
 ghost use Rattle.std.specs.Prelude.{◌≡◌, ◌⊎◌, ◌<◌, ◌∷◌, [], IsTrue, IfOk, OnOk, length};
 ghost use Rattle.std.specs.List.{Any};
@@ -43,7 +44,7 @@ impl Model for Growing {
 }
 
 impl Growing {
-    /// One empty text.
+    /// Begins with one empty text.
     pub(crate) fn new(alloc: Global) -> Result<Growing, AllocError>
         ensures { IfOk result (λ growing. growing ≡ [] ∷ []) }
     {
@@ -51,7 +52,7 @@ impl Growing {
         Ok(Growing::of(alloc, texts))
     }
 
-    /// These texts. Allocates nothing.
+    /// Begins with these texts. Allocates nothing.
     pub fn of(alloc: Global, texts: PatternTexts) -> Growing
         ensures { result ≡ texts }
     {

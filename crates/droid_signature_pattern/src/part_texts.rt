@@ -1,4 +1,4 @@
-//! The texts of the patterns that stand for subsequences.
+//! Writes the texts of the patterns that stand for subsequences: level by level, as `growth` explains.
 
 ghost use Rattle.std.specs.Prelude.{◌≡◌, ◌==◌, ◌++◌, ◌∷◌, [], ℕ, IfOk, OnOk, map, if◌then◌else◌};
 ghost use Rattle.droid_pattern.specs.Patterns.{OpenGap};
@@ -203,7 +203,7 @@ fn fragment_texts(alloc: Global, fragment: &ReadFragment, from: Way) -> Result<P
     Ok(texts)
 }
 
-/// Returns two levels: what lies further out first on the left, and last on the right.
+/// Puts two levels in order: what lies further out comes first on the left, and last on the right.
 fn two(
     alloc: Global,
     outer: PatternTexts,
@@ -232,7 +232,7 @@ fn pair(
     Ok(levels)
 }
 
-/// Returns the text of a gap: an empty one if it has no byte.
+/// Returns the text of a gap, which is empty if the gap never has a byte.
 #[tactic(auto, using(crate::proofs::PartLevels::gap_none, crate::proofs::PartLevels::gap_some))]
 fn gap_texts(alloc: Global, least: u16, most: u16) -> Result<PatternTexts, AllocError>
     ensures { IfOk result (λ texts. texts ≡ written_each (gap_patterns least most)) }

@@ -208,7 +208,7 @@ fn both(alloc: Global, first: &[u8], second: &[u8]) -> Result<Vec<u8>, Stop>
     Ok(text)
 }
 
-/// Returns a text behind another one.
+/// Copies two texts into one with room for `len` bytes. The room is for speed; no clause needs it.
 fn appended(alloc: Global, len: usize, first: &[u8], second: &[u8]) -> Result<Vec<u8>, AllocError>
     ensures { IfOk result (λ text. text.items ≡ first.now ++ second.now) }
 {

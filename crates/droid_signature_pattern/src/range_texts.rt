@@ -1,4 +1,4 @@
-//! Ranges of several bytes, written out byte by byte.
+//! Writes ranges of several bytes out byte by byte: as patterns whose elements are single bytes and ranges of one byte.
 
 ghost use Rattle.std.specs.Prelude.{◌≡◌, ◌≢◌, ◌≤◌, ◌++◌, ◌∷◌, [], IfOk, OnOk};
 ghost use Rattle.droid_signature_file.specs.Expansions.{any_bytes, ranges, upward_from, up_to, range_before};
@@ -48,7 +48,7 @@ fn add_ranges(
     Ok(())
 }
 
-/// Adds a text, unless there are more bytes.
+/// Adds a text if the upper bound ends here too. Bounds of different lengths have no texts.
 fn add_if_none(
     alloc: Global,
     texts: &mut PatternTexts,

@@ -1,4 +1,4 @@
-//! Subsequences whose texts are read.
+//! Subsequences as `sequence_reader` returns them: with offsets that a registry can hold, and terms in place of texts.
 
 ghost use Rattle.std.specs.Prelude.{◌≡◌, map};
 ghost use Rattle.droid_signature_pattern.specs.TermValues.{term_of};

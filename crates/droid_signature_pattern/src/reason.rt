@@ -6,7 +6,7 @@ ghost use Rattle.droid_signature_pattern.specs.declared.reason.Stop.TheVariants 
 use std::alloc::{AllocError, AllocFailed};
 
 /// Why a registry cannot hold a signature.
-#[derive(Clone, Copy, PartialEq, Eq)]
+#[derive(Clone, Copy)]
 pub enum Reason {
     /// It has no byte sequence, so it would hit every file.
     NoSequence,
@@ -47,7 +47,7 @@ pub enum Reason {
 }
 
 /// Why the making of patterns stopped.
-#[derive(Clone, Copy, PartialEq, Eq)]
+#[derive(Clone, Copy)]
 pub enum Stop {
     Memory,
     LeftOut(Reason),

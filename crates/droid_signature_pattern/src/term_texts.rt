@@ -1,4 +1,4 @@
-//! The texts of the patterns that stand for the terms of a sequence's or a fragment's text.
+//! Writes the texts of the patterns that stand for the terms of a sequence's or a fragment's text.
 
 ghost use Rattle.std.specs.Prelude.{◌≡◌, ◌+◌, ◌≤◌, ◌++◌, ◌∷◌, [], IsTrue, IfOk, OnOk, length, map};
 ghost use Rattle.std.specs.List.{flat_map, list_all};
@@ -147,7 +147,7 @@ fn push_each(text: &mut Vec<u8>, mark: u8, from: usize, count: usize) -> Result<
     Ok(b'|')
 }
 
-/// Returns each byte as two digits, behind a bar.
+/// Returns each byte as two digits, behind a bar. A table, for speed.
 fn each_byte() -> &'static [u8]
     ensures text { result.now ≡ marked pair 124 (upward 0 256) }
     ensures len { length result.now ≡ 768 }
@@ -176,14 +176,14 @@ fn are_all_runs(alternatives: &[Vec<TextItem>]) -> bool
     alternatives.iter().all(|items| are_runs(items.as_slice()))
 }
 
-/// Returns whether each item is one that a pattern can hold as it stands.
+/// Returns whether each item is a run of bytes, which an alternative of a pattern can hold as it stands.
 fn are_runs(items: &[TextItem]) -> bool
     ensures { result ≡ list_all (λ item. spec.is_run (atom_of item)) items.now }
 {
     items.iter().all(|item| is_run(item))
 }
 
-/// Returns whether an item is one that a pattern can hold as it stands.
+/// Returns whether an item is a run of bytes, which an alternative of a pattern can hold as it stands.
 fn is_run(item: &TextItem) -> bool
     ensures { result ≡ spec.is_run (atom_of item.now) }
 {
@@ -237,7 +237,8 @@ fn each_texts(alloc: Global, alternatives: &[Vec<TextItem>]) -> Result<PatternTe
     Ok(texts)
 }
 
-/// Returns whether there is one item, and it is no run of bytes: its texts are short, and need not grow.
+/// Returns whether there is one item, and it is no run of bytes: its texts are short, and need not grow. This is for
+/// speed: after `false` they grow to the same texts.
 fn is_one_class(items: &[TextItem]) -> bool
     ensures { IsTrue result → length items.now ≡ 1 }
 {

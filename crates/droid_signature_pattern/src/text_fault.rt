@@ -4,16 +4,13 @@ ghost use Rattle.std.specs.Prelude.{◌≡◌};
 ghost use Rattle.droid_signature_pattern.specs.declared.text_fault.TextFault.TheVariants.{Memory};
 
 use std::alloc::{AllocError, AllocFailed};
-use thiserror::Error;
 
 /// Why a text could not be read.
-#[derive(Clone, Copy, Debug, PartialEq, Eq, Error)]
+#[derive(Clone, Copy)]
 pub enum TextFault {
     /// The text does not follow the grammar.
-    #[error("the text is outside the grammar")]
     BadText,
     /// Out of memory.
-    #[error("out of memory")]
     Memory,
 }
 

@@ -1,4 +1,5 @@
-//! How long a turn waits for more requests, so that they share its sync.
+//! How long a turn waits for more requests, so that they share its sync. All of this is for speed: only the two bounds
+//! of `microseconds` are proved, and `tests/program/journal/shared_syncs.py` tests the rest.
 
 ghost use Rattle.std.specs.Prelude.{◌+◌, ◌*◌, ◌-◌, ◌≤◌};
 
@@ -51,7 +52,7 @@ impl Grace {
         (took / 2).min(MOST).min(most)
     }
 
-    /// Whether this turn may wait for more. After a wait in vain some turns don't.
+    /// Whether this turn may wait for more. After a wait in vain some turns don't, and this call counts them.
     pub(crate) fn is_due(&mut self) -> bool {
         if self.skips == 0 {
             return true;
@@ -60,7 +61,8 @@ impl Grace {
         false
     }
 
-    /// Notes whether more requests came. The more waits in a row were in vain, the more turns do not wait.
+    /// Notes whether more requests came in a wait. The more waits in a row were in vain, the more turns do not wait: 1,
+    /// 3, 7, and so on up to 63.
     pub(crate) fn note(&mut self, came: bool) {
         if came {
             self.skipped = 0;
@@ -74,7 +76,7 @@ impl Grace {
         }
     }
 
-    /// Notes that a turn begins.
+    /// Notes when a turn begins: how long it took is known when the next one may wait.
     pub(crate) fn begin(&mut self, now: u64) {
         self.began = now;
     }

@@ -1,4 +1,4 @@
-//! One connection.
+//! One connection. Its reads and writes are proved to keep to the buffer; `tests/program/wire` tests what they do.
 
 ghost use Rattle.std.specs.Prelude.{◌≡◌, length};
 ghost use Rattle.droid_turns.specs.Events.{CameWithin, TookWithin};

@@ -1,4 +1,4 @@
-//! Lines on standard error about connections.
+//! Lines on standard error about connections. They have no contracts: `tests/program/wire/serve_options.py` tests each.
 
 use crate::guest::Guest;
 use crate::tally::Tally;

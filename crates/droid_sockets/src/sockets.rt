@@ -1,4 +1,7 @@
-//! The sockets of many connections.
+//! The sockets of many connections. Proved is what is counted, and that no read or write passes the end of its buffer.
+//! What the system does with a socket is not known to the prover, so what asks the system or notes its answers has no
+//! contract: `tests/program/wire` tests it. How long a turn waits for more requests (`gather` and what it calls) is for
+//! speed alone.
 
 ghost use Rattle.std.specs.Prelude.{◌≡◌, ◌<◌, IfOk, IfSome, length};
 ghost use Rattle.droid_turns.specs.Events.{CameWithin, TookWithin};
@@ -101,7 +104,7 @@ impl<'a, R: Clock + Eprint + Net> Sockets<'a, R> {
         self.grace.is_given = true;
     }
 
-    /// Prints a summary line, if a minute has passed since the last one.
+    /// Adds these frames to the ones since the last summary line, and prints that line if a minute has passed.
     fn print_minutely(&mut self, frames: u64)
         ensures { self.new.tally ≡ self.old.tally }
     {
@@ -124,14 +127,15 @@ impl<'a, R: Clock + Eprint + Net> Sockets<'a, R> {
         self.frames = 0;
     }
 
-    /// Returns the time since the clock was first read, in microseconds.
+    /// Returns the time since the clock was first read, in microseconds. `None`: a clock could not be read.
     fn microseconds(&self) -> Option<u64> {
         let begun = self.begun?;
         let now = Instant::now(self.runtime).ok()?;
         u64::try_from(now.saturating_duration_since(begun).as_micros()).ok()
     }
 
-    /// Waits until the system reports something, but at most `limit` milliseconds. Returns whether it did.
+    /// Waits until the system reports something, but at most `limit` milliseconds, and notes it. Returns whether there
+    /// was something.
     fn poll_for(&mut self, limit: u64) -> Result<bool, WaitFault>
         ensures { self.new.tally ≡ self.old.tally }
     {
@@ -183,7 +187,7 @@ impl<'a, R: Clock + Eprint + Net> Sockets<'a, R> {
         self.grace.note(awaited(&self.guests) < before);
     }
 
-    /// Notes that a turn begins.
+    /// Notes that a turn begins, and when. From now on only what this turn writes counts as answered.
     fn begin_turn(&mut self)
         ensures { self.new.tally ≡ self.old.tally }
     {
@@ -194,6 +198,7 @@ impl<'a, R: Clock + Eprint + Net> Sockets<'a, R> {
     }
 }
 
+// The clause of each call says what it counts, and nothing of the system.
 impl<R: Clock + Eprint + Net> Connections for Sockets<'_, R> {
     ghost use Rattle.std.specs.Prelude.{◌≡◌};
     ghost use Rattle.droid_sockets.specs.Tallies.{after};
@@ -257,6 +262,7 @@ impl<R: Clock + Eprint + Net> Connections for Sockets<'_, R> {
         let came = read_from(&mut self.guests, id, buffer);
         match came {
             Came::Bytes(size) => self.tally.came = count(self.tally.came, size),
+            // Changes nothing: the clause counts it as a read of no bytes.
             Came::Nothing => self.tally.came = count(self.tally.came, 0),
             Came::End => {}
             Came::Broken => {}
@@ -268,6 +274,7 @@ impl<R: Clock + Eprint + Net> Connections for Sockets<'_, R> {
         let took = write_to(&mut self.guests, id, bytes);
         match took {
             Took::Bytes(size) => self.tally.went = count(self.tally.went, size),
+            // Changes nothing: the clause counts it as a write of no bytes.
             Took::Nothing => self.tally.went = count(self.tally.went, 0),
             Took::Broken => {}
         }
@@ -297,7 +304,7 @@ enum Accepted {
     Failed,
 }
 
-/// Accepts the next connection. A failure may concern one connection alone: then the next one is tried.
+/// Accepts the next connection. A failure may concern one connection alone: then the next one is tried, up to 16 times.
 fn accept_one(listener: &TcpListener) -> Accepted {
     for _ in 0..TRIES {
         match listener.accept() {
@@ -372,12 +379,12 @@ fn note_one(guests: &mut Vec<Guest>, id: u64, readable: bool, writable: bool, en
     }
 }
 
-/// Returns how many connections were answered and have not sent their next request.
+/// Returns how many connections were answered and have sent nothing since.
 fn awaited(guests: &[Guest]) -> usize {
     guests.iter().filter(|guest| guest.is_awaited()).count()
 }
 
-/// Whether something has come of a connection.
+/// Returns whether a connection may have bytes that were not read.
 fn has_come(guests: &[Guest]) -> bool {
     guests.iter().any(|guest| guest.readable)
 }

@@ -4,7 +4,7 @@ ghost use Rattle.std.specs.Prelude.{◌≡◌};
 ghost use Rattle.droid_sockets.specs.Tallies.{counted};
 
 /// Counts of connections and bytes so far. No count goes beyond 2^64 - 1.
-#[derive(Clone, Copy, PartialEq, Eq)]
+#[derive(Clone, Copy)]
 pub struct Tally {
     /// How many connections were accepted.
     pub opened: u64,

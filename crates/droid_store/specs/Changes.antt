@@ -16,6 +16,7 @@ use Rattle.droid_store.specs.Rows.{Node, Rows, is_node, profile_at, node_at}
 abbrev pub with_reply : Entry → Rows → Rows
 with_reply e rows = record rows { replies = rows.replies ++ e ∷ [] }
 
+-- with this newest profile, which has no node yet
 abbrev pub with_profile : ℕ → Bool → HashKind → Rows → Rows
 with_profile scan_limit match_all hash rows =
     record rows {
@@ -52,13 +53,16 @@ new_node profile id parent modified state size piece_size name path = record {
   hash = [];
 }
 
+-- a new folder
 abbrev pub new_folder : ℕ → ℕ → ℕ → ℤ → List ℕ → List ℕ → Node
 new_folder profile id parent modified name path = new_node profile id parent modified Folder 0 0 name path
 
+-- a new file, which is unfinished
 abbrev pub new_file : ℕ → ℕ → ℕ → ℤ → ℕ → ℕ → List ℕ → List ℕ → Node
 new_file profile id parent modified size piece_size name path =
     new_node profile id parent modified Unfinished size piece_size name path
 
+-- the node with what was found in it
 abbrev pub finished : Method → Bool → HashValue → List (List ℕ) → Node → Node
 finished method mismatch hash puids n =
     record n { state = Finished; method = method; mismatch = mismatch; hash = hash_bytes hash; puids = puids }

@@ -19,12 +19,15 @@ use Rattle.droid_store.specs.Rows.{Node, Rows}
 
 -- ---- values
 
+-- a number as a value of the database
 abbrev pub number : ℕ → Value
 number n = Int (pos n)
 
+-- a truth value as one: 0 or 1
 abbrev pub flag : Bool → Value
 flag b = Int (if b then pos 1 else pos 0)
 
+-- the number of a node's state
 abbrev pub state_number : NodeState → ℕ
 state_number Folder = 0
 state_number Unfinished = 1
@@ -34,45 +37,56 @@ state_number Finished = 2
 abbrev pub joined : List (List ℕ) → List ℕ
 joined puids = join_with_byte 32 puids
 
+-- the number that a value is, 0 if it is none
 abbrev pub number_in : Value → ℕ
 number_in (Int (pos n)) = n
 number_in _ = 0
 
+-- the signed number that a value is, 0 if it is none
 abbrev pub integer_in : Value → ℤ
 integer_in (Int n) = n
 integer_in _ = pos 0
 
+-- the truth value that a value is: true unless it is 0
 abbrev pub flag_in : Value → Bool
 flag_in v = not (number_in v == 0)
 
+-- the state that a value is the number of
 abbrev pub state_in : Value → NodeState
 state_in v = if number_in v == 0 then Folder else if number_in v == 1 then Unfinished else Finished
 
+-- the method that a value is the number of
 abbrev pub method_in : Value → Method
 method_in v = if number_in v == 0 then Unidentified else if number_in v == 1 then Signature else Extension
 
+-- the kind of hash that a value is the number of
 abbrev pub hash_kind_in : Value → HashKind
 hash_kind_in v = if number_in v == 0 then kinds.Nothing else if number_in v == 1 then kinds.Md5 else kinds.Sha256
 
+-- the text that a value is
 abbrev pub text_in : Value → List ℕ
 text_in (Text t) = t
 text_in _ = []
 
+-- the bytes that a value is
 abbrev pub bytes_in : Value → List ℕ
 bytes_in (Blob b) = b
 bytes_in _ = []
 
+-- the identifiers that a text joins; none if it is empty
 abbrev pub words_of : List ℕ → List (List ℕ)
 words_of [] = []
 words_of (byte ∷ bytes) = slice_split (λ b. b == 32) (byte ∷ bytes)
 
 -- ---- rows, each after its own number
 
+-- a profile as a row
 abbrev pub profile_row : ℕ × ProfileRow → Row
 profile_row p =
     number p.0 ∷ Null ∷ number p.1.scan_limit ∷ flag p.1.match_all ∷ number p.1.nodes
     ∷ number (hash_kind_number p.1.hash) ∷ []
 
+-- a node as a row
 abbrev pub node_row : ℕ × Node → Row
 node_row n =
     number n.0
@@ -91,6 +105,7 @@ node_row n =
     ∷ Blob n.1.hash
     ∷ []
 
+-- a reply as a row
 abbrev pub reply_row : ℕ × Entry → Row
 reply_row e =
     number e.0 ∷ Null ∷ number e.1.client ∷ number e.1.number ∷ number e.1.version ∷ number e.1.kind ∷ Blob e.1.mark
@@ -98,6 +113,7 @@ reply_row e =
 
 -- ---- and back
 
+-- the profile in a row
 abbrev pub profile_in : Row → ProfileRow
 profile_in r = record {
   scan_limit = number_in (column r 2);
@@ -106,6 +122,7 @@ profile_in r = record {
   hash = hash_kind_in (column r 5);
 }
 
+-- the node in a row
 abbrev pub node_in : Row → Node
 node_in r = record {
   profile = number_in (column r 1);
@@ -123,6 +140,7 @@ node_in r = record {
   hash = bytes_in (column r 13);
 }
 
+-- the reply in a row
 abbrev pub entry_in : Row → Entry
 entry_in r = record {
   client = number_in (column r 2);
@@ -133,6 +151,7 @@ entry_in r = record {
   body = bytes_in (column r 7);
 }
 
+-- all rows of the three tables
 abbrev pub rows_in : Database → Rows
 rows_in db = record {
   profiles = map profile_in (db.trees 0);

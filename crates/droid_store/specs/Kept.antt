@@ -50,6 +50,7 @@ pub record HasKeys (rows : Rows) : Type 0 where
   pub children : (profile parent : ℕ) (name : List ℕ) → length (filter (is_child profile parent name) rows.nodes) ≤ 1
   pub numbers : AreInOrder rows.nodes
 
+-- the rows that the tables of a connection hold
 abbrev pub kept : Held TreeStore → Rows
 kept c = rows_in (state over_trees c).now
 

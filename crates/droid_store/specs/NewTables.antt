@@ -9,6 +9,7 @@ use Rattle.sqlite.specs.declared.types.Value.TheVariants.{Text}
 use Rattle.sqlite.specs.Schema.{Schema}
 use Rattle.sqlite.specs.Table.{Table}
 
+-- no rule refuses the table in a database of this schema
 pub record IsNewTable (schema : Schema) (text : List ℕ) (made : Table) : Type 0 where
   pub utf8 : IsUtf8 text
   pub name_utf8 : IsUtf8 made.name

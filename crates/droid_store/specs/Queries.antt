@@ -22,10 +22,11 @@ select tree tests columns order = record {
   offset = lit (Int (pos 0));
 }
 
--- a = b and a <> b, byte for byte where they are texts
+-- a = b, byte for byte where they are texts
 abbrev pub equals : Term → Term → Term
 equals a b = op2 (Compare Eq Binary) a b
 
+-- a <> b, byte for byte where they are texts
 abbrev pub differs : Term → Term → Term
 differs a b = op2 (Compare Ne Binary) a b
 

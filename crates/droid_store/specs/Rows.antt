@@ -39,6 +39,7 @@ pub record Rows : Type 0 where
   pub nodes : List Node
   pub replies : List Entry
 
+-- no row at all
 abbrev pub no_rows : Rows
 no_rows = record { profiles = []; nodes = []; replies = [] }
 
@@ -49,6 +50,7 @@ abbrev pub profile_at : ℕ → Rows → Option ProfileRow
 profile_at zero rows = None
 profile_at (suc place) rows = slice_get rows.profiles place
 
+-- the node has this number in this profile
 abbrev pub is_node : ℕ → ℕ → Node → Bool
 is_node profile id n = (n.profile == profile) && (n.id == id)
 
@@ -60,9 +62,11 @@ node_at profile id rows = find (is_node profile id) rows.nodes
 abbrev pub is_child : ℕ → ℕ → List ℕ → Node → Bool
 is_child profile parent name n = (n.profile == profile) && ((n.parent == parent) && bytes_eq n.name name)
 
+-- the node with this name in this folder
 abbrev pub child_at : ℕ → ℕ → List ℕ → Rows → Option Node
 child_at profile parent name rows = find (is_child profile parent name) rows.nodes
 
+-- the reply is kept under this client and number
 abbrev pub is_for : ℕ → ℕ → Entry → Bool
 is_for client number e = (e.client == client) && (e.number == number)
 
@@ -72,6 +76,7 @@ reply_for client number rows = find (is_for client number) rows.replies
 
 -- ---- what queries return
 
+-- whether a node is a folder or a file, by its state
 abbrev pub kind_of : NodeState → NodeKind
 kind_of Folder = kind.Folder
 kind_of Unfinished = kind.File
@@ -82,6 +87,7 @@ abbrev pub hash_of : List ℕ → HashValue
 hash_of bytes =
     if length bytes == 0 then hashes.Nothing else if length bytes == 16 then hashes.Md5 bytes else hashes.Sha256 bytes
 
+-- what the export shows of a node
 abbrev pub record_of : Node → Record
 record_of n = record {
   id = n.id;
@@ -97,9 +103,11 @@ record_of n = record {
   puids = n.puids;
 }
 
+-- what the look-up of a node returns
 abbrev pub row_of : Node → NodeRow
 row_of n = record { state = n.state; piece_size = n.piece_size; item = record_of n }
 
+-- the node is an unfinished file
 abbrev pub is_unfinished : NodeState → Bool
 is_unfinished Folder = false
 is_unfinished Unfinished = true
@@ -113,6 +121,7 @@ is_listed profile n = (n.profile == profile) && not (is_unfinished n.state)
 abbrev pub records_of : ℕ → Rows → List Record
 records_of profile rows = map record_of (filter (is_listed profile) rows.nodes)
 
+-- how many rows there are
 abbrev pub counts_of : Rows → Counts
 counts_of rows = record {
   profiles = length rows.profiles;

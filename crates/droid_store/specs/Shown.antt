@@ -9,9 +9,11 @@ use Rattle.droid_frame.specs.Fields.{method_number}
 use Rattle.droid_store.specs.Encoded.{number, flag, state_number, joined}
 use Rattle.droid_store.specs.Rows.{Node}
 
+-- the columns of a profile
 abbrev pub shown_profile : ProfileRow → Row
 shown_profile p = number p.scan_limit ∷ flag p.match_all ∷ number p.nodes ∷ number (hash_kind_number p.hash) ∷ []
 
+-- the columns of a node
 abbrev pub shown_node : Node → Row
 shown_node n =
     number n.id
@@ -28,8 +30,10 @@ shown_node n =
     ∷ Blob n.hash
     ∷ []
 
+-- the number of a node alone
 abbrev pub shown_id : Node → Row
 shown_id n = number n.id ∷ []
 
+-- the columns of a reply
 abbrev pub shown_reply : Entry → Row
 shown_reply e = number e.version ∷ number e.kind ∷ Blob e.mark ∷ Blob e.body ∷ []

@@ -5,9 +5,11 @@ use Rattle.droid_store.specs.declared.rows.Entry.{Entry}
 use Rattle.droid_store.specs.Encoded.{joined}
 use Rattle.droid_store.specs.Rows.{Node}
 
+-- the size of a reply's row
 abbrev pub entry_size : Entry → ℕ
 entry_size e = 18 * 8 + length e.mark + length e.body
 
+-- the size of a node's row
 abbrev pub node_size : Node → ℕ
 node_size n = 18 * 14 + length n.name + length n.path + length (joined n.puids) + length n.hash
 

@@ -15,10 +15,12 @@ abbrev pub key_column : List ℕ → Column
 key_column name =
     record { name = name; kind = Integer; is_strict = true; not_null = false; default = Null; collation = Binary }
 
+-- a column that is not NULL
 abbrev pub column_named : List ℕ → Kind → Column
 column_named name kind =
     record { name = name; kind = kind; is_strict = true; not_null = true; default = Null; collation = Binary }
 
+-- the table of profiles
 abbrev pub profiles : Table
 profiles = record {
   name = codes "profiles";
@@ -41,6 +43,7 @@ profiles = record {
   is_counted = false;
 }
 
+-- the table of folders and files
 abbrev pub nodes : Table
 nodes = record {
   name = codes "nodes";
@@ -71,6 +74,7 @@ nodes = record {
   is_counted = false;
 }
 
+-- the table of accepted commands and their replies
 abbrev pub replies : Table
 replies = record {
   name = codes "replies";
@@ -95,12 +99,15 @@ replies = record {
   is_counted = false;
 }
 
+-- no table
 abbrev pub no_schema : Schema
 no_schema = record { tables = []; indexes = []; views = [] }
 
+-- the table of profiles
 abbrev pub first_schema : Schema
 first_schema = created no_schema profiles
 
+-- that of folders and files too
 abbrev pub second_schema : Schema
 second_schema = created first_schema nodes
 

@@ -64,10 +64,12 @@ pub(crate) fn has_its_length(hash: HashValue)
     }
 }
 
+/// States that a digest of 16 bytes has the length of an MD5. Does nothing.
 fn is_md5(digest: [u8; 16])
     ensures { IsHashValue (hashes.Md5 digest) }
 {}
 
+/// States that a digest of 32 bytes has the length of a SHA-256. Does nothing.
 fn is_sha256(digest: [u8; 32])
     ensures { IsHashValue (hashes.Sha256 digest) }
 {}

@@ -3,6 +3,11 @@
 //!
 //! For callers and contracts a [`Store`] is its rows: profiles, nodes and replies in order of acceptance. That SQL
 //! tables hold them is internal to this crate.
+//!
+//! Contracts inside of this crate speak of a connection in the words of the kit's `sqlite`: `state over_trees conn` is
+//! what its database has now, what it has committed, and whether a transaction is open; `conn.step_limit` is how many
+//! steps a statement may take, `None` for no limit; `tx.conn.ghost_name` tells which connection a transaction writes
+//! to.
 #![tactic(auto)]
 
 mod change;

@@ -1,4 +1,5 @@
-//! Look-ups of one row by its key. They change nothing, even if they fail.
+//! Look-ups of one row by its key. They change nothing, even if they fail. `lib.rt` explains the words of the kit's
+//! `sqlite` in the contracts.
 
 ghost use Rattle.std.specs.Prelude.{◌≡◌, ◌≢◌, ◌<◌, ◌^◌, None, IfOk, IfErr, MatchOption, Ok, Err, option_map};
 ghost use Rattle.sqlite.specs.Held.{state};
@@ -15,7 +16,7 @@ use crate::statements::{FIND_CHILD, FIND_NODE, FIND_PROFILE, FIND_REPLY};
 use droid_store_trees::TreeStore;
 use sqlite::{Connection, Error, Row, params};
 
-/// Returns the row, or `None` if there is none.
+/// Turns the error for "no row" into `None`. Other errors stay.
 fn or_none(answer: Result<Row, Error>) -> Result<Option<Row>, Error>
     ensures found { IfOk result (λ found.
         MatchOption found (answer ≡ Err QueryReturnedNoRows) (λ row. answer ≡ Ok row)) }

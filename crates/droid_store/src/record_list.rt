@@ -1,4 +1,5 @@
-//! The list of the records of a profile. It changes nothing, even if it fails.
+//! Lists the records of a profile. It changes nothing, even if it fails. `lib.rt` explains the words of the kit's
+//! `sqlite` in the contract.
 
 ghost use Rattle.std.specs.Prelude.{◌≡◌, None, IfOk, IfErr};
 ghost use Rattle.sqlite.specs.Held.{state};
@@ -38,6 +39,7 @@ pub(crate) fn list_records(
 {
     let mut records = Vec::new(alloc);
     let mut rows = conn.query(LIST_RECORDS, params![profile])?;
+    // The prover asks for a bound. No database has as many rows.
     'rows: for _ in 0..u64::MAX {
         let Some(row) = rows.next()? else {
             return Ok(records);
@@ -48,6 +50,5 @@ pub(crate) fn list_records(
             Err(_) => return Err(StoreFault::Memory),
         }
     }
-    // No database has that many rows.
     Err(StoreFault::Memory)
 }

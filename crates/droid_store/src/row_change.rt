@@ -1,4 +1,5 @@
-//! The single statements of a transaction.
+//! The single statements of a transaction, and the numbers that they take. `lib.rt` explains the words of the kit's
+//! `sqlite` in the contracts.
 
 ghost use Rattle.std.specs.Prelude.{◌≡◌, ◌+◌, ◌<◌, ◌^◌, ◌++◌, ◌∷◌, [], List, ℕ, Some, length, pos};
 ghost use Rattle.sqlite.specs.Held.{state};

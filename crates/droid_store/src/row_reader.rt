@@ -1,4 +1,5 @@
-//! Converts rows of the database to profiles, nodes, records and replies.
+//! Converts rows of the database to profiles, nodes, records and replies. `column row at`, of the kit's `sqlite`, is
+//! the value in that column.
 
 ghost use Rattle.std.specs.Prelude.{◌≡◌, ◌<◌, ◌^◌, List, ℕ, IfOk, IfErr, IsTrue, Some, length, pos};
 ghost use Rattle.std.specs.List.{AllByRecursion};

@@ -36,7 +36,7 @@ pub struct ProfileRow {
 }
 
 /// The state of a node.
-#[derive(Clone, Copy, Debug, PartialEq, Eq)]
+#[derive(Clone, Copy, PartialEq, Eq)]
 pub enum NodeState {
     /// A folder.
     Folder,

@@ -1,4 +1,4 @@
-//! Creates the three tables.
+//! Creates the three tables. `lib.rt` explains the words of the kit's `sqlite` in the contracts.
 
 ghost use Rattle.std.specs.Prelude.{◌≡◌, None, OnOk, IfOk, IfErr, [], ◌∷◌};
 ghost use Rattle.sqlite.specs.Held.{state};

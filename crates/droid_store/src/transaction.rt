@@ -1,4 +1,5 @@
-//! A transaction: it writes a change and the reply to its command, both or neither.
+//! A transaction: it writes a change and the reply to its command, both or neither. `lib.rt` explains the words of the
+//! kit's `sqlite` in the contracts.
 
 ghost use Rattle.std.specs.Prelude.{◌≡◌, ◌<◌, ◌^◌, None, OnOk, OnErr, IfErr};
 ghost use Rattle.sqlite.specs.Held.{state};
@@ -17,7 +18,7 @@ use crate::rows::Entry;
 use droid_store_trees::TreeStore;
 use sqlite::{Connection, Error, Transaction};
 
-/// Writes the change and the reply.
+/// Writes the change and the reply, both or neither: a transaction that is dropped before its commit is rolled back.
 pub(crate) fn write(
     conn: &mut Connection<TreeStore>,
     entry: &Entry,

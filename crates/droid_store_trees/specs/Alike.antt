@@ -6,6 +6,7 @@ use Rattle.droid_store_trees.specs.declared.tree.Tree.{Tree}
 use Rattle.droid_store_trees.specs.declared.forest.Forest.{Forest}
 use Rattle.droid_store_trees.specs.Shown.{heading, rows_of, shape_of, shown}
 
+-- both sets of trees show the same rows and descriptions
 pub record AreAlike (old new : Forest) : Type 0 where
   pub rows : rows_of new ≡ rows_of old
   pub shapes : shape_of new ≡ shape_of old

@@ -8,6 +8,7 @@ use Rattle.sqlite_trees.specs.View.{is_int}
 use Rattle.droid_store_trees.specs.declared.edit.Edit.{Edit}
 use Rattle.droid_store_trees.specs.declared.edit.Edit.TheVariants.{Put, Delete, Insert, Remove}
 
+-- the rows of a tree after the write
 abbrev pub edited : Edit → List Row → List Row
 edited (Put row) = put_row row.now
 edited (Delete id) = without_rowid id

@@ -3,6 +3,7 @@ use Rattle.std.specs.Prelude.{◌≡◌, ◌+◌, List, [], ◌∷◌, ◌++◌,
 use Rattle.sqlite_value.specs.Order.{Row}
 use Rattle.droid_store_trees.specs.declared.node.Node.{Node, Empty, Fork'}
 
+-- the rows of a tree, from left to right
 abbrev pub rows : Node → List Row
 rows Empty = []
 rows (Fork' p left row right len) = rows left ++ row.value ∷ rows right

@@ -4,6 +4,7 @@ use Rattle.sqlite_trees.specs.declared.store.Store.{Ghosts}
 use Rattle.droid_store_trees.specs.declared.storage.TreeStore.{TreeStore}
 use Rattle.droid_store_trees.specs.Shown.{view}
 
+-- this store, in the form in which contracts of the kit's `sqlite` name the storage of a connection
 abbrev pub over_trees : Ghosts TreeStore
 over_trees = record {
   view = view;

@@ -8,6 +8,7 @@ use Rattle.sqlite_trees.specs.Tree.{rowid}
 use Rattle.droid_store_trees.specs.declared.probe.Probe.{Probe}
 use Rattle.droid_store_trees.specs.declared.probe.Probe.TheVariants.{BelowKey, UpToKey, BelowRowid, BelowEntry}
 
+-- whether a row passes the test
 abbrev pub passes : Probe → Row → Bool
 passes (BelowKey order key) row = is_lt (prefix_cmp order row key.now)
 passes (UpToKey order key) row = not (is_gt (prefix_cmp order row key.now))

@@ -18,12 +18,15 @@ use Rattle.droid_store_trees.specs.declared.storage.TreeStore.{TreeStore}
 abbrev pub heading : Tree → Heading
 heading t = (t.shape, t.reals, t.described.value)
 
+-- the heading of each tree
 abbrev pub headings : Forest → List Heading
 headings f = map heading f.trees.items
 
+-- the rows of each tree; a missing one has none
 abbrev pub rows_of : Forest → Trees
 rows_of f t = slice_index_or (map (λ x. x.rows) f.trees.items) t []
 
+-- whether each tree is a table, an index or absent
 abbrev pub shape_of : Forest → ℕ → Shape
 shape_of f = shape_in (headings f)
 
@@ -31,6 +34,7 @@ shape_of f = shape_in (headings f)
 abbrev pub shown : Forest → Snapshot
 shown f = snapshot_of (headings f) (rows_of f) f.version
 
+-- the rows from a position on, or backward those before it
 abbrev pub left_from : Direction → ℕ → List Row → List Row
 left_from Forward at rows = drop at rows
 left_from Backward at rows = reverse (take at rows)
@@ -44,10 +48,12 @@ abbrev pub Steps : Forest → Cursor → Row → Option Cursor → Type 0
 Steps f cursor row None = left_of f cursor ≡ []
 Steps f cursor row (Some moved) = left_of f cursor ≡ row ∷ left_of f moved
 
+-- under this number there is this cursor, and under the others what was there before
 abbrev pub SetsCursor : List (Option Cursor) → List (Option Cursor) → ℕ → Cursor → Type 0
 SetsCursor old new at cursor =
     (c : ℕ) → slice_index_or new c None ≡ (if c == at then Some cursor else slice_index_or old c None)
 
+-- the trees that were written, or else those before
 abbrev pub changed_or : Option Forest → Forest → Forest
 changed_or None base = base
 changed_or (Some forest) base = forest
@@ -56,6 +62,7 @@ changed_or (Some forest) base = forest
 abbrev pub current : TreeStore → Forest
 current s = changed_or s.changed s.base
 
+-- all that the kit's contracts ask about a store; one in memory is always open, and never broken
 abbrev pub view : TreeStore → View
 view s = record {
   trees = (shown (current s)).trees;

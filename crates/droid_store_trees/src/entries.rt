@@ -1,4 +1,7 @@
 //! A list of rows, which is what callers of this crate use.
+//!
+//! Of the kit's `sqlite_trees`: `IsCutBy test rows` says that all rows that pass the test stand before all that fail
+//! it, `IsPlaceOf test rows n` that the first n rows pass and no others.
 
 ghost use Rattle.std.specs.Prelude.{◌≡◌, ◌≤◌, ◌<◌, length, slice_index_or, slice_set, [], IfOk, IfSome, IfNone, OnOk};
 ghost use Rattle.std.specs.Prelude.{OnErr};
@@ -84,7 +87,7 @@ impl Entries {
         ensures ok { OnOk result (self.new ≡ slice_set self.old at row) }
         ensures err { OnErr result (self.new ≡ self.old) }
     {
-        self.root = self.root.set(alloc, at, Rc::new(alloc, row)?)?;
+        self.root = self.root.set(alloc, at, &Rc::new(alloc, row)?)?;
         Ok(())
     }
 
@@ -94,7 +97,7 @@ impl Entries {
         ensures ok { OnOk result (self.new ≡ insert self.old at row) }
         ensures err { OnErr result (self.new ≡ self.old) }
     {
-        self.root = self.root.insert(alloc, at, Rc::new(alloc, row)?)?;
+        self.root = self.root.insert(alloc, at, &Rc::new(alloc, row)?)?;
         Ok(())
     }
 

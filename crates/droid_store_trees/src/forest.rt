@@ -1,4 +1,7 @@
 //! All trees of the database by number, with its user version.
+//!
+//! Of the kit's `sqlite_trees`: `sought order direction key rows` are the rows that a cursor has to read after a
+//! search, `with_tree trees t rows` the trees with these rows in tree t.
 
 ghost use Rattle.std.specs.Prelude.{◌≡◌, ◌<◌, [], length, IfOk, OnOk, OnErr};
 ghost use Rattle.sqlite_trees.specs.Tree.{order_of, sought, with_tree};
@@ -12,6 +15,7 @@ use sqlite_trees::store::{Direction, Shape};
 use sqlite_value::row::Row;
 use std::alloc::{AllocError, Global};
 
+/// The trees of a database, and SQLite's user version.
 #[derive(Drop)]
 pub(crate) struct Forest {
     pub trees: Vec<Tree>,
@@ -80,7 +84,7 @@ impl Forest {
         }
     }
 
-    // Reads the next row. Returns the moved cursor, or `None` at the end.
+    /// Reads the next row into `row`. Returns the moved cursor, or `None` at the end.
     pub(crate) fn step(&self, cursor: Cursor, row: &mut Row) -> Result<Option<Cursor>, AllocError>
         ensures { IfOk result (Steps self.now cursor row.new) }
     {
@@ -133,7 +137,7 @@ impl Forest {
         self.trees[tree as usize].apply(alloc, edit)
     }
 
-    // Adds absent trees until there is one with this number.
+    /// Adds absent trees until there is one with this number.
     fn make_room(&mut self, alloc: Global, tree: u32) -> Result<(), AllocError>
         ensures room { OnOk result (tree < length self.new.trees.items) }
         ensures same { AreAlike self.old self.new }
@@ -144,7 +148,8 @@ impl Forest {
         Ok(())
     }
 
-    /// Puts a tree in the place of the one that has this number.
+    /// Puts a tree in the place of the one that has this number. If memory runs out, the same trees are shown as
+    /// before.
     pub(crate) fn replace(&mut self, alloc: Global, tree: u32, new: Tree) -> Result<(), AllocError>
         ensures ok { OnOk result (Replaces self.old self.new tree new) }
         ensures err { OnErr result (AreAlike self.old self.new) }
@@ -154,7 +159,7 @@ impl Forest {
         Ok(())
     }
 
-    /// Describes one tree anew, as this object. All rows stay.
+    /// Describes one tree anew, as this object (a table or an index). All rows stay.
     pub(crate) fn relist(
         &mut self,
         alloc: Global,

@@ -1,5 +1,7 @@
 //! A balanced tree of rows. An edit makes new nodes on the way from the root to its position and shares all others, so
 //! the old tree stays as it was.
+//!
+//! Balance is for speed alone: no clause asks for it. The clauses name the rows from left to right, and the counts.
 
 ghost use Rattle.std.specs.Prelude.{◌≡◌, ◌≤◌, ◌<◌, ◌∷◌, ◌++◌, length, slice_index_or, slice_set, [], IfOk, IfSome};
 ghost use Rattle.std.specs.Prelude.{IfNone};
@@ -13,6 +15,7 @@ use crate::probe::Probe;
 use std::alloc::{AllocError, Global};
 use std::rc::Rc;
 
+/// A tree: empty, or a row between two trees.
 #[cycle(tree)]
 #[derive(Drop)]
 pub(crate) enum Node {
@@ -20,6 +23,7 @@ pub(crate) enum Node {
     Fork(Rc<Fork>),
 }
 
+/// A row between two trees, and how many rows that are.
 #[cycle(tree)]
 #[derive(Drop)]
 pub(crate) struct Fork {
@@ -53,47 +57,47 @@ impl Node {
         }
     }
 
-    /// Makes a node of two trees and the row between them, and counts its rows.
+    /// Makes a node that shares two trees and the row between them, and counts its rows.
     fn joined(
         alloc: Global,
-        left: Node,
-        row: Rc<PackedRow>,
-        right: Node,
+        left: &Node,
+        row: &Rc<PackedRow>,
+        right: &Node,
     ) -> Result<Node, AllocError>
-        requires left { IsCounted left }
-        requires right { IsCounted right }
+        requires left { IsCounted left.now }
+        requires right { IsCounted right.now }
         ensures counted { IfOk result IsCounted }
-        ensures rows { IfOk result (λ node. rows node ≡ rows left ++ row.value ∷ rows right) }
+        ensures rows { IfOk result (λ node. rows node ≡ rows left.now ++ row.now.value ∷ rows right.now) }
     {
         let before = left.len().checked_add(1).ok_or(AllocError)?;
         let len = before.checked_add(right.len()).ok_or(AllocError)?;
         let fork = Fork {
-            left,
-            row,
-            right,
+            left: left.copy()?,
+            row: row.clone()?,
+            right: right.copy()?,
             len,
         };
         Ok(Node::Fork(Rc::new(alloc, fork)?))
     }
 
-    // Joins both sides, and rotates if one of them has more than three times the weight of the other. A weight is the
-    // number of rows and 1.
+    /// Joins both sides, and rotates if one of them has more than three times the weight of the other. A weight is the
+    /// number of rows and 1.
     fn balanced(
         alloc: Global,
-        left: Node,
-        row: Rc<PackedRow>,
-        right: Node,
+        left: &Node,
+        row: &Rc<PackedRow>,
+        right: &Node,
     ) -> Result<Node, AllocError>
-        requires left { IsCounted left }
-        requires right { IsCounted right }
+        requires left { IsCounted left.now }
+        requires right { IsCounted right.now }
         ensures counted { IfOk result IsCounted }
-        ensures rows { IfOk result (λ node. rows node ≡ rows left ++ row.value ∷ rows right) }
+        ensures rows { IfOk result (λ node. rows node ≡ rows left.now ++ row.now.value ∷ rows right.now) }
     {
         if right.len() / 3 > left.len() {
-            return Node::turned_left(alloc, left, row, &right);
+            return Node::turned_left(alloc, left, row, right);
         }
         if left.len() / 3 > right.len() {
-            return Node::turned_right(alloc, &left, row, right);
+            return Node::turned_right(alloc, left, row, right);
         }
         Node::joined(alloc, left, row, right)
     }
@@ -101,17 +105,17 @@ impl Node {
     /// Makes a node whose right tree gives its first part to the left: one of the two turns that keep trees balanced.
     fn turned_left(
         alloc: Global,
-        left: Node,
-        row: Rc<PackedRow>,
+        left: &Node,
+        row: &Rc<PackedRow>,
         right: &Node,
     ) -> Result<Node, AllocError>
-        requires left { IsCounted left }
+        requires left { IsCounted left.now }
         requires right { IsCounted right.now }
         ensures counted { IfOk result IsCounted }
-        ensures rows { IfOk result (λ node. rows node ≡ rows left ++ row.value ∷ rows right.now) }
+        ensures rows { IfOk result (λ node. rows node ≡ rows left.now ++ row.now.value ∷ rows right.now) }
     {
         match right {
-            Node::Empty => Node::joined(alloc, left, row, Node::Empty),
+            Node::Empty => Node::joined(alloc, left, row, right),
             Node::Fork(fork) => fork.after(alloc, left, row),
         }
     }
@@ -120,16 +124,16 @@ impl Node {
     fn turned_right(
         alloc: Global,
         left: &Node,
-        row: Rc<PackedRow>,
-        right: Node,
+        row: &Rc<PackedRow>,
+        right: &Node,
     ) -> Result<Node, AllocError>
         requires left { IsCounted left.now }
-        requires right { IsCounted right }
+        requires right { IsCounted right.now }
         ensures counted { IfOk result IsCounted }
-        ensures rows { IfOk result (λ node. rows node ≡ rows left.now ++ row.value ∷ rows right) }
+        ensures rows { IfOk result (λ node. rows node ≡ rows left.now ++ row.now.value ∷ rows right.now) }
     {
         match left {
-            Node::Empty => Node::joined(alloc, Node::Empty, row, right),
+            Node::Empty => Node::joined(alloc, left, row, right),
             Node::Fork(fork) => fork.before(alloc, row, right),
         }
     }
@@ -175,17 +179,17 @@ impl Node {
         }
     }
 
-    /// Returns a tree with another row at this place.
+    /// Returns a tree with another row at this place. Past the end it changes nothing.
     #[tactic(auto, using(crate::proofs::Edits::set_left, crate::proofs::Edits::set_here, crate::proofs::Edits::set_right))]
     pub(crate) fn set(
         &self,
         alloc: Global,
         at: usize,
-        row: Rc<PackedRow>,
+        row: &Rc<PackedRow>,
     ) -> Result<Node, AllocError>
         requires { IsCounted self.now }
         ensures counted { IfOk result IsCounted }
-        ensures rows { IfOk result (λ node. rows node ≡ slice_set (rows self.now) at row.value) }
+        ensures rows { IfOk result (λ node. rows node ≡ slice_set (rows self.now) at row.now.value) }
     {
         match self {
             Node::Empty => Ok(Node::Empty),
@@ -193,13 +197,13 @@ impl Node {
                 let before = fork.left.len();
                 if at < before {
                     let left = fork.left.set(alloc, at, row)?;
-                    return Node::joined(alloc, left, fork.row.clone()?, fork.right.copy()?);
+                    return Node::joined(alloc, &left, &fork.row, &fork.right);
                 }
                 if before < at {
                     let right = fork.right.set(alloc, at - before - 1, row)?;
-                    return Node::joined(alloc, fork.left.copy()?, fork.row.clone()?, right);
+                    return Node::joined(alloc, &fork.left, &fork.row, &right);
                 }
-                Node::joined(alloc, fork.left.copy()?, row, fork.right.copy()?)
+                Node::joined(alloc, &fork.left, row, &fork.right)
             }
         }
     }
@@ -210,23 +214,23 @@ impl Node {
         &self,
         alloc: Global,
         at: usize,
-        row: Rc<PackedRow>,
+        row: &Rc<PackedRow>,
     ) -> Result<Node, AllocError>
         requires counted { IsCounted self.now }
         requires within { at ≤ length (rows self.now) }
         ensures counted { IfOk result IsCounted }
-        ensures rows { IfOk result (λ node. rows node ≡ insert (rows self.now) at row.value) }
+        ensures rows { IfOk result (λ node. rows node ≡ insert (rows self.now) at row.now.value) }
     {
         match self {
-            Node::Empty => Node::joined(alloc, Node::Empty, row, Node::Empty),
+            Node::Empty => Node::joined(alloc, self, row, self),
             Node::Fork(fork) => {
                 let before = fork.left.len();
                 if at <= before {
                     let left = fork.left.insert(alloc, at, row)?;
-                    return Node::balanced(alloc, left, fork.row.clone()?, fork.right.copy()?);
+                    return Node::balanced(alloc, &left, &fork.row, &fork.right);
                 }
                 let right = fork.right.insert(alloc, at - before - 1, row)?;
-                Node::balanced(alloc, fork.left.copy()?, fork.row.clone()?, right)
+                Node::balanced(alloc, &fork.left, &fork.row, &right)
             }
         }
     }
@@ -245,17 +249,17 @@ impl Node {
                 let before = fork.left.len();
                 if at < before {
                     let left = fork.left.remove(alloc, at)?;
-                    return Node::balanced(alloc, left, fork.row.clone()?, fork.right.copy()?);
+                    return Node::balanced(alloc, &left, &fork.row, &fork.right);
                 }
                 if before < at {
                     let right = fork.right.remove(alloc, at - before - 1)?;
-                    return Node::balanced(alloc, fork.left.copy()?, fork.row.clone()?, right);
+                    return Node::balanced(alloc, &fork.left, &fork.row, &right);
                 }
                 match fork.right.get(0) {
                     None => fork.left.copy(),
                     Some(next) => {
                         let right = fork.right.remove(alloc, 0)?;
-                        Node::balanced(alloc, fork.left.copy()?, next.clone()?, right)
+                        Node::balanced(alloc, &fork.left, next, &right)
                     }
                 }
             }
@@ -264,53 +268,43 @@ impl Node {
 }
 
 impl Fork {
-    // Joins a smaller tree and a row in front of this tree: a rotation to the left, a double one if the left side is
-    // large.
-    fn after(&self, alloc: Global, left: Node, row: Rc<PackedRow>) -> Result<Node, AllocError>
-        requires left { IsCounted left }
+    /// Joins a smaller tree and a row in front of this tree: a rotation to the left, a double one if the left side is
+    /// large.
+    fn after(&self, alloc: Global, left: &Node, row: &Rc<PackedRow>) -> Result<Node, AllocError>
+        requires left { IsCounted left.now }
         requires parts { IsCounted self.now.left × IsCounted self.now.right }
         ensures counted { IfOk result IsCounted }
-        ensures rows { IfOk result (λ node.
-            rows node ≡ rows left ++ row.value ∷ (rows self.now.left ++ self.now.row.value ∷ rows self.now.right)) }
+        ensures rows { IfOk result (λ node. rows node
+            ≡ rows left.now ++ row.now.value ∷ (rows self.now.left ++ self.now.row.value ∷ rows self.now.right)) }
     {
         if self.left.len() / 2 > self.right.len() {
             if let Node::Fork(middle) = &self.left {
-                let first = Node::joined(alloc, left, row, middle.left.copy()?)?;
-                let last = Node::joined(
-                    alloc,
-                    middle.right.copy()?,
-                    self.row.clone()?,
-                    self.right.copy()?,
-                )?;
-                return Node::joined(alloc, first, middle.row.clone()?, last);
+                let first = Node::joined(alloc, left, row, &middle.left)?;
+                let last = Node::joined(alloc, &middle.right, &self.row, &self.right)?;
+                return Node::joined(alloc, &first, &middle.row, &last);
             }
         }
-        let first = Node::joined(alloc, left, row, self.left.copy()?)?;
-        Node::joined(alloc, first, self.row.clone()?, self.right.copy()?)
+        let first = Node::joined(alloc, left, row, &self.left)?;
+        Node::joined(alloc, &first, &self.row, &self.right)
     }
 
-    // Joins a row and a smaller tree behind this tree: a rotation to the right, a double one if the right side is
-    // large.
-    fn before(&self, alloc: Global, row: Rc<PackedRow>, right: Node) -> Result<Node, AllocError>
-        requires right { IsCounted right }
+    /// Joins a row and a smaller tree behind this tree: a rotation to the right, a double one if the right side is
+    /// large.
+    fn before(&self, alloc: Global, row: &Rc<PackedRow>, right: &Node) -> Result<Node, AllocError>
+        requires right { IsCounted right.now }
         requires parts { IsCounted self.now.left × IsCounted self.now.right }
         ensures counted { IfOk result IsCounted }
-        ensures rows { IfOk result (λ node.
-            rows node ≡ (rows self.now.left ++ self.now.row.value ∷ rows self.now.right) ++ row.value ∷ rows right) }
+        ensures rows { IfOk result (λ node. rows node
+            ≡ (rows self.now.left ++ self.now.row.value ∷ rows self.now.right) ++ row.now.value ∷ rows right.now) }
     {
         if self.right.len() / 2 > self.left.len() {
             if let Node::Fork(middle) = &self.right {
-                let first = Node::joined(
-                    alloc,
-                    self.left.copy()?,
-                    self.row.clone()?,
-                    middle.left.copy()?,
-                )?;
-                let last = Node::joined(alloc, middle.right.copy()?, row, right)?;
-                return Node::joined(alloc, first, middle.row.clone()?, last);
+                let first = Node::joined(alloc, &self.left, &self.row, &middle.left)?;
+                let last = Node::joined(alloc, &middle.right, row, right)?;
+                return Node::joined(alloc, &first, &middle.row, &last);
             }
         }
-        let last = Node::joined(alloc, self.right.copy()?, row, right)?;
-        Node::joined(alloc, self.left.copy()?, self.row.clone()?, last)
+        let last = Node::joined(alloc, &self.right, row, right)?;
+        Node::joined(alloc, &self.left, &self.row, &last)
     }
 }

@@ -1,4 +1,7 @@
 //! A row in one buffer, in the record format of SQLite (https://www.sqlite.org/fileformat2.html, section 2.1).
+//!
+//! Of the kit's definitions: `decode` is the row that such a record has, `owned` a value that was lent, `rowid` a row's
+//! first column, `entry_cmp` the order of rows, and `prefix_cmp` their order over a key's columns alone.
 
 ghost use Rattle.std.specs.Prelude.{◌≡◌, [], IfOk, OnOk, OnErr};
 ghost use Rattle.sqlite_value.specs.Value.{owned};

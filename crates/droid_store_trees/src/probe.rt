@@ -23,7 +23,7 @@ pub enum Probe<'a> {
 }
 
 impl Probe<'_> {
-    /// Whether the row passes the test.
+    /// Returns whether the row passes the test.
     pub(crate) fn passes(self, row: &PackedRow) -> bool
         ensures { result ≡ passes self.entry row.now }
     {

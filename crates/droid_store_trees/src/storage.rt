@@ -1,4 +1,8 @@
 //! The storage of a database in memory, as `sqlite_trees` asks for it.
+//!
+//! Of that crate's definitions: the user version of a database is the one row of the tree `version_tree`, and
+//! `version_rows n` is that tree's list of rows for version n. `SetsTree old new t edit`: this edit was made to tree t,
+//! and nothing else changed but perhaps the cursors.
 
 ghost use Rattle.std.specs.Prelude.{◌≡◌, ◌≢◌, ℕ, [], IfOk, IfErr, OnOk, OnErr};
 ghost use Rattle.sqlite_trees.specs.declared.error.StoreError.TheVariants.{OutOfMemory};
@@ -61,7 +65,8 @@ impl TreeStore {
         }
     }
 
-    // Takes the trees that the transaction writes to: those it has written already, or a copy.
+    /// Takes the trees that the transaction writes to out of the store: those it has written already, or a copy.
+    /// Callers put them back as `changed`.
     fn take_changed(&mut self) -> Result<Forest, AllocError>
         ensures ok { IfOk result (AreAlike (current self.old)) }
         ensures err { OnErr result (self.new ≡ self.old) }
@@ -74,7 +79,7 @@ impl TreeStore {
         }
     }
 
-    /// Puts a cursor under this number.
+    /// Puts a cursor under this number, and keeps the others.
     fn set_cursor(
         cursors: &mut Vec<Option<Cursor>>,
         at: usize,

@@ -1,4 +1,10 @@
 //! One table or index: its description, and its rows in order.
+//!
+//! Of the kit's `sqlite_trees`: `put_row`, `without_rowid`, `insert_entry` and `remove_entry` are the rows after an
+//! edit; `remove_entry` and `without_rowid` leave the rows as they are if there is nothing to remove, and
+//! `insert_entry` if the entry is there. `rowid` is a row's first column. `Finds rows id row found`: the row has that
+//! number, or none has. `IsTestAt test rows at result`: there is a row at the place, and it passes. `IsShaped`: the
+//! rows are in their order. `description` and `listing` are the columns of `sqlite_schema`.
 
 ghost use Rattle.std.specs.Prelude.{◌≡◌, ◌^◌, ◌<◌, false, [], take, true, IsTrue, IfOk, IfSome, OnOk, OnErr};
 ghost use Rattle.std.specs.Ordering.{is_eq};
@@ -23,6 +29,7 @@ use sqlite_value::value::ValueRef;
 use std::alloc::{AllocError, Global};
 use std::rc::Rc;
 
+/// A table or an index. `reals` has a bit for each column that holds REAL numbers.
 #[derive(Drop)]
 pub(crate) struct Tree {
     pub shape: Shape,
@@ -70,7 +77,7 @@ impl Tree {
         })
     }
 
-    /// Makes what stands in the place of a tree that was removed.
+    /// Makes an absent tree: what stands in the place of one that was removed.
     pub(crate) fn absent(alloc: Global) -> Result<Tree, AllocError>
         ensures heading { IfOk result (λ t. heading t ≡ (Shape.Absent, 0, [])) }
         ensures rows { IfOk result (λ t. t.rows ≡ []) }
@@ -102,7 +109,7 @@ impl Tree {
         })
     }
 
-    /// Returns its row in the list of objects.
+    /// Returns the tree's row in the list of tables and indexes: its number plus 1, type, name, table and SQL text.
     pub(crate) fn listing(&self, alloc: Global, tree: usize) -> Result<Row, AllocError>
         requires { tree < 2 ^ 62 }
         ensures { IfOk result (λ row.
@@ -152,7 +159,8 @@ impl Tree {
         }
     }
 
-    /// Finds the row with this rowid at one of two likely positions, without a search.
+    /// Finds the row with this rowid at one of two likely positions, without a search. This is for speed: after `None`
+    /// the row is searched for.
     ///
     /// Rowids begin with 1, so until a row is deleted each row stands at its rowid. After that it stands before the row
     /// at that position, by the difference of their rowids, unless a row between them was deleted too.
@@ -183,7 +191,7 @@ impl Tree {
     }
 
     /// Guesses the position of the rowid: before this position, or before the last one, by the difference to the rowid
-    /// there.
+    /// there. It has no contract, and needs none: `numbered_at` looks at the rowid there.
     fn earlier_place(&self, at: usize, id: i64) -> Option<usize> {
         let last = self.rows.len().checked_sub(1)?;
         let at = at.min(last);
@@ -211,7 +219,7 @@ impl Tree {
         }
     }
 
-    /// Removes the row of this number from a table.
+    /// Removes the row of this number from a table, if there is one.
     fn delete(&mut self, alloc: Global, id: i64) -> Result<(), AllocError>
         requires { self.old.shape ≡ Shape.Table }
         ensures ok { OnOk result (self.new.rows ≡ without_rowid id self.old.rows) }
@@ -226,7 +234,7 @@ impl Tree {
         }
     }
 
-    /// Adds an entry to an index.
+    /// Adds an entry to an index, unless it is there.
     fn insert(&mut self, alloc: Global, order: Order, new: &Row) -> Result<(), AllocError>
         requires { self.old.shape ≡ Shape.Index order }
         ensures ok { OnOk result (self.new.rows ≡ insert_entry order new.now self.old.rows) }
@@ -242,7 +250,7 @@ impl Tree {
         }
     }
 
-    /// Removes an entry from an index.
+    /// Removes an entry from an index, if it is there.
     fn remove(&mut self, alloc: Global, order: Order, entry: &Row) -> Result<(), AllocError>
         requires { self.old.shape ≡ Shape.Index order }
         ensures ok { OnOk result (self.new.rows ≡ remove_entry order entry.now self.old.rows) }

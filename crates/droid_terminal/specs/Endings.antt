@@ -9,7 +9,7 @@ use Rattle.droid_terminal.specs.declared.ending.detail.Detail.{Detail}
 use Rattle.droid_terminal.specs.declared.ending.detail.Detail.TheVariants as details
 use Rattle.droid_terminal.specs.declared.ending.row.Row.{Row}
 use Rattle.droid_terminal.specs.declared.ending.status.Status.{Status}
-use Rattle.droid_terminal.specs.declared.ending.status.Status.TheVariants.{Unread, Failed}
+use Rattle.droid_terminal.specs.declared.ending.status.Status.TheVariants.{Unread, Failed, Unmade}
 
 -- a row as it is read: the status, the name, and what is said before and behind the detail
 pub record Said : Type 0 where
@@ -18,25 +18,29 @@ pub record Said : Type 0 where
   pub text : List ℕ
   pub rest : List ℕ
 
+-- the row of the table as it is read
 abbrev pub said : Row → Said
 said row = record { status = row.status; name = row.name.now; text = row.text.now; rest = row.rest.now }
 
--- what a sentence is about: a file or folder, a file with an ending behind its name, a port, and a port on which nobody
--- listens
+-- what a sentence about a file or folder begins with
 abbrev pub of_path : List ℕ → List ℕ
 of_path path = shown_text path ++ codes ": "
 
+-- about a file beside another one
 abbrev pub of_beside : List ℕ → List ℕ → List ℕ
 of_beside path ending = shown_text path ++ (ending ++ codes ": ")
 
+-- about a port of this machine
 abbrev pub of_port : ℕ → List ℕ
 of_port port = codes "port " ++ (decimal port ++ codes ": ")
 
+-- about a port on which nobody listens
 abbrev pub of_unheard : ℕ → List ℕ
 of_unheard port =
     codes "nobody listens on port "
     ++ (decimal port ++ (codes ": start droid_desk serve --port " ++ (decimal port ++ codes " first")))
 
+-- what a sentence begins with
 abbrev pub about_text : About → List ℕ
 about_text abouts.Nothing = []
 about_text (abouts.Path path) = of_path path.now
@@ -66,26 +70,35 @@ pub data Told : Type 0 where
   -- a row of the table, the number behind its name, what the sentence is about, and what it names
   Fault : (row : Said) (at : Option ℕ) (about : List ℕ) (detail : Option (List ℕ)) → Told
 
+-- all that is seen of an ending
 abbrev pub told : Ending → Told
 told endings.Whole = Whole
 told endings.Partly = Partly
 told (endings.Fault fault) = Fault (said fault.row) fault.at (about_text fault.about) (detail_text fault.detail)
 
--- by a row alone, by one whose sentence names something, and by one whose name and sentence have the same number
+-- an ending by a row alone
 abbrev pub by : Said → List ℕ → Told
 by row about = Fault row None about (Some [])
 
+-- by a row whose sentence names something
 abbrev pub detailed : Said → List ℕ → Option (List ℕ) → Told
 detailed row about detail = Fault row None about detail
 
-abbrev pub numbered : Said → List ℕ → ℕ → Told
-numbered row about number = Fault row (Some number) about (Some (decimal number))
+-- by a row whose name has a number behind it
+abbrev pub told_at : Said → List ℕ → ℕ → Option (List ℕ) → Told
+told_at row about number detail = Fault row (Some number) about detail
 
--- the exit status
+-- by a row whose name and sentence have the same number
+abbrev pub numbered : Said → List ℕ → ℕ → Told
+numbered row about number = told_at row about number (Some (decimal number))
+
+-- the exit status of a row
 abbrev pub number_of : Status → ℕ
 number_of Unread = 3
 number_of Failed = 4
+number_of Unmade = 6
 
+-- the exit status of a command
 abbrev pub status_of : Told → ℕ
 status_of Whole = 0
 status_of Partly = 5

@@ -26,6 +26,7 @@ quotient n by = if nat_lt 0 by then Some (n / by) else None
 abbrev pub time_left : Estimate → Option ℕ
 time_left p = quotient (work_in p.all - work_in p.done) (rate_of (work_in p.done) p.milliseconds)
 
+-- the time left, if it is known
 unfoldable pub left_text : Option ℕ → List ℕ
 left_text None = []
 left_text (Some seconds) = codes ", " ++ (span_text seconds ++ codes " left")
@@ -52,5 +53,6 @@ abbrev pub text_by : Option Amount → Amount → ℕ → List ℕ
 text_by (Some all) done milliseconds = estimate_text (record { all = all; done = done; milliseconds = milliseconds })
 text_by None done milliseconds = so_far_text done milliseconds
 
+-- how far the walk is, with the time left if it is known how much there is
 abbrev pub progress_text : Progress → List ℕ
 progress_text progress = text_by progress.all progress.done progress.milliseconds

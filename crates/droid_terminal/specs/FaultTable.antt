@@ -1,15 +1,20 @@
--- The table of faults: by which name, with which status and with which sentence a command ends (this project's own).
+-- The table of faults: by which name, with which status and with which sentence a command ends (this project's own). A
+-- definition is the row of the same name in `src/ending/faults.rt`, which says when it comes.
 use Rattle.std.specs.Prelude.{ℕ, List, [], codes}
 use Rattle.droid_terminal.specs.Endings.{Said}
 use Rattle.droid_terminal.specs.declared.ending.status.Status.{Status}
-use Rattle.droid_terminal.specs.declared.ending.status.Status.TheVariants.{Unread, Failed}
+use Rattle.droid_terminal.specs.declared.ending.status.Status.TheVariants.{Unread, Failed, Unmade}
 
--- a row whose sentence names something within, and one whose sentence ends before
+-- a row whose sentence names something within
 abbrev pub gapped : Status → List ℕ → List ℕ → List ℕ → Said
 gapped status name text rest = record { status = status; name = name; text = text; rest = rest }
 
+-- a row whose sentence has no gap, or ends with what it names
 abbrev pub row : Status → List ℕ → List ℕ → Said
 row status name text = gapped status name text []
+
+abbrev no_memory : List ℕ
+no_memory = codes "out of memory: close other programs, or allow this one more, and try again"
 
 abbrev lost : List ℕ
 lost = codes "the service no longer has what was sent: run the same command again"
@@ -20,11 +25,16 @@ lost_pieces = codes "the service no longer has pieces that it took, so it was re
 abbrev must_take : List ℕ
 must_take = codes "the service refused a request that it must take: this is a mistake in droid_desk or in the service"
 
+abbrev no_reply : List ℕ
+no_reply = codes "the reply could not be read: send the same lines again to resume"
+
+abbrev strange : List ℕ
+strange = codes "what came is not the reply: is droid_desk serve listening there?"
+
 -- ---- faults of several commands
 
 abbrev pub memory : Said
-memory =
-    row Failed (codes "Memory") (codes "out of memory: close other programs, or allow this one more, and try again")
+memory = row Failed (codes "Memory") no_memory
 
 abbrev pub unwritten : Said
 unwritten = row Failed (codes "Write") (codes "could not be written: is the disk full, or its reader gone?")
@@ -85,6 +95,9 @@ own_csv_malformed =
     gapped Failed (codes "Profile") (codes "record ")
     (codes " is malformed (the column names are record 1): was the file changed?")
 
+abbrev pub reading_failed : Said
+reading_failed = row Unread (codes "Read") (codes "reading failed: try again with a copy of the file")
+
 -- ---- faults of report
 
 abbrev pub profile_missing : Said
@@ -101,6 +114,9 @@ no_profile =
     row Unread (codes "Profile")
     (codes "does not begin with the column names of a profile: name a CSV of `profile` or of an export")
 
+abbrev pub profile_lacks : Said
+profile_lacks = row Unread (codes "Profile") (codes "there is no column ")
+
 abbrev pub profile_malformed : Said
 profile_malformed =
     gapped Unread (codes "Profile") (codes "record ")
@@ -116,9 +132,6 @@ unopened_folder = row Unread (codes "Read") (codes "a folder: name the signature
 
 abbrev pub unopened : Said
 unopened = row Unread (codes "Read") []
-
-abbrev pub reading_failed : Said
-reading_failed = row Unread (codes "Read") (codes "reading failed: try again with a copy of the file")
 
 abbrev pub long_signature_file : Said
 long_signature_file = row Unread (codes "TooLong") (codes "more than 67,108,864 bytes: is it a signature file?")
@@ -179,8 +192,11 @@ list_unopened = row Unread (codes "Open") []
 abbrev pub list_other : Said
 list_other = row Unread (codes "List") (codes "the first record is not that of a profile")
 
+abbrev pub list_lacks : Said
+list_lacks = row Unread (codes "List") (codes "there is no column ")
+
 abbrev pub list_fields : Said
-list_fields = gapped Unread (codes "List") (codes "record ") (codes " does not have 18 fields")
+list_fields = gapped Unread (codes "List") (codes "record ") (codes " does not have a field for each column")
 
 abbrev pub list_wrong : Said
 list_wrong = gapped Unread (codes "List") (codes "record ") (codes " is wrong")
@@ -373,3 +389,184 @@ nodes = row Failed (codes "Nodes") must_take
 
 abbrev pub unfinished : Said
 unfinished = row Failed (codes "Busy") must_take
+
+-- ---- faults of script, run, serve, send and compact
+
+abbrev pub registry_long : Said
+registry_long = row Unread (codes "TooLong") (codes "more than 16,777,216 bytes: is it a registry file?")
+
+abbrev pub registry_memory : Said
+registry_memory = row Unread (codes "Memory") no_memory
+
+abbrev pub registry_missing : Said
+registry_missing = row Unread (codes "Read") (codes "no such file: check the path after --registry")
+
+abbrev pub registry_denied : Said
+registry_denied = row Unread (codes "Read") (codes "permission denied: make the file readable")
+
+abbrev pub registry_is_a_folder : Said
+registry_is_a_folder = row Unread (codes "Read") (codes "a folder: name the registry file in it")
+
+abbrev pub registry_unopened : Said
+registry_unopened = row Unread (codes "Read") []
+
+abbrev pub not_utf8 : Said
+not_utf8 =
+    gapped Unread (codes "NotUtf8") (codes "record ") (codes ": a field is not UTF-8 text: save the file as UTF-8")
+
+abbrev pub bad_record : Said
+bad_record =
+    gapped Unread (codes "BadRecord") (codes "record ")
+    (codes ": expected six fields, the first of them F, E, S, B or P: is it a registry file?")
+
+abbrev pub bad_pattern : Said
+bad_pattern =
+    gapped Unread (codes "BadPattern") (codes "record ")
+    (codes ": the last field is not a pattern: expected one as 25504446")
+
+abbrev pub unknown_puid : Said
+unknown_puid =
+    gapped Unread (codes "UnknownPuid") (codes "record ")
+    (codes ": expected an identifier that an F record above gives")
+
+abbrev pub duplicate_puid : Said
+duplicate_puid =
+    gapped Unread (codes "DuplicatePuid") (codes "record ")
+    (codes ": an F record above has this identifier: each may stand once")
+
+abbrev pub too_many_of_a_kind : Said
+too_many_of_a_kind =
+    gapped Unread (codes "TooMany") (codes "record ")
+    (codes ": one more of its kind than a registry may have: shorten it")
+
+abbrev pub service_without_memory : Said
+service_without_memory = row Unmade (codes "Memory") no_memory
+
+abbrev pub service_refused : Said
+service_refused = row Unmade (codes "Store") (codes "the database refused its tables: this is a mistake in droid_desk")
+
+abbrev pub input_too_long : Said
+input_too_long =
+    row Failed (codes "TooLong") (codes "standard input has more than 67,108,864 bytes: use serve and send")
+
+abbrev pub input_unread : Said
+input_unread = row Failed (codes "Read") (codes "standard input could not be read")
+
+abbrev pub output_stopped : Said
+output_stopped =
+    row Failed (codes "Write") (codes "standard output could not be written: is the disk full, or its reader gone?")
+
+abbrev pub frame_truncated : Said
+frame_truncated = row Failed (codes "Truncated") (codes "standard input ends inside a frame")
+
+abbrev pub frame_version : Said
+frame_version =
+    row Failed (codes "BadVersion")
+    (codes "a frame begins with another byte than 1 or 2: is standard input a stream of frames?")
+
+abbrev pub frame_too_long : Said
+frame_too_long =
+    row Failed (codes "TooLong") (codes "the body of a frame is longer than its version allows: send smaller pieces")
+
+abbrev pub sent_numbers : Said
+sent_numbers = row Failed (codes "NumbersUsedUp") (codes "no number is left: use another --client")
+
+abbrev pub sent_broken : Said
+sent_broken = row Failed (codes "Write") (codes "the connection broke: send the same lines again to resume")
+
+abbrev pub sent_closed : Said
+sent_closed =
+    row Failed (codes "Closed")
+    (codes "the service closed the connection: start it again with more --connections, if it has ended")
+
+abbrev pub reply_truncated : Said
+reply_truncated = row Failed (codes "Truncated") no_reply
+
+abbrev pub reply_version : Said
+reply_version = row Failed (codes "BadVersion") no_reply
+
+abbrev pub reply_too_long : Said
+reply_too_long = row Failed (codes "TooLong") no_reply
+
+abbrev pub reply_memory : Said
+reply_memory = row Failed (codes "Memory") no_reply
+
+abbrev pub reply_unread : Said
+reply_unread = row Failed (codes "Read") no_reply
+
+abbrev pub sent_malformed : Said
+sent_malformed = row Failed (codes "Malformed") strange
+
+abbrev pub sent_stranger : Said
+sent_stranger = row Failed (codes "Stranger") strange
+
+abbrev pub sent_repeated : Said
+sent_repeated = row Failed (codes "Repeated") strange
+
+abbrev pub port_in_use : Said
+port_in_use =
+    gapped Failed (codes "Socket") (codes "port ")
+    (codes " is in use: choose another, or stop the program that listens on it")
+
+abbrev pub port_unheard : Said
+port_unheard = row Failed (codes "Socket") []
+
+abbrev pub port_denied : Said
+port_denied = row Failed (codes "Socket") (codes "permission denied: choose a port above 1023")
+
+abbrev pub port_unusable : Said
+port_unusable = row Failed (codes "Socket") []
+
+abbrev pub port_stopped : Said
+port_stopped = row Failed (codes "Socket") (codes "no connection could be accepted: start the service again")
+
+abbrev pub journal_in_use : Said
+journal_in_use = row Failed (codes "Journal in use") (codes "another droid_desk has this journal open: stop it first")
+
+abbrev pub journal_no_file : Said
+journal_no_file =
+    row Failed (codes "Journal")
+    (codes "this is a folder, a link or a device: name a file, or a path where nothing is yet")
+
+abbrev pub journal_unopened : Said
+journal_unopened =
+    gapped Failed (codes "Journal") (codes "could not be opened (")
+    (codes "): check the path, and whether you may write in its folder")
+
+abbrev pub journal_other : Said
+journal_other =
+    gapped Unread (codes "Journal")
+    (codes "not a journal of this registry and this version of droid_desk, or damaged at its beginning: ")
+    (codes "name the registry of its first start, restore a copy, or name a new file")
+
+abbrev pub journal_reply : Said
+journal_reply =
+    gapped Unread (codes "Journal") (codes "the reply in record ")
+    (codes " is not the one that its request gets: restore a copy of the file")
+
+abbrev pub journal_damaged : Said
+journal_damaged = gapped Unread (codes "Journal") (codes "damaged after record ") (codes ": restore a copy of the file")
+
+abbrev pub journal_memory : Said
+journal_memory =
+    row Failed (codes "Memory") (codes "out of memory: close other programs, or allow this one more, and start again")
+
+abbrev pub journal_unread : Said
+journal_unread = row Failed (codes "Journal") (codes "could not be read: check the disk")
+
+abbrev pub journal_unwritten : Said
+journal_unwritten =
+    row Failed (codes "Journal")
+    (codes "could not be written, so nothing more is answered: is the disk full? Make room, and start again")
+
+abbrev pub journal_not_smaller : Said
+journal_not_smaller = gapped Failed (codes "Journal") [] (codes " is as it was")
+
+abbrev pub smaller_unwritten : Said
+smaller_unwritten =
+    gapped Failed (codes "Journal") (codes "could not be written: is the disk full? ") (codes " is as it was")
+
+abbrev pub not_exchanged : Said
+not_exchanged =
+    row Failed (codes "Journal")
+    (codes "has all its records, but the smaller journal could not be synced or renamed: try again")

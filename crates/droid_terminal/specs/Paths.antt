@@ -13,9 +13,11 @@ use Rattle.droid_tree.specs.declared.skip_reason.Skipped.TheVariants as reasons
 abbrev pub is_plain : List ℕ → Bool
 is_plain path = is_utf8 path && not (list_any is_control (chars path))
 
+-- a quotation mark or a backslash
 abbrev pub is_quoted : ℕ → Bool
 is_quoted byte = byte == 34 || byte == 39 || byte == 92
 
+-- a printable ASCII character or a space
 abbrev pub is_printed : ℕ → Bool
 is_printed byte = nat_le 32 byte && nat_le byte 126
 
@@ -38,6 +40,7 @@ shown_text path = if is_plain path then path else flat_map escaped_byte path
 abbrev pub skipped_text : List ℕ → List ℕ → List ℕ
 skipped_text path cause = codes "skipped: " ++ (path ++ (codes ": " ++ (cause ++ 10 ∷ [])))
 
+-- why an entry was skipped, in words
 unfoldable pub cause_text : Skipped → List ℕ
 cause_text reasons.Link = codes "it is a symbolic link, which is no part of a profile"
 cause_text reasons.Kind = codes "neither a folder nor a regular file, or it can't be looked at"

@@ -18,6 +18,7 @@ told_of_folder folders.Other path = by table.not_a_folder (of_path path)
 told_of_folder folders.Missing path = by table.no_folder (of_path path)
 told_of_folder (folders.Unseen kind) path = detailed table.folder_unseen (of_path path) None
 
+-- the ending is that of something that may be seen there
 abbrev pub IsNoFolder : List ℕ → Told → Type 0
 IsNoFolder path it = (seen : SeenFolder) × (it ≡ told_of_folder seen path)
 
@@ -29,10 +30,12 @@ folder_row (Some kinds.NotADirectory) = table.output_below_a_file
 folder_row (Some kinds.PermissionDenied) = table.output_denied
 folder_row (Some kind) = table.output_folder_unusable
 
+-- the row by what may be seen at the path of a file
 abbrev pub output_row : SeenOutput → Said
 output_row outputs.NoFile = table.output_is_no_file
 output_row (outputs.InFolder fault) = folder_row fault
 
+-- an empty path, or the row of something that may be seen there
 abbrev pub IsNoOutput : List ℕ → Told → Type 0
 IsNoOutput path it =
     MatchBool (length path == 0) (it ≡ by table.output_unnamed [])

@@ -20,6 +20,7 @@ header = line (codes "path" ∷ codes "reason" ∷ [])
 abbrev pub entry_text : List ℕ → Skipped → List ℕ
 entry_text path why = line (path ∷ cause_text why ∷ [])
 
+-- the two fields of an entry
 abbrev pub entry_record : SkippedEntry → List (List ℕ)
 entry_record entry = entry.path ∷ cause_text entry.why ∷ []
 

@@ -8,6 +8,7 @@ use Rattle.droid_terminal.specs.declared.counts.Counts.{Counts}
 unfoldable pub count_line : List ℕ → ℕ → List ℕ
 count_line name count = name ++ (codes ": " ++ (decimal count ++ 10 ∷ []))
 
+-- how many files have a format
 unfoldable pub format_line : FormatCount → List ℕ
 format_line format = codes "format " ++ count_line format.puid format.count
 
@@ -25,6 +26,7 @@ links_text links =
 abbrev pub held_text : ℕ → List ℕ
 held_text held = if held == 0 then [] else count_line (codes "bytes that were there") held
 
+-- the whole table, line by line
 unfoldable pub table_text : Counts → Option (List FormatCount) → List ℕ
 table_text counts formats =
     count_line (codes "folders and files") counts.taken
@@ -35,6 +37,7 @@ table_text counts formats =
     ++ (formats_text formats
     ++ (held_text counts.held ++ count_line (codes "bytes read") counts.bytes))))))
 
+-- how long it took, if the clock could be read
 abbrev pub seconds_text : Option ℕ → List ℕ
 seconds_text None = []
 seconds_text (Some seconds) = count_line (codes "seconds") seconds

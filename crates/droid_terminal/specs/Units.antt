@@ -11,6 +11,7 @@ unit_bytes n =
     if nat_lt n 10_000 then 1
     else (if nat_lt n 10_000_000 then 1_000 else (if nat_lt n 10_000_000_000 then 1_000_000 else 1_000_000_000))
 
+-- the name of this unit
 unfoldable pub unit_name : ℕ → List ℕ
 unit_name n =
     if nat_lt n 10_000 then codes "bytes"
@@ -20,11 +21,13 @@ unit_name n =
 abbrev pub rate_of : ℕ → ℕ → ℕ
 rate_of count milliseconds = saturated (count * 1_000) / max milliseconds 1
 
+-- seconds, minutes, or hours and minutes
 unfoldable pub span_text : ℕ → List ℕ
 span_text s =
     if nat_lt s 100 then decimal s ++ codes " s"
     else (if nat_lt s 6_000 then decimal (s / 60) ++ codes " min"
     else decimal (s / 60 / 60) ++ (codes " h " ++ (decimal (s / 60 % 60) ++ codes " min")))
 
+-- a number of bytes per second
 unfoldable pub speed_text : ℕ → List ℕ
 speed_text n = decimal (n / unit_bytes n) ++ (codes " " ++ (unit_name n ++ codes "/s"))

@@ -14,21 +14,25 @@ use Rattle.droid_terminal.specs.declared.estimate.Amount.{Amount}
 use Rattle.droid_terminal.specs.declared.counts.Counts.{Counts}
 use Rattle.droid_terminal.specs.declared.totals.Totals.{Totals}
 
+-- one more
 abbrev pub next : ℕ → ℕ
 next n = saturated (n + 1)
 
+-- it was skipped as a symbolic link
 abbrev pub is_link : Skipped → Bool
 is_link reasons.Link = true
 is_link _ = false
 
--- one more folder or file in the profile, one more skipped entry, which may be a symbolic link, more bytes read
+-- one more folder or file in the profile
 abbrev pub after_taken : Counts → Counts
 after_taken counts = record counts { taken = next counts.taken }
 
+-- one more skipped entry, which may be a symbolic link
 abbrev pub after_skipped : Skipped → Counts → Counts
 after_skipped why counts =
     record counts { skipped = next counts.skipped; links = (if is_link why then next counts.links else counts.links) }
 
+-- more bytes were read
 abbrev pub after_bytes : ℕ → Counts → Counts
 after_bytes n counts = record counts { bytes = saturated (counts.bytes + n) }
 
@@ -78,6 +82,7 @@ abbrev pub puids_of : Reply → List (List ℕ)
 puids_of (replies.Finished method mismatch hash puids) = puids
 puids_of other = []
 
+-- the formats of a file that the watcher learned
 abbrev pub puids_in : Heard → List (List ℕ)
 puids_in (TookFile path found) = puids_of found
 puids_in other = []

@@ -1,4 +1,4 @@
-//! Cuts texts to a number of columns.
+//! Cuts texts to a number of columns. `width` and `columns_of` are those of the kit's `unicode_width`.
 
 ghost use Rattle.std.specs.Prelude.{◌≡◌, ◌<◌, ◌≤◌, length, take, drop, IsUtf8, MatchOption};
 ghost use Rattle.droid_terminal.specs.Cuts.{columns_of, IsEnd, IsFront};
@@ -8,7 +8,8 @@ use unicode_width::UnicodeWidthStr;
 /// How many bytes a character has at most.
 const CHARACTER: usize = 4;
 
-/// Returns the longest end of a text that fits these columns.
+/// Returns the longest end of a text that fits these columns, among its last four bytes for each column. To try longer
+/// ends, with characters of no width, would take time.
 pub(crate) fn end_within(text: &str, columns: usize) -> &str
     ensures { IsEnd text.now columns result.now }
 {
@@ -36,7 +37,7 @@ fn end_from(text: &str, from: usize, columns: usize) -> Option<&str>
     Some(end)
 }
 
-/// Returns the longest beginning of a text that fits these columns.
+/// Returns the longest beginning of a text that fits these columns, among its first four bytes for each column.
 pub(crate) fn front_within(text: &str, columns: usize) -> &str
     ensures { IsFront text.now columns result.now }
 {

@@ -1,4 +1,4 @@
-//! Prints bytes with escapes.
+//! Prints bytes with escapes. `WritesOnOk` is the kit's: after `Ok` exactly this text was written.
 
 ghost use Rattle.std.specs.Prelude.{◌≡◌, ◌&&◌, Some, flat_map, nat_le};
 ghost use Rattle.std.specs.Fmt.{WritesOnOk};

@@ -1,4 +1,5 @@
-//! Checks whether a path is a folder that can be listed.
+//! Checks whether a path is a folder that can be listed. What is there is up to the machine, so nothing here has a
+//! contract: `tests/program/folders/profile_arguments.py` tests it.
 
 use droid_frame::Text;
 use std::alloc::{AllocError, Global};

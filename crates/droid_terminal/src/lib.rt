@@ -1,8 +1,9 @@
 //! What the commands of a folder share: how they end, what they print on standard error (progress, skipped entries, a
 //! summary, a fault and its sentence), where the files that they write lie, and the CSV of what was skipped.
 //!
-//! The texts are proved. That they are printed, and when the clock is read, is tested, since the kit promises nothing
-//! about printing and about the clock.
+//! The texts are proved: `output` of a `Display` is the exact text. That they are printed, when the clock is read, and
+//! what is seen at a path has no contract, since the kit promises nothing about it: `tests/program/folders` tests it
+//! (`profile_progress.py`, `profile_skipped.py`, `profile_arguments.py`).
 #![tactic(auto)]
 
 mod columns;

@@ -32,7 +32,8 @@ fn is_at_or_below(path: &[u8], folder: &[u8]) -> bool
     }
 }
 
-/// Returns the absolute path of a folder, without links. If it has none that is UTF-8, returns the path as given.
+/// Returns the absolute path of a folder, without links. If it has none that is UTF-8, returns the path as given. It is
+/// up to the machine, so this has no contract: `tests/program/folders` tests what asks for it.
 pub fn absolute_path<R: Files + AllocGlobal>(rt: &R, path: &str) -> Result<Text, AllocError> {
     match fs::canonicalize(rt, path) {
         Ok(absolute) => Ok(Text::from(absolute.into_string())),
@@ -68,7 +69,8 @@ pub fn name_of(path: &str) -> &str
     }
 }
 
-/// Returns whether two files have the same path, by their names and by the absolute paths of their folders.
+/// Returns whether two files have the same path, by their names and by the absolute paths of their folders. These are
+/// up to the machine, so that only the two plain cases have clauses.
 pub fn is_same_place<R: Files + AllocGlobal>(
     rt: &R,
     first: &str,

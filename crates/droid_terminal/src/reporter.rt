@@ -1,4 +1,5 @@
-//! Prints on standard error what a walk does.
+//! Prints on standard error what a walk does. Proved is what is counted and when a line is due; that it is printed is
+//! tested by `tests/program/folders/profile_progress.py`.
 
 ghost use Rattle.std.specs.Prelude.{◌≡◌, Some};
 ghost use Rattle.droid_terminal.specs.Estimates.{amount_of};
@@ -23,11 +24,16 @@ pub struct Reporter<'a, R> {
     runtime: &'a R,
     alloc: Global,
     verbosity: Verbosity,
+    /// How much there is, if it is known.
     all: Option<Amount>,
     totals: Totals,
+    /// When the walk began, if the clock could be read.
     begun: Option<Instant>,
+    /// At which millisecond the last line of progress was printed.
     reported: u64,
+    /// At which millisecond the clock was read last.
     looked: u64,
+    /// How many calls passed without a look at the clock before that, and how many may still pass now.
     calls: u32,
     unseen: u32,
 }

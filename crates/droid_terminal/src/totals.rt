@@ -24,7 +24,7 @@ pub(crate) struct Totals {
 }
 
 impl Totals {
-    /// Starts with zeros.
+    /// Starts with zeros, and with no formats. Without a contract: all that is proved is what a file adds.
     pub fn new(alloc: Global) -> Totals {
         Totals {
             alloc,

@@ -17,6 +17,7 @@ pub data Item : Type 0 where
   AFile : (entry : FolderEntry) → Item
   NoNode : (entry : FolderEntry) → Item
 
+-- the entry, whatever it counts as
 abbrev pub entry_in : Item → FolderEntry
 entry_in (AFolder entry) = entry
 entry_in (AFile entry) = entry
@@ -28,14 +29,17 @@ IsItem (AFolder entry) = IsUtf8 entry.name × (entry.kind ≡ kinds.Folder)
 IsItem (AFile entry) = IsUtf8 entry.name × (entry.kind ≡ kinds.File)
 IsItem (NoNode entry) = (¬ (IsUtf8 entry.name)) ⊎ IsNoNode entry.kind
 
+-- it counts as a folder
 abbrev pub is_folder : Item → Bool
 is_folder (AFolder entry) = true
 is_folder _ = false
 
+-- it counts as a file
 abbrev pub is_file : Item → Bool
 is_file (AFile entry) = true
 is_file _ = false
 
+-- it is skipped
 abbrev pub is_no_node : Item → Bool
 is_no_node (NoNode entry) = true
 is_no_node _ = false
@@ -65,19 +69,24 @@ pub record IsCounted (folder : CountedFolder) : Type 0 where
   pub are_repeated : AreRepeated (map entry_in folder.items) folder.repeated
   pub items : AllByRecursion IsItem folder.items
 
+-- the tree returned no entries
 abbrev pub is_unread_by : Option (List FolderEntry) → Bool
 is_unread_by None = true
 is_unread_by (Some observed) = false
 
+-- the folder was unreadable
 abbrev pub is_unread : CountedFolder → Bool
 is_unread folder = is_unread_by folder.observed
 
+-- what the tree returned of the folder
 abbrev pub observed_of_counted : CountedFolder → Observation
 observed_of_counted folder = observed_of_folder folder.path folder.observed
 
+-- the paths of the folders in it, in order
 abbrev pub folders_in : CountedFolder → List (List ℕ)
 folders_in folder = flat_map (path_of_item folder.path) folder.items
 
+-- the entries of all folders, in order
 abbrev pub items_in : List CountedFolder → List Item
 items_in folders = flat_map (λ folder. folder.items) folders
 
@@ -112,6 +121,7 @@ pub record CountsTooMany {T : Type 0} (observes : T → Observation → T → Ty
 
 -- ---- on the way
 
+-- the paths of folders that wait to be visited
 abbrev pub paths_of : List PendingFolder → List (List ℕ)
 paths_of places = map (λ folder. folder.path) places
 
@@ -122,6 +132,7 @@ pub record Adds (items : List Item) (before after : Counted) : Type 0 where
   pub bytes : after.bytes ≡ before.bytes + sum_by bytes_in items
   pub skipped : after.skipped ≡ before.skipped + count_by is_no_node items
 
+-- the entry counts as one item; if it is a folder, its path waits to be visited
 pub record CountsItem (path : List ℕ) (entry : FolderEntry) (before after : Counted)
     (waiting waiting_after : List PendingFolder) : Type 0 where
   pub item : Item
@@ -130,6 +141,7 @@ pub record CountsItem (path : List ℕ) (entry : FolderEntry) (before after : Co
   pub adds : Adds (item ∷ []) before after
   pub pending : paths_of waiting_after ≡ paths_of waiting ++ path_of_item path item
 
+-- the same of several entries of a folder, in order
 pub record CountsItems (path : List ℕ) (entries : List FolderEntry) (before after : Counted)
     (waiting waiting_after : List PendingFolder) : Type 0 where
   pub items : List Item

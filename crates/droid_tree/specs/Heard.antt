@@ -3,6 +3,7 @@ use Rattle.std.specs.Prelude.{ℕ, List}
 use Rattle.droid_frame.specs.declared.reply.Reply.{Reply}
 use Rattle.droid_tree.specs.declared.skip_reason.Skipped.{Skipped}
 
+-- the calls of a watcher
 pub data Heard : Type 0 where
   -- this entry was skipped, for this reason
   Left : (path : List ℕ) (why : Skipped) → Heard

@@ -26,6 +26,7 @@ abbrev pub AreThose : Option (List FolderEntry) → List FolderEntry → List Fo
 AreThose None entries repeated = (entries ≡ []) × (repeated ≡ [])
 AreThose (Some observed) entries repeated = IsPermutation observed (entries ++ repeated)
 
+-- what the tree returned of a folder: its entries, or that it is unreadable
 abbrev pub observed_of_folder : List ℕ → Option (List FolderEntry) → Observation
 observed_of_folder path None = Unlisted path
 observed_of_folder path (Some observed) = Listed path observed

@@ -2,6 +2,7 @@
 use Rattle.std.specs.Prelude.{◌≡◌, ℕ, ◌≤◌, List, [], ◌∷◌, ◌++◌, length}
 use Rattle.droid_tree.specs.declared.folder_entry.FolderEntry.{FolderEntry}
 
+-- what a call of a tree may say
 pub data Observation : Type 0 where
   -- the folder has these entries
   Listed : (path : List ℕ) (entries : List FolderEntry) → Observation

@@ -3,39 +3,30 @@
 ghost use Rattle.std.specs.Prelude.{◌≡◌};
 
 use std::alloc::AllocError;
-use thiserror::Error;
 
 /// Why a folder's entries or a file's bytes could not be read.
-#[derive(Clone, Copy, Debug, PartialEq, Eq, Error)]
+#[derive(Clone, Copy)]
 pub enum TreeFault {
     /// Out of memory.
-    #[error("out of memory")]
     Memory,
     /// The folder or file could not be opened or read.
-    #[error("it could not be read")]
     Unreadable,
     /// It is not the file that the folder listed, or it was changed since.
-    #[error("it is not the file that was listed, or it was changed since")]
     Changed,
 }
 
 /// Why a walk ended early.
-#[derive(Clone, Copy, Debug, PartialEq, Eq, Error)]
+#[derive(Clone, Copy, Debug)]
 pub enum WalkFault {
     /// Out of memory, here or in the service.
-    #[error("out of memory")]
     Memory,
     /// The service sent a reply that does not fit the request.
-    #[error("a reply was not to the request")]
     Reply,
     /// There are more folders than a profile can have.
-    #[error("there are too many folders")]
     Folders,
     /// There are more folders and files than a profile can have.
-    #[error("there are too many folders and files")]
     Entries,
     /// The files' lengths together do not fit 64 bits.
-    #[error("the files are too long together")]
     Bytes,
 }
 

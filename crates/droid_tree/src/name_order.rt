@@ -7,8 +7,10 @@ ghost use Rattle.droid_tree.specs.NameFronts.{IsFront};
 
 use std::cmp::Ordering;
 
-/// Compares two names by their bytes. If both have eight or more, the first eight of each are compared as one number,
-/// which decides most pairs.
+/// Compares two names by their bytes.
+///
+/// For speed alone, if both have eight or more, the first eight of each are compared as one number, which decides most
+/// pairs: no clause needs that.
 pub fn order_of_names(first: &[u8], second: &[u8]) -> Ordering
     ensures { result ≡ slice_cmp nat_cmp first.now second.now }
 {

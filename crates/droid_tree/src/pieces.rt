@@ -56,7 +56,7 @@ pub fn read_piece<T: Tree>(
     }
 }
 
-/// Checks that all bytes came.
+/// Checks that all bytes came. If not, the file is shorter than it was listed.
 fn all_came(count: usize, wanted: usize) -> Result<(), Skipped>
     ensures { MatchResult result (λ _. count ≡ wanted) (λ why. (why ≡ reasons.Changed) × (count ≢ wanted)) }
 {
@@ -97,7 +97,7 @@ pub fn see_end<T: Tree>(
     }
 }
 
-/// Checks that no more bytes came.
+/// Checks that no more bytes came. If some did, the file is longer than it was listed.
 fn none_more(more: &[u8]) -> Result<(), Skipped>
     ensures { MatchResult result (λ _. more.now ≡ []) (λ why. (why ≡ reasons.Changed) × (0 < length more.now)) }
 {

@@ -26,8 +26,9 @@ pub struct Counted {
     pub skipped: u64,
 }
 
-/// Counts the folders and files of a tree. Fails with `Entries` if there are more than `limit` together. Lists each
-/// folder once, in the order of a walk, and reads no file.
+/// Counts the folders and files of a tree. Fails with `Entries` if there are more than `limit` together, and with
+/// `Folders` if there are more folders than a walk visits. Lists each folder once, in the order of a walk, and reads no
+/// file.
 pub fn count<T: Tree>(alloc: Global, tree: &mut T, limit: u64) -> Result<Counted, WalkFault>
     // The numbers are those of the tree as it was listed.
     ensures counted { IfOk result (λ counted. CountsTree T.observes counted tree.old tree.new) }
@@ -52,7 +53,8 @@ pub fn count<T: Tree>(alloc: Global, tree: &mut T, limit: u64) -> Result<Counted
     Err(WalkFault::Folders)
 }
 
-/// Counts what is in one folder and appends its subfolders to `pending`.
+/// Counts what is in one folder and appends its subfolders to `pending`. An unreadable folder counts as one that is
+/// skipped.
 fn count_folder<T: Tree>(
     alloc: Global,
     tree: &mut T,
@@ -98,7 +100,7 @@ fn count_entries(
     Ok(counted)
 }
 
-/// Counts one entry, and appends it to `pending` if it is a folder.
+/// Counts one entry, and appends it to `pending` if it is a folder. Its number is 0: only a walk knows numbers.
 fn count_entry(
     alloc: Global,
     folder: &PendingFolder,

@@ -111,8 +111,8 @@ served_quiet id steps step no_bytes none_out no_frame served = record { held = s
 pub always_elsewhere : (id : ℕ) (steps more : List Step) → AllByRecursion (Elsewhere id) more → IsServed id steps → Always (IsServed id) steps more
 always_elsewhere id steps more all served = always_kept (IsServed id) (Elsewhere id) (λ before step away now. served_elsewhere id before (step ∷ []) (away, tt) now) steps more all served
 
-pub within_elsewhere : (id : ℕ) (steps more : List Step) → AllByRecursion (Elsewhere id) more → AllByRecursion IsCalm more → IsWithin id (turn_of steps) → IsWithin id (turn_of (steps ++ more))
-within_elsewhere id steps more all still within =
+pub within_elsewhere : (share id : ℕ) (steps more : List Step) → AllByRecursion (Elsewhere id) more → AllByRecursion IsCalm more → IsWithin share id (turn_of steps) → IsWithin share id (turn_of (steps ++ more))
+within_elsewhere share id steps more all still within =
     let turn = turn_more steps more still in
     let same_frames : handled id (turn_of (steps ++ more)) ≡ handled id (turn_of steps) = ap (handled id) turn ∙ none_gathered (handled_in id) (turn_of steps) more (handled_elsewhere id more all) in
     let same_bytes : came id (turn_of (steps ++ more)) ≡ came id (turn_of steps) = ap (came id) turn ∙ none_gathered (bytes_read id) (turn_of steps) more (came_elsewhere id more all) in
@@ -183,11 +183,11 @@ each_by who id steps more each own served =
       | inr is ↦ always_both (IsServed id) [] steps more (each id) (always_elsewhere id steps more (all_elsewhere who id more own is.1) (always_end (IsServed id) [] steps (each id)))
     ]
 
-within_by : (who id : ℕ) (steps more : List Step) → IsWithin id (turn_of steps) → AllByRecursion (IsTraffic who) more → IsWithin who (turn_of (steps ++ more)) → IsWithin id (turn_of (steps ++ more))
-within_by who id steps more within own now =
+within_by : (share who id : ℕ) (steps more : List Step) → IsWithin share id (turn_of steps) → AllByRecursion (IsTraffic who) more → IsWithin share who (turn_of (steps ++ more)) → IsWithin share id (turn_of (steps ++ more))
+within_by share who id steps more within own now =
     elim (eqb_tells who id) [
-      | inl is ↦ subst (λ (i : ℕ). IsWithin i (turn_of (steps ++ more))) is.1 now
-      | inr is ↦ within_elsewhere id steps more (all_elsewhere who id more own is.1) (calm who more own) within
+      | inl is ↦ subst (λ (i : ℕ). IsWithin share i (turn_of (steps ++ more))) is.1 now
+      | inr is ↦ within_elsewhere share id steps more (all_elsewhere who id more own is.1) (calm who more own) within
     ]
 
 limited_on : (id : ℕ) (steps more : List Step) → handled id more ≡ [] → length (handled id steps) ≤ frames_bound → length (handled id (steps ++ more)) ≤ frames_bound
@@ -200,9 +200,9 @@ limited_by who id steps more own few now =
       | inr is ↦ limited_on id steps more (handled_elsewhere id more (all_elsewhere who id more own is.1)) few
     ]
 
-pub keeps_traffic : (rules : Rules) (count : ℕ) (open_as : ℕ → ℕ) (places who : ℕ) (steps more : List Step) → Keeps rules count open_as places steps → 0 < open_as who → AllByRecursion (IsTraffic who) more
-    → Always (IsServed who) steps more → IsWithin who (turn_of (steps ++ more)) → length (handled who (steps ++ more)) ≤ frames_bound → Keeps rules count open_as places (steps ++ more)
-keeps_traffic rules count open_as places who steps more keeps there own served within limited =
+pub keeps_traffic : (rules : Rules) (share count : ℕ) (open_as : ℕ → ℕ) (places who : ℕ) (steps more : List Step) → Keeps rules share count open_as places steps → 0 < open_as who → AllByRecursion (IsTraffic who) more
+    → Always (IsServed who) steps more → IsWithin share who (turn_of (steps ++ more)) → length (handled who (steps ++ more)) ≤ frames_bound → Keeps rules share count open_as places (steps ++ more)
+keeps_traffic rules share count open_as places who steps more keeps there own served within limited =
     let none = all_none who more own in
     record {
       apart = keeps.apart;
@@ -218,14 +218,14 @@ keeps_traffic rules count open_as places who steps more keeps there own served w
       taken = omega (arith, keeps.taken, ap length (none_gathered opened_by steps more (none_opened more none)), ap length (none_gathered closed_by steps more (none_closed more none)));
       numbered = none_gathered opened_by steps more (none_opened more none) ∙ keeps.numbered;
       fair = each_both (IsFair rules) [] steps more keeps.fair (each_free (IsFair rules) IsPlain (λ before step no. no.free rules before) steps more none);
-      within = λ id. within_by who id steps more (keeps.within id) own within;
+      within = λ id. within_by share who id steps more (keeps.within id) own within;
       wanted = keeps.wanted;
       limited = λ id. limited_by who id steps more own (keeps.limited id) limited;
     }
 
 -- the same, in another form
-pub keeps_as : (rules : Rules) (count : ℕ) (open_as also : ℕ → ℕ) (places other : ℕ) (steps : List Step) → ((id : ℕ) → open_as id ≡ also id) → places ≡ other → Keeps rules count open_as places steps → Keeps rules count also other steps
-keeps_as rules count open_as also places other steps same is keeps = record {
+pub keeps_as : (rules : Rules) (share count : ℕ) (open_as also : ℕ → ℕ) (places other : ℕ) (steps : List Step) → ((id : ℕ) → open_as id ≡ also id) → places ≡ other → Keeps rules share count open_as places steps → Keeps rules share count also other steps
+keeps_as rules share count open_as also places other steps same is keeps = record {
   apart = λ id. omega (arith, keeps.apart id, same id);
   below = λ id some. keeps.below id (omega (arith, same id, some));
   gone = λ id is_below none. keeps.gone id is_below (omega (arith, same id, none));
@@ -242,6 +242,25 @@ keeps_as rules count open_as also places other steps same is keeps = record {
   limited = keeps.limited;
 }
 
+-- with a larger share
+pub keeps_more : (rules : Rules) (share also count : ℕ) (open_as : ℕ → ℕ) (places : ℕ) (steps : List Step) → share ≤ also → Keeps rules share count open_as places steps → Keeps rules also count open_as places steps
+keeps_more rules share also count open_as places steps more keeps = record {
+  apart = keeps.apart;
+  below = keeps.below;
+  gone = keeps.gone;
+  all = keeps.all;
+  stays = keeps.stays;
+  others = keeps.others;
+  each = keeps.each;
+  seated = keeps.seated;
+  taken = keeps.taken;
+  numbered = keeps.numbered;
+  fair = keeps.fair;
+  within = λ id. record { frames = omega (arith, more, (keeps.within id).frames); bytes = omega (arith, more, (keeps.within id).bytes) };
+  wanted = keeps.wanted;
+  limited = keeps.limited;
+}
+
 -- ---- a step of no connection
 
 pub record IsNobody (step : Step) : Type 0 where
@@ -250,9 +269,9 @@ pub record IsNobody (step : Step) : Type 0 where
   pub opens : opened_by step ≡ []
   pub closes : closed_by step ≡ []
 
-pub keeps_nobody : (rules : Rules) (count : ℕ) (open_as : ℕ → ℕ) (places : ℕ) (steps : List Step) (step : Step) → Keeps rules count open_as places steps → IsNobody step → IsFair rules steps step
-    → ((id : ℕ) → IsWithin id (turn_of (steps ++ step ∷ []))) → Keeps rules count open_as places (steps ++ step ∷ [])
-keeps_nobody rules count open_as places steps step keeps nobody fair within =
+pub keeps_nobody : (rules : Rules) (share also count : ℕ) (open_as : ℕ → ℕ) (places : ℕ) (steps : List Step) (step : Step) → Keeps rules share count open_as places steps → IsNobody step → IsFair rules steps step
+    → ((id : ℕ) → IsWithin also id (turn_of (steps ++ step ∷ []))) → Keeps rules also count open_as places (steps ++ step ∷ [])
+keeps_nobody rules share also count open_as places steps step keeps nobody fair within =
     let seated : IsSeated rules.seats (steps ++ step ∷ []) =
     let now : IsSeated rules.seats steps = always_end (IsSeated rules.seats) [] steps keeps.seated in
     omega (arith, now, ap length (none_more opened_by steps step nobody.opens), ap length (none_more closed_by steps step nobody.closes)) in
@@ -290,43 +309,44 @@ nobody_waited : (limit : ℕ) → IsNobody (Happens (Waited limit))
 nobody_waited limit = record { away = λ id. (refl, refl, refl); of_none = λ id own. own; opens = refl; closes = refl }
 
 -- a step that ends no turn, and in which nothing is read or handled
-within_quiet : (id : ℕ) (steps : List Step) (step : Step) → turn_of (steps ++ step ∷ []) ≡ turn_of steps ++ step ∷ [] → bytes_read id step ≡ [] → handled_in id step ≡ [] → IsWithin id (turn_of steps) → IsWithin id (turn_of (steps ++ step ∷ []))
-within_quiet id steps step turn no_bytes no_frame within =
+within_quiet : (share id : ℕ) (steps : List Step) (step : Step) → turn_of (steps ++ step ∷ []) ≡ turn_of steps ++ step ∷ [] → bytes_read id step ≡ [] → handled_in id step ≡ [] → IsWithin share id (turn_of steps) → IsWithin share id (turn_of (steps ++ step ∷ []))
+within_quiet share id steps step turn no_bytes no_frame within =
     let same_frames : handled id (turn_of (steps ++ step ∷ [])) ≡ handled id (turn_of steps) = ap (handled id) turn ∙ none_more (handled_in id) (turn_of steps) step no_frame in
     let same_bytes : came id (turn_of (steps ++ step ∷ [])) ≡ came id (turn_of steps) = ap (came id) turn ∙ none_more (bytes_read id) (turn_of steps) step no_bytes in
     record { frames = omega (arith, ap length same_frames, within.frames); bytes = omega (arith, ap length same_bytes, within.bytes) }
 
-pub within_none : (id : ℕ) → IsWithin id []
-within_none id = record { frames = omega arith; bytes = omega arith }
+pub within_none : (share id : ℕ) → IsWithin share id []
+within_none share id = record { frames = omega arith; bytes = omega arith }
 
 goes_on_turn : (steps : List Step) (step : Step) → ((turn : List Step) → turn_behind turn step ≡ turn ++ step ∷ []) → turn_of (steps ++ step ∷ []) ≡ turn_of steps ++ step ∷ []
 goes_on_turn steps step one = fold-append turn_behind [] steps (step ∷ []) ∙ one (turn_of steps)
 
-pub keeps_timed : (rules : Rules) (count : ℕ) (open_as : ℕ → ℕ) (places time : ℕ) (steps : List Step) → Keeps rules count open_as places steps → Keeps rules count open_as places (steps ++ Happens (Timed time) ∷ [])
-keeps_timed rules count open_as places time steps keeps =
-    keeps_nobody rules count open_as places steps (Happens (Timed time)) keeps (nobody_timed time) tt (λ id. within_quiet id steps (Happens (Timed time)) (goes_on_turn steps (Happens (Timed time)) (λ turn. refl)) refl refl (keeps.within id))
+pub keeps_timed : (rules : Rules) (share count : ℕ) (open_as : ℕ → ℕ) (places time : ℕ) (steps : List Step) → Keeps rules share count open_as places steps → Keeps rules share count open_as places (steps ++ Happens (Timed time) ∷ [])
+keeps_timed rules share count open_as places time steps keeps =
+    keeps_nobody rules share share count open_as places steps (Happens (Timed time)) keeps (nobody_timed time) tt (λ id. within_quiet share id steps (Happens (Timed time)) (goes_on_turn steps (Happens (Timed time)) (λ turn. refl)) refl refl (keeps.within id))
 
-pub keeps_none : (rules : Rules) (count : ℕ) (open_as : ℕ → ℕ) (places : ℕ) (steps : List Step) → Keeps rules count open_as places steps → Keeps rules count open_as places (steps ++ Happens NoneOpened ∷ [])
-keeps_none rules count open_as places steps keeps =
-    keeps_nobody rules count open_as places steps (Happens NoneOpened) keeps nobody_none tt (λ id. within_quiet id steps (Happens NoneOpened) (goes_on_turn steps (Happens NoneOpened) (λ turn. refl)) refl refl (keeps.within id))
+pub keeps_none : (rules : Rules) (share count : ℕ) (open_as : ℕ → ℕ) (places : ℕ) (steps : List Step) → Keeps rules share count open_as places steps → Keeps rules share count open_as places (steps ++ Happens NoneOpened ∷ [])
+keeps_none rules share count open_as places steps keeps =
+    keeps_nobody rules share share count open_as places steps (Happens NoneOpened) keeps nobody_none tt (λ id. within_quiet share id steps (Happens NoneOpened) (goes_on_turn steps (Happens NoneOpened) (λ turn. refl)) refl refl (keeps.within id))
 
-pub keeps_unwaited : (rules : Rules) (count : ℕ) (open_as : ℕ → ℕ) (places : ℕ) (steps : List Step) → Keeps rules count open_as places steps → Keeps rules count open_as places (steps ++ Happens Unwaited ∷ [])
-keeps_unwaited rules count open_as places steps keeps =
-    keeps_nobody rules count open_as places steps (Happens Unwaited) keeps nobody_unwaited tt (λ id. within_quiet id steps (Happens Unwaited) (goes_on_turn steps (Happens Unwaited) (λ turn. refl)) refl refl (keeps.within id))
+pub keeps_unwaited : (rules : Rules) (share count : ℕ) (open_as : ℕ → ℕ) (places : ℕ) (steps : List Step) → Keeps rules share count open_as places steps → Keeps rules share count open_as places (steps ++ Happens Unwaited ∷ [])
+keeps_unwaited rules share count open_as places steps keeps =
+    keeps_nobody rules share share count open_as places steps (Happens Unwaited) keeps nobody_unwaited tt (λ id. within_quiet share id steps (Happens Unwaited) (goes_on_turn steps (Happens Unwaited) (λ turn. refl)) refl refl (keeps.within id))
 
-pub keeps_settled : (rules : Rules) (count : ℕ) (open_as : ℕ → ℕ) (places : ℕ) (done : Bool) (steps : List Step) → Keeps rules count open_as places steps → Keeps rules count open_as places (steps ++ Settles done ∷ [])
-keeps_settled rules count open_as places done steps keeps =
-    keeps_nobody rules count open_as places steps (Settles done) keeps (nobody_settled done) tt (λ id. within_quiet id steps (Settles done) (goes_on_turn steps (Settles done) (λ turn. refl)) refl refl (keeps.within id))
+pub keeps_settled : (rules : Rules) (share count : ℕ) (open_as : ℕ → ℕ) (places : ℕ) (done : Bool) (steps : List Step) → Keeps rules share count open_as places steps → Keeps rules share count open_as places (steps ++ Settles done ∷ [])
+keeps_settled rules share count open_as places done steps keeps =
+    keeps_nobody rules share share count open_as places steps (Settles done) keeps (nobody_settled done) tt (λ id. within_quiet share id steps (Settles done) (goes_on_turn steps (Settles done) (λ turn. refl)) refl refl (keeps.within id))
 
-pub keeps_waited : (rules : Rules) (count : ℕ) (open_as : ℕ → ℕ) (places limit : ℕ) (steps : List Step) → Keeps rules count open_as places steps → IsFair rules steps (Happens (Waited limit)) → Keeps rules count open_as places (steps ++ Happens (Waited limit) ∷ [])
-keeps_waited rules count open_as places limit steps keeps fair =
-    keeps_nobody rules count open_as places steps (Happens (Waited limit)) keeps (nobody_waited limit) fair (λ id. subst (IsWithin id) (sym (turn_waited steps limit)) (within_none id))
+-- a turn begins, with any share
+pub keeps_waited : (rules : Rules) (share also count : ℕ) (open_as : ℕ → ℕ) (places limit : ℕ) (steps : List Step) → Keeps rules share count open_as places steps → IsFair rules steps (Happens (Waited limit)) → Keeps rules also count open_as places (steps ++ Happens (Waited limit) ∷ [])
+keeps_waited rules share also count open_as places limit steps keeps fair =
+    keeps_nobody rules share also count open_as places steps (Happens (Waited limit)) keeps (nobody_waited limit) fair (λ id. subst (IsWithin also id) (sym (turn_waited steps limit)) (within_none also id))
 
 -- ---- one more, one less
 
-pub keeps_opened : (rules : Rules) (count : ℕ) (open_as open_now : ℕ → ℕ) (places : ℕ) (steps : List Step) → Keeps rules count open_as places steps → places < rules.seats → ((total : ℕ) → rules.total ≡ Some total → count < total)
-    → ((id : ℕ) → open_now id ≡ open_as id + one_at count id) → Keeps rules (count + 1) open_now (places + 1) (steps ++ Happens (Opened count) ∷ [])
-keeps_opened rules count open_as open_now places steps keeps seats wanted is =
+pub keeps_opened : (rules : Rules) (share count : ℕ) (open_as open_now : ℕ → ℕ) (places : ℕ) (steps : List Step) → Keeps rules share count open_as places steps → places < rules.seats → ((total : ℕ) → rules.total ≡ Some total → count < total)
+    → ((id : ℕ) → open_now id ≡ open_as id + one_at count id) → Keeps rules share (count + 1) open_now (places + 1) (steps ++ Happens (Opened count) ∷ [])
+keeps_opened rules share count open_as open_now places steps keeps seats wanted is =
     let step : Step = Happens (Opened count) in
     let none_yet : open_as count ≡ 0 = elim (cases_zero (open_as count)) [ inl none ↦ none | inr some ↦ absurd (lt_self count (keeps.below count some)) ] in
     let opened_is : length (opened (steps ++ step ∷ [])) ≡ length (opened steps) + 1 = omega (arith, ap length (one_more opened_by steps step), length-append (opened steps) (count ∷ [])) in
@@ -363,7 +383,7 @@ keeps_opened rules count open_as open_now places steps keeps seats wanted is =
       taken = omega (arith, opened_is, closed_is, keeps.taken);
       numbered = one_more opened_by steps step ∙ (ap (λ (l : List ℕ). l ++ count ∷ []) keeps.numbered ∙ sym (numbers_more count));
       fair = each_both (IsFair rules) [] steps (step ∷ []) keeps.fair (tt, tt);
-      within = λ id. within_quiet id steps step (goes_on_turn steps step (λ turn. refl)) refl refl (keeps.within id);
+      within = λ id. within_quiet share id steps step (goes_on_turn steps step (λ turn. refl)) refl refl (keeps.within id);
       wanted = λ total reached. let less : count < total = wanted total reached in omega (arith, less);
       limited = λ id. limited_on id steps (step ∷ []) refl (keeps.limited id);
     }
@@ -379,9 +399,9 @@ pub record Leaves (idle who : ℕ) (why : Departure) (steps : List Step) : Type 
 still_open : (who id one now : ℕ) → who ≡ id → one ≡ now + one_at who id → one ≤ 1 → 0 < now → ⊥
 still_open who id one now e is apart some = let here : one_at who id ≡ 1 = subst (λ (i : ℕ). one_at who i ≡ 1) e (one_here who) in absurd (omega (arith, is, apart, some, here))
 
-pub keeps_closed : (rules : Rules) (count : ℕ) (open_as open_now : ℕ → ℕ) (places places_now who : ℕ) (why : Departure) (steps : List Step) → Keeps rules count open_as places steps → Leaves rules.idle who why steps
-    → ((id : ℕ) → open_as id ≡ open_now id + one_at who id) → places ≡ places_now + 1 → Keeps rules count open_now places_now (steps ++ Happens (Closed who why) ∷ [])
-keeps_closed rules count open_as open_now places places_now who why steps keeps leaves is size =
+pub keeps_closed : (rules : Rules) (share count : ℕ) (open_as open_now : ℕ → ℕ) (places places_now who : ℕ) (why : Departure) (steps : List Step) → Keeps rules share count open_as places steps → Leaves rules.idle who why steps
+    → ((id : ℕ) → open_as id ≡ open_now id + one_at who id) → places ≡ places_now + 1 → Keeps rules share count open_now places_now (steps ++ Happens (Closed who why) ∷ [])
+keeps_closed rules share count open_as open_now places places_now who why steps keeps leaves is size =
     let step : Step = Happens (Closed who why) in
     let less : who < count = keeps.below who (omega (arith, is who, one_here who)) in
     let was_open : IsOpenAfter who steps = record { was_opened = keeps.all who less; stays = λ reason there. keeps.stays who reason (omega (arith, is who, one_here who)) there } in
@@ -410,14 +430,14 @@ keeps_closed rules count open_as open_now places places_now who why steps keeps 
       taken = omega (arith, opened_is, closed_is, keeps.taken, size);
       numbered = none_more opened_by steps step refl ∙ keeps.numbered;
       fair = each_both (IsFair rules) [] steps (step ∷ []) keeps.fair (tt, tt);
-      within = λ id. within_quiet id steps step (goes_on_turn steps step (λ turn. refl)) refl refl (keeps.within id);
+      within = λ id. within_quiet share id steps step (goes_on_turn steps step (λ turn. refl)) refl refl (keeps.within id);
       wanted = keeps.wanted;
       limited = λ id. limited_on id steps (step ∷ []) refl (keeps.limited id);
     }
 
 -- at first no connection is open
-pub keeps_start : (rules : Rules) → Keeps rules 0 (λ id. 0) 0 []
-keeps_start rules = record {
+pub keeps_start : (rules : Rules) (share : ℕ) → Keeps rules share 0 (λ id. 0) 0 []
+keeps_start rules share = record {
   apart = λ id. omega arith;
   below = λ id some. absurd (omega (arith, some));
   gone = λ id is_below none. absurd (omega (arith, is_below));
@@ -429,7 +449,7 @@ keeps_start rules = record {
   taken = refl;
   numbered = refl;
   fair = tt;
-  within = λ id. within_none id;
+  within = λ id. within_none share id;
   wanted = λ total reached. omega arith;
   limited = λ id. let few : 0 ≤ frames_bound = omega arith in few;
 }

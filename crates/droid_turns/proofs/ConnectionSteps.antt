@@ -1,12 +1,12 @@
 -- Steps of one connection, one after the other.
-use Rattle.std.proofs.Common.{◌≡◌, ℕ, ◌+◌, ◌-◌, ◌<◌, ◌≤◌, List, [], ◌∷◌, ◌++◌, length, Option, Some, None, refl, sym, ap, subst, ◌∙◌, append_assoc, arith}
+use Rattle.std.proofs.Common.{◌≡◌, ℕ, ◌+◌, List, [], ◌∷◌, ◌++◌, length, Option, Some, None, refl, sym, ap, subst, ◌∙◌, append_assoc, arith}
 use Rattle.std.proofs.lemmas.List.{append-nil, length-append}
 use Rattle.droid_frame.specs.Frames.{frame_bytes}
 use Rattle.droid_frame.specs.declared.frame.Frame.{Frame}
 use Rattle.droid_frame.specs.declared.reply.Reply.{Reply}
 use Rattle.droid_turns.specs.Departures.{IsServed}
 use Rattle.droid_turns.specs.Events.{Read}
-use Rattle.droid_turns.specs.Peers.{Advances, InTurn, IsHearing, IsQuiet, IsRoom, Kept, Lends, Lending, Stands, Taking, Turns}
+use Rattle.droid_turns.specs.Peers.{Advances, InTurn, IsHearing, IsQuiet, Kept, Lends, Lending, Stands, Taking, Turns}
 use Rattle.droid_turns.specs.Steps.{Handles, Happens, IsTraffic, Step, bytes_read, came, handled, handled_in}
 use Rattle.droid_turns.proofs.OwnSteps.{gathered, handled_here, none_more, one_more, read_here}
 use Rattle.droid_turns.proofs.Moments.{all_both, always_both, always_one}
@@ -63,62 +63,61 @@ advances_handled id now old middle new frame reply first one goes =
 
 -- ---- what happened in a turn goes on
 
-turn_as : (id room count also : ℕ) (turn other : List Step) → count ≡ also → turn ≡ other → InTurn id room count turn → InTurn id room also other
-turn_as id room count also turn other is same in_turn = subst (λ (n : ℕ). InTurn id room n other) is (subst (InTurn id room count) same in_turn)
+turn_as : (id read count also : ℕ) (turn other : List Step) → count ≡ also → turn ≡ other → InTurn id read count turn → InTurn id read also other
+turn_as id read count also turn other is same in_turn = subst (λ (n : ℕ). InTurn id read n other) is (subst (InTurn id read count) same in_turn)
 
-pub turns_both : (id room middle left one other : ℕ) (first later : List Step) → Turns id room middle one first → Turns id middle left other later → Turns id room left (one + other) (first ++ later)
-turns_both id room middle left one other first later goes further = record {
+pub turns_both : (id read middle left one other : ℕ) (first later : List Step) → Turns id read middle one first → Turns id middle left other later → Turns id read left (one + other) (first ++ later)
+turns_both id read middle left one other first later goes further = record {
   goes = λ count turn in_turn.
       let sum : (count + one) + other ≡ count + (one + other) = omega arith in
       turn_as id left ((count + one) + other) (count + (one + other)) ((turn ++ first) ++ later) (turn ++ (first ++ later)) sum (append_assoc turn first later) (further.goes (count + one) (turn ++ first) (goes.goes count turn in_turn));
+  handles = omega (arith, ap length (gathered (handled_in id) first later), length-append (handled id first) (handled id later), goes.handles, further.handles);
   hearing = all_both IsHearing first later goes.hearing further.hearing;
 }
 
-pub turns_none : (id room : ℕ) → Turns id room room 0 []
-turns_none id room = record {
-  goes = λ count turn in_turn. let same : count ≡ count + 0 = omega arith in turn_as id room count (count + 0) turn (turn ++ []) same (sym (append-nil turn)) in_turn;
+pub turns_none : (id read : ℕ) → Turns id read read 0 []
+turns_none id read = record {
+  goes = λ count turn in_turn. let same : count ≡ count + 0 = omega arith in turn_as id read count (count + 0) turn (turn ++ []) same (sym (append-nil turn)) in_turn;
+  handles = refl;
   hearing = tt;
 }
 
 -- neither was anything read nor a frame handled
-pub turns_still : (id room : ℕ) (step : Step) → bytes_read id step ≡ [] → handled_in id step ≡ [] → IsHearing step → Turns id room room 0 (step ∷ [])
-turns_still id room step no_bytes no_frame hears = record {
+pub turns_still : (id read : ℕ) (step : Step) → bytes_read id step ≡ [] → handled_in id step ≡ [] → IsHearing step → Turns id read read 0 (step ∷ [])
+turns_still id read step no_bytes no_frame hears = record {
   goes = λ count turn in_turn. record {
     frames = ap length (none_more (handled_in id) turn step no_frame) ∙ (in_turn.frames ∙ (let same : count ≡ count + 0 = omega arith in same));
-    bytes = subst (λ (l : List ℕ). IsRoom room (length l)) (sym (none_more (bytes_read id) turn step no_bytes)) in_turn.bytes;
+    bytes = ap length (none_more (bytes_read id) turn step no_bytes) ∙ in_turn.bytes;
   };
+  handles = ap (λ (l : List (Frame × Reply)). length (l ++ [])) no_frame;
   hearing = (hears, tt);
 }
 
-room_less : (room read size : ℕ) → IsRoom room read → 0 < room → size ≤ 65536 → IsRoom (room - size) (read + size)
-room_less room read size is some few =
-    let all : room + read ≡ 4194304 = is.all some in
-    record { all = λ more. omega (arith, all, more); over = λ none. omega (arith, all, none); within = omega (arith, all, some, few) }
-
-pub turns_read : (id room : ℕ) (bytes : List ℕ) → 0 < room → length bytes ≤ 65536 → Turns id room (room - length bytes) 0 (Happens (Read id bytes) ∷ [])
-turns_read id room bytes some few =
+pub turns_read : (id read : ℕ) (bytes : List ℕ) → Turns id read (read + length bytes) 0 (Happens (Read id bytes) ∷ [])
+turns_read id read bytes =
     let step : Step = Happens (Read id bytes) in
     record {
       goes = λ count turn in_turn.
           let all : came id (turn ++ step ∷ []) ≡ came id turn ++ bytes = one_more (bytes_read id) turn step ∙ ap (λ (l : List ℕ). came id turn ++ l) (read_here id bytes) in
-          let size : length (came id turn) + length bytes ≡ length (came id (turn ++ step ∷ [])) = omega (arith, length-append (came id turn) bytes, ap length all) in
           record {
             frames = ap length (none_more (handled_in id) turn step refl) ∙ (in_turn.frames ∙ (let same : count ≡ count + 0 = omega arith in same));
-            bytes = subst (IsRoom (room - length bytes)) size (room_less room (length (came id turn)) (length bytes) in_turn.bytes some few);
+            bytes = omega (arith, length-append (came id turn) bytes, ap length all, in_turn.bytes);
           };
+      handles = refl;
       hearing = (tt, tt);
     }
 
-pub turns_handled : (id room : ℕ) (frame : Frame) (reply : Reply) → Turns id room room 1 (Handles id frame reply ∷ [])
-turns_handled id room frame reply =
+pub turns_handled : (id read : ℕ) (frame : Frame) (reply : Reply) → Turns id read read 1 (Handles id frame reply ∷ [])
+turns_handled id read frame reply =
     let step : Step = Handles id frame reply in
     record {
       goes = λ count turn in_turn.
           let all : handled id (turn ++ step ∷ []) ≡ handled id turn ++ (frame, reply) ∷ [] = one_more (handled_in id) turn step ∙ ap (λ (l : List (Frame × Reply)). handled id turn ++ l) (handled_here id frame reply) in
           record {
             frames = omega (arith, ap length all, length-append (handled id turn) ((frame, reply) ∷ []), in_turn.frames);
-            bytes = subst (λ (l : List ℕ). IsRoom room (length l)) (sym (none_more (bytes_read id) turn step refl)) in_turn.bytes;
+            bytes = ap length (none_more (bytes_read id) turn step refl) ∙ in_turn.bytes;
           };
+      handles = ap (λ (l : List (Frame × Reply)). length (l ++ [])) (handled_here id frame reply);
       hearing = (tt, tt);
     }
 

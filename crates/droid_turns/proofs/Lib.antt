@@ -13,6 +13,7 @@ pub mod ReadSteps
 pub mod Results
 pub mod ServesMore
 pub mod Settling
+pub mod Shares
 pub mod Streams
 pub mod Taking
 pub mod Tries

@@ -1,7 +1,9 @@
 -- A connection is read, and its frames are handled.
-use Rattle.std.proofs.Common.{◌≡◌, ℕ, zero, suc, ◌+◌, ◌-◌, ◌<◌, ◌≤◌, Bool, cond, true, List, [], ◌∷◌, ◌++◌, length, take, drop, MatchOption, ◌≢◌, ◌⊎◌, Option, Some, None, IfNone, IfSome, refl, sym, ap, subst, ◌∙◌, append_assoc, arith, inl, inr}
+use Rattle.std.proofs.Common.{◌≡◌, ℕ, zero, suc, ◌+◌, ◌-◌, ◌<◌, ◌≤◌, Bool, cond, false, true, leb, ltb, List, [], ◌∷◌, ◌++◌, length, take, drop, MatchOption, ◌≢◌, ◌⊎◌, Option, Some, None, IfNone, IfSome, refl, sym, ap, subst, ◌∙◌, append_assoc, arith, inl, inr}
 use Rattle.std.proofs.lemmas.List.{append-nil, drop-take, length-append, length-drop, length-take, take-append-drop}
+use Rattle.std.proofs.lemmas.Bool.{and_from, false≢true, le-leb, lt-ltb}
 use Rattle.std.proofs.lemmas.Bool.Decides.{eqb_tells}
+use Rattle.std.specs.Prelude.{is_none}
 use Rattle.std.specs.declared.alloc.Global.{Global}
 use Rattle.std.specs.declared.vec.Vec.{Vec}
 use Rattle.droid_frame.specs.Frames.{frame_bytes}
@@ -15,7 +17,7 @@ use Rattle.droid_turns.specs.Feeding.{Brings, Fails, Waits}
 use Rattle.droid_turns.specs.Held.{Held}
 use Rattle.droid_turns.specs.Departures.{frames_bound, held_bound}
 use Rattle.droid_turns.specs.Events.{Ended, Event, Read, Unread}
-use Rattle.droid_turns.specs.Peers.{Advances, EndsAs, HearsSo, IsCounted, IsNew, IsWhole, Kept, Lending, Lends, RanDry, Stands, Taking, Turns, keep, kept_of, leaving_behind, unread}
+use Rattle.droid_turns.specs.Peers.{Advances, EndsAs, Hears, HearsSo, HearsSome, IsCounted, IsNew, IsWhole, Kept, Lending, Lends, Looks, RanDry, Rests, Stands, Taking, Turns, has_bytes, keep, kept_of, leaving_behind, may_be_read, unread}
 use Rattle.droid_turns.specs.Steps.{Goes, Handles, Happened, Happens, Moves, Step}
 use Rattle.droid_turns.specs.declared.departure.Departure.{Departure}
 use Rattle.droid_turns.specs.declared.departure.Departure.TheVariants as departures
@@ -23,7 +25,7 @@ use Rattle.droid_turns.specs.declared.peer.Peer.{Peer}
 use Rattle.droid_turns.proofs.ConnectionSteps.{advances_both, advances_handled, advances_none, advances_one, taking_both, turns_both, turns_handled, turns_none, turns_still}
 use Rattle.droid_turns.proofs.OwnSteps.{read_here}
 use Rattle.droid_turns.proofs.Moments.{goes_both, goes_handling, goes_moving}
-use Rattle.droid_turns.proofs.PeerSteps.{lends, served, stands_dry, stands_ended, stands_enough, stands_handled, stands_lost, stands_read, stands_unread, stops}
+use Rattle.droid_turns.proofs.PeerSteps.{happened_last, lends, served, stands_dry, stands_ended, stands_enough, stands_handled, stands_lost, stands_read, stands_unread, stops}
 use Rattle.droid_turns.proofs.ServesMore.{answer_bytes}
 
 -- ---- lists
@@ -276,31 +278,31 @@ answers_lost old new now steps frame reply lent spelled few small queue_is leavi
 
 -- ---- one frame after the other
 
-pub hears_none : (now : ℕ) (old : Peer) → old.room ≡ 4194304 → HearsSo now old old 0 []
-hears_none now old full = record {
+pub hears_none : (now : ℕ) (old : Peer) → HearsSo now old old 0 []
+hears_none now old = record {
   goes = advances_none old.id now (kept_of old);
-  turns = subst (λ (r : ℕ). Turns old.id r old.room 0 []) full (turns_none old.id old.room);
+  turns = turns_none old.id old.read;
   counted = omega arith;
 }
 
 -- no further frame came
-pub hears_end : (now : ℕ) (start old new : Peer) (count : ℕ) (first later : List Step) → old.id ≡ start.id → new.frames ≡ old.frames → HearsSo now start old count first → Advances old.id now (kept_of old) (kept_of new) later → Turns old.id old.room new.room 0 later
+pub hears_end : (now : ℕ) (start old new : Peer) (count : ℕ) (first later : List Step) → old.id ≡ start.id → new.frames ≡ old.frames → HearsSo now start old count first → Advances old.id now (kept_of old) (kept_of new) later → Turns old.id old.read new.read 0 later
     → HearsSo now start new count (first ++ later)
 hears_end now start old new count first later same frames so goes turns =
     let sum : count + 0 ≡ count = omega arith in
     record {
       goes = advances_both start.id now (kept_of start) (kept_of old) (kept_of new) first later so.goes (subst (λ (i : ℕ). Advances i now (kept_of old) (kept_of new) later) same goes);
-      turns = subst (λ (n : ℕ). Turns start.id 4194304 new.room n (first ++ later)) sum
-          (turns_both start.id 4194304 old.room new.room count 0 first later so.turns (subst (λ (i : ℕ). Turns i old.room new.room 0 later) same turns));
+      turns = subst (λ (n : ℕ). Turns start.id start.read new.read n (first ++ later)) sum
+          (turns_both start.id start.read old.read new.read count 0 first later so.turns (subst (λ (i : ℕ). Turns i old.read new.read 0 later) same turns));
       counted = frames ∙ so.counted;
     }
 
 -- a frame came, and was handled
 pub hears_more : (now : ℕ) (start old middle new : Peer) (count : ℕ) (frame : Frame) (reply : Reply) (first later : List Step) → old.id ≡ start.id → middle.id ≡ old.id → new.frames ≡ old.frames + 1 → HearsSo now start old count first
-    → Lending old.id now (kept_of old) (kept_of middle) frame later → Turns old.id old.room middle.room 0 later → new.room ≡ middle.room
+    → Lending old.id now (kept_of old) (kept_of middle) frame later → Turns old.id old.read middle.read 0 later → new.read ≡ middle.read
     → ((steps : List Step) → Lends middle.id (kept_of middle) now steps frame → Stands middle.id (kept_of new) now (steps ++ Handles middle.id frame reply ∷ []))
     → HearsSo now start new (count + 1) (first ++ (later ++ Handles start.id frame reply ∷ []))
-hears_more now start old middle new count frame reply first later same also frames so lending turns room_is handles =
+hears_more now start old middle new count frame reply first later same also frames so lending turns read_is handles =
     let id : ℕ = start.id in
     let step : Step = Handles id frame reply in
     let ours : middle.id ≡ id = also ∙ same in
@@ -308,28 +310,76 @@ hears_more now start old middle new count frame reply first later same also fram
     let answers : (steps : List Step) → Lends id (kept_of middle) now steps frame → Stands id (kept_of new) now (steps ++ step ∷ []) =
     subst (λ (i : ℕ). (steps : List Step) → Lends i (kept_of middle) now steps frame → Stands i (kept_of new) now (steps ++ Handles i frame reply ∷ [])) ours handles in
     let goes : Advances id now (kept_of old) (kept_of new) (later ++ step ∷ []) = advances_handled id now (kept_of old) (kept_of middle) (kept_of new) frame reply later lent answers in
-    let came : Turns id old.room middle.room 0 later = subst (λ (i : ℕ). Turns i old.room middle.room 0 later) same turns in
-    let both : Turns id old.room middle.room (0 + 1) (later ++ step ∷ []) = turns_both id old.room middle.room middle.room 0 1 later (step ∷ []) came (turns_handled id middle.room frame reply) in
-    let all : Turns id 4194304 middle.room (count + (0 + 1)) (first ++ (later ++ step ∷ [])) = turns_both id 4194304 old.room middle.room count (0 + 1) first (later ++ step ∷ []) so.turns both in
+    let came : Turns id old.read middle.read 0 later = subst (λ (i : ℕ). Turns i old.read middle.read 0 later) same turns in
+    let both : Turns id old.read middle.read (0 + 1) (later ++ step ∷ []) = turns_both id old.read middle.read middle.read 0 1 later (step ∷ []) came (turns_handled id middle.read frame reply) in
+    let all : Turns id start.read middle.read (count + (0 + 1)) (first ++ (later ++ step ∷ [])) = turns_both id start.read old.read middle.read count (0 + 1) first (later ++ step ∷ []) so.turns both in
     let sum : count + (0 + 1) ≡ count + 1 = omega arith in
     record {
       goes = advances_both id now (kept_of start) (kept_of old) (kept_of new) first (later ++ step ∷ []) so.goes goes;
-      turns = subst (λ (r : ℕ). Turns id 4194304 r (count + 1) (first ++ (later ++ step ∷ []))) (sym room_is)
-          (subst (λ (n : ℕ). Turns id 4194304 middle.room n (first ++ (later ++ step ∷ []))) sum all);
+      turns = subst (λ (r : ℕ). Turns id start.read r (count + 1) (first ++ (later ++ step ∷ []))) (sym read_is)
+          (subst (λ (n : ℕ). Turns id start.read middle.read n (first ++ (later ++ step ∷ []))) sum all);
       counted = omega (arith, frames, so.counted);
     }
+
+-- ---- it is looked at, and it is heard
+
+-- bytes of it wait to be handled, and may be
+pub has_from : (peer : Peer) → peer.leaving ≡ None → length peer.queue.bytes ≤ 8388608 → peer.start < peer.end → has_bytes peer ≡ true
+has_from peer stays few less =
+    and_from (may_be_read peer) (ltb peer.start peer.end) (and_from (is_none peer.leaving) (leb (length peer.queue.bytes) 8388608) (ap is_none stays) (le-leb (length peer.queue.bytes) 8388608 few)) (lt-ltb peer.start peer.end less)
+
+-- it was not read
+pub looks_none : (now : ℕ) (old : Peer) → (has_bytes old ≡ false → (share count : ℕ) → Rests share (record old { drained = false; read = 0 }) count) → Looks now old (record old { drained = false; read = 0 }) []
+looks_none now old rests = record {
+  goes = advances_none old.id now (kept_of old);
+  turns = turns_none old.id 0;
+  few = omega arith;
+  dry = λ is. absurd (false≢true is);
+  rests = rests;
+  counted = refl;
+}
+
+-- it had no bytes
+pub hears_pass : (now share : ℕ) (old : Peer) → IsWhole old → has_bytes old ≡ false → Hears now share old old []
+hears_pass now share old whole none = record {
+  goes = advances_none old.id now (kept_of old);
+  count = 0;
+  few = omega arith;
+  had = λ some. absurd (omega (arith, some));
+  turns = turns_none old.id old.read;
+  within = λ few. few;
+  dry = λ turn so is. subst (RanDry old) (sym (append-nil turn)) (so is);
+  rests = λ so. so 0 none;
+  counted = omega arith;
+  limited = frames_few old.frames old.leaving whole.counts;
+}
+
+-- or it had some
+pub hears_some : (now share : ℕ) (old new : Peer) (steps : List Step) → has_bytes old ≡ true → HearsSome now share (record old { drained = false }) new steps → Hears now share old new steps
+hears_some now share old new steps has some = record {
+  goes = some.goes;
+  count = some.count;
+  few = some.few;
+  had = λ more. has;
+  turns = some.turns;
+  within = some.within;
+  dry = λ turn so is. let dry = some.dry is in record { nothing = happened_last (Read new.id []) turn steps dry.nothing; no_frame = dry.no_frame };
+  rests = λ so. some.rests;
+  counted = some.counted;
+  limited = some.limited;
+}
 
 -- ---- what came, and then its reply
 
 pub record CameOne (now : ℕ) (old middle : Peer) (frame : Frame) (steps : List Step) : Type 0 where
   pub lending : Lending old.id now (kept_of old) (kept_of middle) frame steps
-  pub turns : Turns old.id old.room middle.room 0 steps
+  pub turns : Turns old.id old.read middle.read 0 steps
 
 pub record AnswersOne (now : ℕ) (start old middle : Peer) (frame : Frame) (reply : Reply) (steps : List Step) : Type 0 where
   pub came : List Step
   pub parts : steps ≡ came ++ Handles start.id frame reply ∷ []
   pub lending : Lending old.id now (kept_of old) (kept_of middle) frame came
-  pub turns : Turns old.id old.room middle.room 0 came
+  pub turns : Turns old.id old.read middle.read 0 came
 
 pub answers_after : {C H : Type 0} (does : C → Event → C → Type 0) (handles : H → Frame → Reply → H → Type 0) (settles : H → Bool → H → Type 0) (now : ℕ) (start old middle : Peer) (frame : Frame) (reply : Reply) (c c1 : C) (h h1 : H) → Moves does c c1 (CameOne now old middle frame)
     → handles h frame reply h1 → Goes does handles settles c h c1 h1 (AnswersOne now start old middle frame reply)
@@ -344,36 +394,36 @@ answers_after does handles settles now start old middle frame reply c c1 h h1 mo
 -- so far, what was read and what is kept
 pub record ReadsSo (now : ℕ) (old new : Peer) (steps : List Step) : Type 0 where
   pub goes : Advances old.id now (kept_of old) (kept_of new) steps
-  pub turns : Turns old.id old.room new.room 0 steps
+  pub turns : Turns old.id old.read new.read 0 steps
 
 pub reads_so_none : (now : ℕ) (old : Peer) → ReadsSo now old old []
-reads_so_none now old = record { goes = advances_none old.id now (kept_of old); turns = turns_none old.id old.room }
+reads_so_none now old = record { goes = advances_none old.id now (kept_of old); turns = turns_none old.id old.read }
 
 -- what was taken of what was read
-pub takes_so : (now : ℕ) (start old new : Peer) (frame : Option Frame) (steps : List Step) → old.id ≡ start.id → new.room ≡ old.room → ReadsSo now start old steps → Taking old.id now (kept_of old) (kept_of new) frame []
-    → Taking start.id now (kept_of start) (kept_of new) frame steps × Turns start.id start.room new.room 0 steps
-takes_so now start old new frame steps same room_is so taking = (
+pub takes_so : (now : ℕ) (start old new : Peer) (frame : Option Frame) (steps : List Step) → old.id ≡ start.id → new.read ≡ old.read → ReadsSo now start old steps → Taking old.id now (kept_of old) (kept_of new) frame []
+    → Taking start.id now (kept_of start) (kept_of new) frame steps × Turns start.id start.read new.read 0 steps
+takes_so now start old new frame steps same read_is so taking = (
   subst (Taking start.id now (kept_of start) (kept_of new) frame) (append-nil steps)
       (taking_both start.id now (kept_of start) (kept_of old) (kept_of new) frame steps [] so.goes (subst (λ (i : ℕ). Taking i now (kept_of old) (kept_of new) frame []) same taking)),
-  subst (λ (r : ℕ). Turns start.id start.room r 0 steps) (sym room_is) so.turns,
+  subst (λ (r : ℕ). Turns start.id start.read r 0 steps) (sym read_is) so.turns,
 )
 
 -- and then more was read
-pub reads_so_more : (now : ℕ) (start old new : Peer) (first later : List Step) → old.id ≡ start.id → ReadsSo now start old first → Advances old.id now (kept_of old) (kept_of new) later → Turns old.id old.room new.room 0 later → ReadsSo now start new (first ++ later)
+pub reads_so_more : (now : ℕ) (start old new : Peer) (first later : List Step) → old.id ≡ start.id → ReadsSo now start old first → Advances old.id now (kept_of old) (kept_of new) later → Turns old.id old.read new.read 0 later → ReadsSo now start new (first ++ later)
 reads_so_more now start old new first later same so goes turns =
     record {
       goes = advances_both start.id now (kept_of start) (kept_of old) (kept_of new) first later so.goes (subst (λ (i : ℕ). Advances i now (kept_of old) (kept_of new) later) same goes);
-      turns = turns_both start.id start.room old.room new.room 0 0 first later so.turns (subst (λ (i : ℕ). Turns i old.room new.room 0 later) same turns);
+      turns = turns_both start.id start.read old.read new.read 0 0 first later so.turns (subst (λ (i : ℕ). Turns i old.read new.read 0 later) same turns);
     }
 
 -- a read that gave nothing, in a turn
 pub nothing_read : (old : Peer) (buffer : Vec ℕ Global) (now : ℕ) → IsWhole old → unread old ≡ []
     → Advances old.id now (kept_of old) (kept_of (record old { buffer = buffer; drained = true })) (Happens (Read old.id []) ∷ [])
-    × Turns old.id old.room old.room 0 (Happens (Read old.id []) ∷ [])
+    × Turns old.id old.read old.read 0 (Happens (Read old.id []) ∷ [])
     × (true ≡ true → RanDry (record old { buffer = buffer; drained = true }) (Happens (Read old.id []) ∷ []))
 nothing_read old buffer now whole none = (
   reads_none old buffer now whole none,
-  turns_still old.id old.room (Happens (Read old.id [])) (read_here old.id []) refl tt,
+  turns_still old.id old.read (Happens (Read old.id [])) (read_here old.id []) refl tt,
   λ is. ran_dry old (record old { buffer = buffer; drained = true }) refl refl (none_in old buffer whole none) whole.no_frame,
 )
 

@@ -63,11 +63,12 @@ StopsBy id steps held faults.Read = Happened (Unread id) steps
 pub record IsIdle (idle : ℕ) (times : Times) : Type 0 where
   pub long : idle ≤ times.now - times.active
 
--- waiting failed, or there were 2^64 - 1 waits
+-- a wait that did not fail
 abbrev pub is_wait : Step → Bool
 is_wait (Happens (Waited limit)) = true
 is_wait _ = false
 
+-- waiting failed, or there were 2^64 - 1 waits
 abbrev pub IsStopped : List Step → Type 0
 IsStopped steps = Happened Unwaited steps ⊎ (18446744073709551615 ≤ count_by is_wait steps)
 

@@ -7,6 +7,7 @@ use Rattle.droid_turns.specs.declared.connections.Took.{Took}
 use Rattle.droid_turns.specs.declared.connections.Took.TheVariants as took
 use Rattle.droid_turns.specs.declared.departure.Departure.{Departure}
 
+-- each with the number of the connection that it is about
 pub data Event : Type 0 where
   -- a wait of at most this many milliseconds is over
   Waited : (limit : ℕ) → Event
@@ -44,13 +45,14 @@ write_event id bytes (took.Bytes count) = Wrote id (take count bytes)
 write_event id bytes took.Nothing = Wrote id []
 write_event id bytes took.Broken = Unwritten id
 
--- no more bytes came, or were taken, than there is room for
+-- no more bytes came than there is room for
 abbrev pub CameWithin : Came → ℕ → Type 0
 CameWithin (came.Bytes count) room = count ≤ room
 CameWithin came.Nothing room = Unit {0}
 CameWithin came.End room = Unit {0}
 CameWithin came.Broken room = Unit {0}
 
+-- no more bytes were taken than were offered
 abbrev pub TookWithin : Took → ℕ → Type 0
 TookWithin (took.Bytes count) size = count ≤ size
 TookWithin took.Nothing size = Unit {0}

@@ -1,6 +1,7 @@
 -- For proofs only: what the loop keeps of an open connection, after the steps so far.
-use Rattle.std.specs.Prelude.{◌≡◌, ℕ, ◌+◌, ◌-◌, ◌<◌, ◌≤◌, ◌&&◌, ◌⊎◌, ◌==◌, if◌then◌else◌, not, nat_le, Bool, true}
-use Rattle.std.specs.Prelude.{false, List, [], ◌++◌, length, take, drop, Option, None, Some, Err, IsSome, is_none}
+use Rattle.std.specs.Prelude.{◌≡◌, ℕ, ◌+◌, ◌-◌, ◌*◌, ◌<◌, ◌≤◌, ◌&&◌, ◌⊎◌, ◌==◌, if◌then◌else◌, not, nat_le, nat_lt}
+use Rattle.std.specs.Prelude.{Bool, true, false, List, [], ◌++◌, length, take, drop, Option, None, Some, Err, IsSome}
+use Rattle.std.specs.Prelude.{is_none}
 use Rattle.std.specs.List.{AllByRecursion}
 use Rattle.droid_frame.specs.Frames.{frame_bytes}
 use Rattle.droid_frame.specs.Streams.{BeginsNoFrame, IsReadable, why}
@@ -26,9 +27,11 @@ pub record Kept : Type 0 where
   pub leaving : Option Departure
   pub active : ℕ
 
+-- the record of these four
 abbrev pub keep : List ℕ → List ℕ → Option Departure → ℕ → Kept
 keep held queued leaving active = record { held = held; queued = queued; leaving = leaving; active = active }
 
+-- what the loop keeps of a connection: what was fed or read of it is held, and its queue waits to be written
 abbrev pub kept_of : Peer → Kept
 kept_of peer = keep (peer.feed.bytes ++ unread peer) peer.queue.bytes peer.leaving peer.active
 
@@ -108,16 +111,10 @@ Taking id now old new (Some frame) steps = Lending id now old new frame steps
 
 -- ---- in a turn
 
--- how many bytes may still be read from the connection in this turn, by how many were read
-pub record IsRoom (room read : ℕ) : Type 0 where
-  pub all : 0 < room → room + read ≡ 4194304
-  pub over : room ≡ 0 → 4194304 ≤ read
-  pub within : read < 4259840
-
--- in this turn this many frames of the connection were handled, and this many bytes may still be read
-pub record InTurn (id room count : ℕ) (turn : List Step) : Type 0 where
+-- in this turn this many bytes of the connection were read, and this many of its frames handled
+pub record InTurn (id read count : ℕ) (turn : List Step) : Type 0 where
   pub frames : length (handled id turn) ≡ count
-  pub bytes : IsRoom room (length (came id turn))
+  pub bytes : length (came id turn) ≡ read
 
 -- nothing is written, the handler does not settle, and the loop does not wait
 abbrev pub IsHearing : Step → Type 0
@@ -127,9 +124,12 @@ IsHearing (Happens (Unwritten id)) = ⊥
 IsHearing (Settles done) = ⊥
 IsHearing _ = Unit {0}
 
--- in these steps this many more frames were handled, and nothing was written
-pub record Turns (id room left more : ℕ) (steps : List Step) : Type 0 where
-  pub goes : (count : ℕ) (turn : List Step) → InTurn id room count turn → InTurn id left (count + more) (turn ++ steps)
+-- in these steps this many more frames were handled, and nothing was written; in the turn so many bytes were read
+-- before them, and so many behind them
+pub record Turns (id read now_read more : ℕ) (steps : List Step) : Type 0 where
+  pub goes : (count : ℕ) (turn : List Step) → InTurn id read count turn
+      → InTurn id now_read (count + more) (turn ++ steps)
+  pub handles : length (handled id steps) ≡ more
   pub hearing : AllByRecursion IsHearing steps
 
 -- a read gave nothing, and all that was read is fed
@@ -137,28 +137,60 @@ pub record RanDry (peer : Peer) (steps : List Step) : Type 0 where
   pub nothing : Happened (Read peer.id []) steps
   pub no_frame : BeginsNoFrame (peer.feed.bytes ++ unread peer)
 
--- why no further frame of a connection is read in this turn
-pub data Rests (peer : Peer) (count : ℕ) : Type 0 where
-  ByLeaving : (is : IsSome peer.leaving) → Rests peer count
-  ByDrought : (is : peer.drained ≡ true) → Rests peer count
-  ByFrames : (is : count ≡ 16) → Rests peer count
-  ByBytes : (is : peer.room ≡ 0) → Rests peer count
-  ByQueue : (is : 8388608 < length peer.queue.bytes) → Rests peer count
+-- more may be read of it
+abbrev pub may_be_read : Peer → Bool
+may_be_read peer = is_none peer.leaving && nat_le (length peer.queue.bytes) 8388608
+
+-- bytes of it wait to be handled, and may be
+abbrev pub has_bytes : Peer → Bool
+has_bytes peer = may_be_read peer && nat_lt peer.start peer.end
+
+-- why no further frame of a connection is read in this turn, where this is its share
+pub data Rests (share : ℕ) (peer : Peer) (count : ℕ) : Type 0 where
+  ByLeaving : (is : IsSome peer.leaving) → Rests share peer count
+  ByDrought : (is : peer.drained ≡ true) → Rests share peer count
+  ByFrames : (is : count ≡ share) → Rests share peer count
+  ByBytes : (is : share * 65536 ≤ peer.read) → Rests share peer count
+  ByQueue : (is : 8388608 < length peer.queue.bytes) → Rests share peer count
+
+-- it was looked at in this turn
+pub record Looks (now : ℕ) (old new : Peer) (steps : List Step) : Type 0 where
+  pub goes : Advances old.id now (kept_of old) (kept_of new) steps
+  pub turns : Turns old.id 0 new.read 0 steps
+  pub few : new.read ≤ 65536
+  pub dry : new.drained ≡ true → RanDry new steps
+  pub rests : has_bytes new ≡ false → (share count : ℕ) → Rests share new count
+  pub counted : new.frames ≡ old.frames
 
 -- so far in a turn, in which this many frames were handled
 pub record HearsSo (now : ℕ) (old new : Peer) (count : ℕ) (steps : List Step) : Type 0 where
   pub goes : Advances old.id now (kept_of old) (kept_of new) steps
-  pub turns : Turns old.id 4194304 new.room count steps
+  pub turns : Turns old.id old.read new.read count steps
   pub counted : new.frames ≡ old.frames + count
 
--- it was heard in this turn
-pub record Hears (now : ℕ) (old new : Peer) (steps : List Step) : Type 0 where
+-- its frames were handled
+pub record HearsSome (now share : ℕ) (old new : Peer) (steps : List Step) : Type 0 where
   pub goes : Advances old.id now (kept_of old) (kept_of new) steps
   pub count : ℕ
-  pub few : count ≤ 16
-  pub turns : Turns old.id 4194304 new.room count steps
+  pub few : count ≤ share
+  pub turns : Turns old.id old.read new.read count steps
+  pub within : old.read < share * 65536 + 65536 → new.read < share * 65536 + 65536
   pub dry : new.drained ≡ true → RanDry new steps
-  pub rests : Rests new count
+  pub rests : Rests share new count
+  pub counted : new.frames ≡ old.frames + count
+  pub limited : new.frames ≤ frames_bound
+
+-- the same where it had bytes; else nothing happened
+pub record Hears (now share : ℕ) (old new : Peer) (steps : List Step) : Type 0 where
+  pub goes : Advances old.id now (kept_of old) (kept_of new) steps
+  pub count : ℕ
+  pub few : count ≤ share
+  pub had : 0 < count → has_bytes old ≡ true
+  pub turns : Turns old.id old.read new.read count steps
+  pub within : old.read < share * 65536 + 65536 → new.read < share * 65536 + 65536
+  pub dry : (turn : List Step) → (old.drained ≡ true → RanDry old turn) → new.drained ≡ true
+      → RanDry new (turn ++ steps)
+  pub rests : ((other : ℕ) → has_bytes old ≡ false → Rests share old other) → Rests share new count
   pub counted : new.frames ≡ old.frames + count
   pub limited : new.frames ≤ frames_bound
 
@@ -175,6 +207,7 @@ is_over_for waiting None = false
 is_over_for waiting (Some departures.Memory) = true
 is_over_for waiting (Some why) = waiting == 0
 
+-- it is over, by its queue and the reason for which it is to leave
 abbrev pub is_over : Peer → Bool
 is_over peer = is_over_for (length peer.queue.bytes) peer.leaving
 

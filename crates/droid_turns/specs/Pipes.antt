@@ -29,30 +29,32 @@ TookSo old new bytes (took_as.Bytes count) = Appends old new (take count bytes)
 TookSo old new bytes took_as.Nothing = Appends old new []
 TookSo old new bytes took_as.Broken = Appends old new []
 
--- A read calls the reader broken exactly where it failed, or was interrupted for the 65th time, within this read; a
--- write calls the writer broken exactly where that holds of it, or it is full.
+-- A read calls the reader broken exactly where it failed, or was interrupted for the 65th time, within this read.
 abbrev pub ReadsAs : ℕ → Seen → Came → Type 0
 ReadsAs start seen came_as.Broken = GivesUp start seen
 ReadsAs start seen _ = (count : ℕ) × Counts start seen count
 
+-- the same of a write, whose writer may also be full
 abbrev pub WritesAs : ℕ → Seen → Option ℕ → Took → Type 0
 WritesAs start seen room took_as.Broken = WriterStops start seen room
 WritesAs start seen room _ = (count : ℕ) × Counts start seen count
 
--- the same of an event
+-- what an event says of the reader: `Unread` stands for a broken one
 abbrev pub ReaderIs : ℕ → Seen → Event → Type 0
 ReaderIs start seen (Unread id) = GivesUp start seen
 ReaderIs start seen _ = (count : ℕ) × Counts start seen count
 
+-- what an event says of the writer: `Unwritten` stands for a broken one
 abbrev pub WriterIs : ℕ → Seen → Option ℕ → Event → Type 0
 WriterIs start seen room (Unwritten id) = WriterStops start seen room
 WriterIs start seen room _ = (count : ℕ) × Counts start seen count
 
--- the bytes that an event takes of the reader, and those that it gives to the writer
+-- the bytes that an event takes of the reader
 abbrev pub taken : Event → List ℕ
 taken (Read id bytes) = bytes
 taken _ = []
 
+-- the bytes that an event gives to the writer
 abbrev pub given : Event → List ℕ
 given (Wrote id bytes) = bytes
 given _ = []

@@ -60,13 +60,15 @@ abbrev pub handled_in : ℕ → Step → List (Frame × Reply)
 handled_in id (Handles who frame reply) = if who == id then (frame, reply) ∷ [] else []
 handled_in id _ = []
 
--- all bytes that came from it, all that it took, and all its frames that were handled, in order
+-- all bytes that came from it, in order
 abbrev pub came : ℕ → List Step → List ℕ
 came id steps = flat_map (bytes_read id) steps
 
+-- all bytes that it took, in order
 abbrev pub went : ℕ → List Step → List ℕ
 went id steps = flat_map (bytes_written id) steps
 
+-- all its frames that were handled, each with its reply, in order
 abbrev pub handled : ℕ → List Step → List (Frame × Reply)
 handled id steps = flat_map (handled_in id) steps
 
@@ -80,6 +82,7 @@ spelled_replies answered = flat_map (λ one. reply_frame one.0.version one.0.cli
 
 -- ---- of all connections
 
+-- the frame that a step handled, of whichever connection
 abbrev pub handled_by : Step → List (Frame × Reply)
 handled_by (Handles who frame reply) = (frame, reply) ∷ []
 handled_by (Happens event) = []
@@ -89,18 +92,21 @@ handled_by (Settles done) = []
 abbrev pub all_handled : List Step → List (Frame × Reply)
 all_handled steps = flat_map handled_by steps
 
+-- the connection that a step opened
 abbrev pub opened_by : Step → List ℕ
 opened_by (Happens (Opened id)) = id ∷ []
 opened_by _ = []
 
+-- the connection that a step closed
 abbrev pub closed_by : Step → List ℕ
 closed_by (Happens (Closed id why)) = id ∷ []
 closed_by _ = []
 
--- the connections that were opened, and those that were closed
+-- the connections that were opened, in order
 abbrev pub opened : List Step → List ℕ
 opened steps = flat_map opened_by steps
 
+-- the connections that were closed, in order
 abbrev pub closed : List Step → List ℕ
 closed steps = flat_map closed_by steps
 
@@ -128,6 +134,7 @@ IsOf id (Happens (Opened who)) = who ≡ id
 IsOf id (Happens (Closed who why)) = who ≡ id
 IsOf id step = IsTraffic id step
 
+-- the step is of no connection, or of another one
 abbrev pub IsOfOther : ℕ → Step → Type 0
 IsOfOther id step = IsOf id step → ⊥
 
@@ -142,10 +149,12 @@ pub record Times : Type 0 where
   pub now : ℕ
   pub active : ℕ
 
+-- after a read or a write of these bytes: only at least one byte counts
 abbrev pub moves : Times → List ℕ → Times
 moves times [] = times
 moves times (byte ∷ bytes) = record { now = times.now; active = times.now }
 
+-- after a step: the clock was read, the connection was opened, or its bytes came or went
 abbrev pub times_behind : ℕ → Times → Step → Times
 times_behind id times (Happens (Timed time)) = record { now = time; active = times.active }
 times_behind id times (Happens (Opened who)) =
@@ -158,11 +167,12 @@ times_behind id times _ = times
 abbrev pub times_of : ℕ → List Step → Times
 times_of id steps = fold (times_behind id) (record { now = 0; active = 0 }) steps
 
--- what a clock said last
+-- after a step
 abbrev pub clock_behind : ℕ → Step → ℕ
 clock_behind now (Happens (Timed time)) = time
 clock_behind now _ = now
 
+-- what a clock said last, after these steps; at first 0
 abbrev pub clock_of : List Step → ℕ
 clock_of steps = fold clock_behind 0 steps
 
@@ -184,10 +194,11 @@ abbrev pub SettledSo : Bool → List Step → Type 0
 SettledSo done [] = ⊥
 SettledSo done (step ∷ steps) = (step ≡ Settles done) ⊎ SettledSo done steps
 
--- it failed to; it never did
+-- it failed to settle
 abbrev pub FailedToSettle : List Step → Type 0
 FailedToSettle steps = SettledSo false steps
 
+-- it never failed to
 abbrev pub NeverFailed : List Step → Type 0
 NeverFailed steps = FailedToSettle steps → ⊥
 
@@ -203,6 +214,7 @@ pub record AllSettled (steps : List Step) : Type 0 where
   pub each : EachSettled steps
   pub never_failed : NeverFailed steps
 
+-- the handler was to settle, with whatever outcome
 abbrev pub is_settling : Step → Bool
 is_settling (Happens event) = false
 is_settling (Handles id frame reply) = false

@@ -1,13 +1,13 @@
 -- The outcome of serving many connections in turns (this project's own).
-use Rattle.std.specs.Prelude.{◌≡◌, ◌≢◌, ℕ, ◌+◌, ◌-◌, ◌<◌, ◌≤◌, ◌⊎◌, List, [], ◌∷◌, ◌++◌, Option, None, Some, count_by}
-use Rattle.std.specs.Prelude.{length}
+use Rattle.std.specs.Prelude.{◌≡◌, ◌≢◌, ℕ, zero, suc, ◌+◌, ◌-◌, ◌*◌, ◌/◌, ◌<◌, ◌≤◌, ◌⊎◌, min, max, List, [], ◌∷◌, ◌++◌}
+use Rattle.std.specs.Prelude.{Option, None, Some, count_by, length}
 use Rattle.droid_frame.specs.Streams.{BeginsNoFrame}
 use Rattle.droid_frame.specs.declared.streams.fault.FrameFault.{FrameFault}
 use Rattle.droid_turns.specs.Departures.{Explains, IsServed, IsStopped, Serves, StopsBy, frames_bound}
 use Rattle.droid_turns.specs.Events.{Opened, NoneOpened, Closed, Ended, Read, Timed, Unwritten, Waited, Wrote}
 use Rattle.droid_turns.specs.Steps.{AllSettled, Always, AreOfOthers, AtEach, FailedToSettle, Happened, Happens}
-use Rattle.droid_turns.specs.Steps.{NeverFailed, Step, came, closed, handled, is_settling, numbers, opened, times_of}
-use Rattle.droid_turns.specs.Steps.{turn_of}
+use Rattle.droid_turns.specs.Steps.{NeverFailed, Step, came, closed, handled, is_settling, numbers, opened}
+use Rattle.droid_turns.specs.Steps.{spelled_frames, times_of, turn_of}
 use Rattle.droid_turns.specs.declared.departure.Departure.{Departure}
 use Rattle.droid_turns.specs.declared.departure.Departure.TheVariants as departures
 use Rattle.droid_turns.specs.declared.rules.Rules.{Rules}
@@ -121,39 +121,81 @@ pub record WasFull (id : ℕ) (steps turn : List Step) : Type 0 where
   pub serves : Serves id early held queued
   pub full : 8388608 < length queued
 
--- it had its share of this turn: 16 frames were handled, or 4 MiB were read, or more than 8 MiB of replies waited
-abbrev pub HadShare : ℕ → List Step → List Step → Type 0
-HadShare id steps turn = (length (handled id turn) ≡ 16) ⊎ ((4194304 ≤ length (came id turn)) ⊎ WasFull id steps turn)
+-- it had its share of this turn: so many frames were handled, or 64 KiB for each of them were read, or more than 8 MiB
+-- of replies waited
+abbrev pub HadShare : ℕ → ℕ → List Step → List Step → Type 0
+HadShare share id steps turn =
+    (length (handled id turn) ≡ share) ⊎ ((share * 65536 ≤ length (came id turn)) ⊎ WasFull id steps turn)
 
 -- All that waits for it was written, or in this turn it took nothing more. It was read until nothing came; or more than
 -- 8 MiB wait to be written to it; or it is leaving, and something waits; or it had its share of the turn, and goes on
 -- at once.
-pub record IsSettled (goes_on : Type 0) (id : ℕ) (steps turn : List Step) : Type 0 where
+pub record IsSettled (goes_on : Type 0) (share id : ℕ) (steps turn : List Step) : Type 0 where
   pub held : List ℕ
   pub queued : List ℕ
   pub serves : Serves id steps held queued
   pub written : (queued ≡ []) ⊎ Happened (Wrote id []) turn
   pub read : IsDrained id turn held
       ⊎ ((8388608 < length queued)
-      ⊎ ((IsLeaving id steps held × (0 < length queued)) ⊎ (goes_on × HadShare id steps turn)))
+      ⊎ ((IsLeaving id steps held × (0 < length queued)) ⊎ (goes_on × HadShare share id steps turn)))
 
 -- Where the loop waits for at most `limit` milliseconds: an open connection will not have been idle for too long by
 -- then, and is settled. If it is to go on, the loop does not wait.
-pub record IsReady (idle limit id : ℕ) (steps turn : List Step) : Type 0 where
+pub record IsReady (idle limit share id : ℕ) (steps turn : List Step) : Type 0 where
   pub prompt : ((times_of id steps).now - (times_of id steps).active) + limit ≤ idle
-  pub settled : IsSettled (limit ≡ 0) id steps turn
+  pub settled : IsSettled (limit ≡ 0) share id steps turn
 
--- no connection had more than its share
-pub record HadTurn (idle limit id : ℕ) (steps turn : List Step) : Type 0 where
-  pub frames : length (handled id turn) ≤ 16
-  pub bytes : length (came id turn) < 4259840
-  pub ready : IsOpenAfter id steps → IsReady idle limit id steps turn
+-- no connection had more than the share
+pub record HadTurn (idle limit share id : ℕ) (steps turn : List Step) : Type 0 where
+  pub frames : length (handled id turn) ≤ share
+  pub bytes : length (came id turn) < share * 65536 + 65536
+  pub ready : IsOpenAfter id steps → IsReady idle limit share id steps turn
+
+-- ---- how large a share is
+
+-- of 256 frames, where so many connections have any: at most 64, and at least 1
+abbrev pub share_of : ℕ → ℕ
+share_of having = min (max (256 / max having 1) 1) 64
+
+-- 1 of some, 0 of none
+abbrev pub any : ℕ → ℕ
+any zero = 0
+any (suc more) = 1
+
+-- the sum over the connections with the numbers below this one
+abbrev pub sum_below : (ℕ → ℕ) → ℕ → ℕ
+sum_below of zero = 0
+sum_below of (suc count) = sum_below of count + of count
+
+-- how many bytes of a connection are in no frame that was handled
+abbrev pub bytes_left : ℕ → List Step → ℕ
+bytes_left id steps = length (came id steps) - length (spelled_frames (handled id steps))
+
+-- of how many connections frames were handled in this turn
+abbrev pub busy_ones : List Step → List Step → ℕ
+busy_ones steps turn = sum_below (λ id. any (length (handled id turn))) (length (opened steps))
+
+-- the same, and those of which bytes are left
+abbrev pub with_bytes : List Step → List Step → ℕ
+with_bytes steps turn =
+    sum_below (λ id. any (length (handled id turn) + bytes_left id steps)) (length (opened steps))
+
+-- The share of a turn: it is by a number of connections that is not less than of how many frames were handled, and not
+-- more than how many had bytes.
+pub record IsShare (share : ℕ) (steps turn : List Step) : Type 0 where
+  pub having : ℕ
+  pub share_is : share ≡ share_of having
+  pub all : busy_ones steps turn ≤ having
+  pub only : having ≤ with_bytes steps turn
 
 -- whenever the loop waits, but for the first time, a turn was begun, and each connection had its turn
 pub record IsTurn (rules : Rules) (limit : ℕ) (steps turn : List Step) : Type 0 where
   pub begun : (steps ≡ []) ⊎ HasBegun rules steps turn
-  pub each : (id : ℕ) → HadTurn rules.idle limit id steps turn
+  pub share : ℕ
+  pub is_share : IsShare share steps turn
+  pub each : (id : ℕ) → HadTurn rules.idle limit share id steps turn
 
+-- the same of a step: only a wait asks for it
 abbrev pub IsFair : Rules → List Step → Step → Type 0
 IsFair rules steps (Happens (Waited limit)) = IsTurn rules limit steps (turn_of steps)
 IsFair rules steps _ = Unit {0}

@@ -11,7 +11,8 @@ use std::alloc::{AllocError, Global};
 use std::collections::VecDeque;
 use std::mem;
 
-/// A chunk gathers replies up to this many bytes, so that many small ones go out in one write.
+/// A chunk gathers replies up to this many bytes, so that many small ones go out in one write. For speed: no clause
+/// needs it.
 const GATHERED: usize = 65_536;
 
 /// Queued bytes: first those of `first` behind `written`, then each chunk of `later`, then `last`.
@@ -60,7 +61,7 @@ impl Chunks {
         append_reply(alloc, &mut self.last, version, client, number, reply)
     }
 
-    /// Begins a new last chunk, if this many more bytes are too many for the last one.
+    /// Begins a new last chunk, if the last one would have more than [`GATHERED`] bytes with this many more.
     fn close_full(&mut self, alloc: Global, size: usize) -> Result<(), AllocError>
         requires filled { AreFilled self.old.later.items }
         ensures same { waiting self.new ≡ waiting self.old }
@@ -80,7 +81,7 @@ impl Chunks {
         Ok(())
     }
 
-    /// Drops the first chunk, if all of it is written.
+    /// Drops the first chunk, if all of it is written. The next one is then the first.
     pub(crate) fn settle(&mut self, alloc: Global)
         requires within { self.old.written ≤ vec_len self.old.first }
         requires filled { AreFilled self.old.later.items }
@@ -98,7 +99,7 @@ impl Chunks {
     }
 }
 
-/// Appends the frame of a reply to a chunk.
+/// Appends the frame of a reply to a chunk. If memory runs out, the chunk keeps the bytes that it had.
 fn append_reply(
     alloc: Global,
     chunk: &mut Vec<u8>,

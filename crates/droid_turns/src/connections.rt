@@ -5,15 +5,13 @@ ghost use Rattle.droid_turns.specs.Events.{CameWithin, Closed, Event, NoneOpened
 ghost use Rattle.droid_turns.specs.Events.{Waited, read_event, write_event};
 
 use crate::departure::Departure;
-use thiserror::Error;
 
 /// Waiting for connections failed.
-#[derive(Clone, Copy, Debug, PartialEq, Eq, Error)]
-#[error("waiting for connections failed")]
+#[derive(Clone, Copy)]
 pub struct WaitFault;
 
 /// The result of a read of a connection.
-#[derive(Clone, Copy, PartialEq, Eq)]
+#[derive(Clone, Copy)]
 pub enum Came {
     /// This many bytes, at the front of the buffer.
     Bytes(usize),
@@ -26,7 +24,7 @@ pub enum Came {
 }
 
 /// The result of a write to a connection.
-#[derive(Clone, Copy, PartialEq, Eq)]
+#[derive(Clone, Copy)]
 pub enum Took {
     /// It took this many of the first bytes.
     Bytes(usize),

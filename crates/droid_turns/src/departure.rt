@@ -3,7 +3,7 @@
 use droid_frame::FrameFault;
 
 /// Why the loop closed a connection.
-#[derive(Clone, Copy, PartialEq, Eq)]
+#[derive(Clone, Copy)]
 pub enum Departure {
     /// Its input ended after a whole frame, or before the first. Every reply was written.
     Closed,

@@ -2,10 +2,11 @@
 
 ghost use Rattle.std.specs.Prelude.{◌≡◌, ◌+◌, ◌-◌, ◌<◌, ◌≤◌, ◌⊎◌, ℕ, [], true, false, IfOk, Some, length, vec_capacity};
 ghost use Rattle.std.specs.List.{AllByRecursion};
-ghost use Rattle.droid_turns.specs.Halls.{Admits, ClosesSome, HasRooms, Heard, IsAtRest, IsPatient, IsWriting};
-ghost use Rattle.droid_turns.specs.Halls.{LeadsInTurn, NoPeer, Served as HadTurn, Stops, Turned, Unheard};
+ghost use Rattle.droid_turns.specs.Halls.{Admits, ClosesSome, HasRooms, Heard, HearsEach, IsAtRest, IsPatient};
+ghost use Rattle.droid_turns.specs.Halls.{IsWriting, LeadsInTurn, Looked, NoPeer, Served as HadTurn, Stops, Turned};
+ghost use Rattle.droid_turns.specs.Halls.{Unheard, having};
 ghost use Rattle.droid_turns.specs.Peers.{IsHearing};
-ghost use Rattle.droid_turns.specs.Turns.{HasEnough};
+ghost use Rattle.droid_turns.specs.Turns.{HasEnough, share_of};
 ghost use Rattle.droid_turns.specs.Steps.{Goes, Moves};
 ghost use Rattle.droid_turns.specs.declared.rules.Rules.{Rules as RulesValue};
 
@@ -15,9 +16,17 @@ use crate::handler::Handler;
 use crate::peer::Peer;
 use crate::rules::Rules;
 use std::alloc::{AllocError, Global};
+use std::mem;
 
-/// The longest wait, in milliseconds.
+/// The longest wait, in milliseconds. No clause needs it: without it the loop could wait for ever, and connections that
+/// print a line each minute could not.
 const LONGEST_WAIT: u64 = 60_000;
+
+/// The frames that are shared in a turn.
+const FRAMES: usize = 256;
+
+/// The most frames of one connection that are handled in a turn.
+const FRAMES_OF_ONE: usize = 64;
 
 /// The open connections.
 #[derive(Drop)]
@@ -32,13 +41,16 @@ pub(crate) struct Hall {
     pub(crate) time: u64,
     /// How many frames were handled in the last turn.
     pub(crate) frames: u64,
+    /// How many frames of a connection are handled in the turn, at most.
+    pub(crate) share: usize,
 }
 
 impl Hall {
-    /// Makes room for this many open connections.
+    /// Makes a hall in which no connection is open, with room for this many.
     pub(crate) fn new(alloc: Global, seats: usize) -> Result<Hall, AllocError>
         ensures rooms { IfOk result (HasRooms seats) }
         ensures first { IfOk result (λ hall. hall.served.items ≡ []) }
+        ensures share { IfOk result (λ hall. hall.share ≡ 64) }
         ensures empty { IfOk result (λ hall. (rules : RulesValue) → IsAtRest rules hall []) }
     {
         Ok(Hall {
@@ -47,6 +59,7 @@ impl Hall {
             opened: 0,
             time: 0,
             frames: 0,
+            share: FRAMES_OF_ONE,
         })
     }
 
@@ -81,8 +94,8 @@ impl Hall {
         limit
     }
 
-    /// Accepts waiting connections, and gives every open connection its turn: reads each and handles its frames, has
-    /// the handler settle, and writes each its replies.
+    /// Accepts waiting connections, and gives every open connection its turn: looks what each has, handles its share of
+    /// frames, has the handler settle, and writes each its replies.
     ///
     /// Returns false if the handler failed to settle. Then it has closed every connection, and written nothing.
     pub(crate) fn turn<C: Connections, H: Handler>(
@@ -100,7 +113,10 @@ impl Hall {
             (Turned result rules self.old self.new) }
     {
         self.time = connections.now();
+        self.share = 1;
         self.admit(alloc, connections, rules);
+        self.look_all(connections, rules.seats);
+        self.share = self.fair_share();
         self.hear_all(connections, handler, rules.seats);
         let settled = handler.settle();
         if !settled {
@@ -125,13 +141,14 @@ impl Hall {
         self.wants_more(rules.total)
     }
 
-    /// Accepts connections while there are seats.
+    /// Accepts connections while there are seats. One for whose state there is no memory is closed at once.
     fn admit<C: Connections>(&mut self, alloc: Global, connections: &mut C, rules: Rules)
         requires rooms { HasRooms rules.seats self.old }
         requires first { self.old.served.items ≡ [] }
         ensures rooms { HasRooms rules.seats self.new }
         ensures first { self.new.served.items ≡ [] }
         ensures now { self.new.time ≡ self.old.time }
+        ensures share { self.new.share ≡ self.old.share }
         ensures moves { Moves C.does connections.old connections.new (Admits rules self.old self.new) }
     {
         while self.may_accept(rules) {
@@ -147,7 +164,57 @@ impl Hall {
         }
     }
 
-    /// Reads each connection, and handles its frames.
+    /// Looks what each connection has.
+    fn look_all<C: Connections>(&mut self, connections: &mut C, seats: usize)
+        requires rooms { HasRooms seats self.old }
+        requires first { self.old.served.items ≡ [] }
+        requires least { self.old.share ≡ 1 }
+        ensures rooms { HasRooms seats self.new }
+        ensures first { self.new.served.items ≡ [] }
+        ensures now { self.new.time ≡ self.old.time }
+        ensures share { self.new.share ≡ self.old.share }
+        ensures moves { (rules : RulesValue) → Moves C.does connections.old connections.new
+            (LeadsInTurn rules IsHearing (Unheard self.old.time) NoPeer (Looked self.old.time) NoPeer
+            self.old self.new) }
+    {
+        self.look_each(connections, seats);
+        mem::swap(&mut self.waiting, &mut self.served);
+    }
+
+    /// Reads each connection that has no bytes once.
+    fn look_each<C: Connections>(&mut self, connections: &mut C, seats: usize)
+        requires rooms { HasRooms seats self.old }
+        requires least { self.old.share ≡ 1 }
+        ensures rooms { HasRooms seats self.new }
+        ensures all { self.new.waiting.items ≡ [] }
+        ensures now { self.new.time ≡ self.old.time }
+        ensures share { self.new.share ≡ self.old.share }
+        ensures moves { (rules : RulesValue) → Moves C.does connections.old connections.new
+            (LeadsInTurn rules IsHearing (Unheard self.old.time) (Looked self.old.time) NoPeer (Looked self.old.time)
+            self.old self.new) }
+    {
+        while let Some(mut peer) = self.waiting.pop() {
+            peer.look(connections, self.time);
+            self.served.push_reserved(peer);
+        }
+    }
+
+    /// Returns how many frames of a connection may be handled, by how many have any.
+    fn fair_share(&self) -> usize
+        ensures fair { result ≡ share_of (having self.now.waiting.items) }
+        ensures some { 1 ≤ result }
+        ensures few { result ≤ 64 }
+    {
+        let mut having = 0;
+        for peer in &self.waiting {
+            if peer.has_bytes() {
+                having += 1;
+            }
+        }
+        share_of(having)
+    }
+
+    /// Handles the frames of each connection: of each its share.
     fn hear_all<C: Connections, H: Handler>(
         &mut self,
         connections: &mut C,
@@ -155,18 +222,21 @@ impl Hall {
         seats: usize,
     )
         requires rooms { HasRooms seats self.old }
+        requires some { 1 ≤ self.old.share }
+        requires few { self.old.share ≤ 64 }
         ensures rooms { HasRooms seats self.new }
         ensures now { self.new.time ≡ self.old.time }
+        ensures share { self.new.share ≡ self.old.share }
+        ensures opened { self.new.opened ≡ self.old.opened }
         ensures all { self.new.waiting.items ≡ [] }
         ensures goes { (rules : RulesValue)
             → Goes C.does H.handles H.settles connections.old handler.old connections.new handler.new
-            (LeadsInTurn rules IsHearing (Unheard self.old.time) (Heard self.old.time) NoPeer (Heard self.old.time)
-            self.old self.new) }
+            (HearsEach rules (Heard self.old.share self.old.time) NoPeer self.old self.new) }
     {
         self.frames = 0;
         while let Some(mut peer) = self.waiting.pop() {
             let before = peer.frames;
-            peer.hear(connections, handler, self.time);
+            peer.hear(connections, handler, self.time, self.share);
             let more = peer.frames.saturating_sub(before);
             self.frames = self.frames.saturating_add(more);
             self.served.push_reserved(peer);
@@ -178,10 +248,13 @@ impl Hall {
         requires rooms { HasRooms seats self.old }
         ensures rooms { HasRooms seats self.new }
         ensures now { self.new.time ≡ self.old.time }
+        ensures share { self.new.share ≡ self.old.share }
+        ensures opened { self.new.opened ≡ self.old.opened }
         ensures all { self.new.served.items ≡ [] }
         ensures moves { (rules : RulesValue) → rules.idle ≡ idle → Moves C.does connections.old connections.new
-            (LeadsInTurn rules IsWriting (HadTurn rules.idle self.old.time) (Heard self.old.time)
-            (HadTurn rules.idle self.old.time) NoPeer self.old self.new) }
+            (LeadsInTurn rules IsWriting (HadTurn self.old.share rules.idle self.old.time)
+            (Heard self.old.share self.old.time) (HadTurn self.old.share rules.idle self.old.time) NoPeer
+            self.old self.new) }
     {
         while let Some(mut peer) = self.served.pop() {
             match peer.write_out(connections, self.time, idle) {
@@ -199,6 +272,15 @@ impl Hall {
     {
         close_all(&mut self.waiting, connections, Departure::Stopped);
     }
+}
+
+/// Returns how many frames of a connection may be handled, where so many have any.
+fn share_of(having: usize) -> usize
+    ensures fair { result ≡ share_of having }
+    ensures some { 1 ≤ result }
+    ensures few { result ≤ 64 }
+{
+    (FRAMES / having.max(1)).max(1).min(FRAMES_OF_ONE)
 }
 
 /// Closes these connections, for this reason.

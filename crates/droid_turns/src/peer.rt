@@ -1,15 +1,15 @@
 //! One open connection: its bytes that aren't handled yet, and its replies that aren't written yet.
 
-ghost use Rattle.std.specs.Prelude.{◌≡◌, ◌+◌, ◌-◌, ◌<◌, ◌≤◌, ◌++◌, ◌∷◌, [], List, ℕ, None, Some, true, false, IfNone};
-ghost use Rattle.std.specs.Prelude.{IfOk, IfSome, IsSome, OnOk, length};
+ghost use Rattle.std.specs.Prelude.{◌≡◌, ◌+◌, ◌-◌, ◌*◌, ◌<◌, ◌≤◌, ◌++◌, ◌∷◌, [], List, ℕ, None, Some, true, false};
+ghost use Rattle.std.specs.Prelude.{IfNone, IfOk, IfSome, IsSome, OnOk, length};
 ghost use Rattle.std.specs.List.{AllByRecursion};
 ghost use Rattle.droid_frame.specs.declared.reply.Reply.{Reply};
 ghost use Rattle.droid_frame.specs.declared.frame.Frame.{Frame};
 ghost use Rattle.droid_frame.specs.Versions.{IsVersion};
 ghost use Rattle.droid_turns.specs.Events.{CameWithin, read_event};
-ghost use Rattle.droid_turns.specs.Peers.{Advances, EndsAs, Hears, IsNew, IsQuiet, IsWhole, Kept, Lends, RanDry, Rests};
-ghost use Rattle.droid_turns.specs.Peers.{Sends, Stands, Taking, Turns, WritesOut, is_hungry, is_over, kept_of};
-ghost use Rattle.droid_turns.specs.Peers.{leaving_behind, unread};
+ghost use Rattle.droid_turns.specs.Peers.{Advances, EndsAs, Hears, HearsSome, IsNew, IsQuiet, IsWhole, Kept, Lends};
+ghost use Rattle.droid_turns.specs.Peers.{Looks, RanDry, Rests, Sends, Stands, Taking, Turns, WritesOut, has_bytes};
+ghost use Rattle.droid_turns.specs.Peers.{is_hungry, is_over, kept_of, leaving_behind, may_be_read, unread};
 ghost use Rattle.droid_turns.specs.Steps.{Goes, Handles, IsTraffic, Moves, Step};
 
 use crate::connections::{Came, Connections, Took};
@@ -23,14 +23,8 @@ use std::alloc::{AllocError, Global};
 /// How many bytes are read at once.
 const BUFFER: usize = 65_536;
 
-/// The most frames of one connection that are handled in a turn.
-const FRAMES_IN_TURN: u32 = 16;
-
 /// The most frames of one connection that are handled.
 const FRAMES: u64 = 1_000_000;
-
-/// A connection is not read again in a turn after this many bytes of it.
-const BYTES_IN_TURN: usize = 4_194_304;
 
 /// A connection is not read while more bytes of replies than this are queued for it.
 const QUEUE_LIMIT: usize = 8_388_608;
@@ -54,8 +48,8 @@ pub(crate) struct Peer {
     pub(crate) active: u64,
     /// Whether a read returned nothing in its last turn.
     pub(crate) drained: bool,
-    /// How many bytes may still be read of it in this turn.
-    pub(crate) room: usize,
+    /// How many bytes were read of it in this turn.
+    pub(crate) read: usize,
     /// How many frames of it were handled.
     pub(crate) frames: u64,
 }
@@ -75,7 +69,7 @@ impl Peer {
             leaving: None,
             active: now,
             drained: false,
-            room: 0,
+            read: 0,
             frames: 0,
         })
     }
@@ -104,44 +98,80 @@ impl Peer {
         self.queue.len() <= QUEUE_LIMIT
     }
 
-    /// Reads and handles up to 16 frames, or until 4 MiB were read or 8 MiB are queued. Queues the replies.
+    /// Begins its turn: reads once, unless bytes of it wait to be handled, or it may not be read.
+    pub(crate) fn look<C: Connections>(&mut self, connections: &mut C, now: u64)
+        requires whole { IsWhole self.old }
+        ensures whole { IsWhole self.new }
+        ensures id { self.new.id ≡ self.old.id }
+        ensures looks { Moves C.does connections.old connections.new (Looks now self.old self.new) }
+    {
+        self.drained = false;
+        self.read = 0;
+        if !self.may_be_read() {
+            return;
+        }
+        if self.start < self.end {
+            return;
+        }
+        self.receive(connections, now);
+    }
+
+    /// Whether bytes of it wait to be handled, and may be.
+    pub(crate) fn has_bytes(&self) -> bool
+        ensures { result ≡ has_bytes self.now }
+    {
+        if !self.may_be_read() {
+            return false;
+        }
+        self.start < self.end
+    }
+
+    /// Handles its frames, and reads more: up to its share of frames, or until 64 KiB for each of them were read, or 8
+    /// MiB are queued. Queues the replies.
+    ///
+    /// Does nothing if it has no bytes.
     pub(crate) fn hear<C: Connections, H: Handler>(
         &mut self,
         connections: &mut C,
         handler: &mut H,
         now: u64,
+        share: usize,
     )
         requires whole { IsWhole self.old }
+        requires few { share ≤ 64 }
         ensures whole { IsWhole self.new }
         ensures id { self.new.id ≡ self.old.id }
         ensures hears { Goes C.does H.handles H.settles connections.old handler.old connections.new handler.new
-            (Hears now self.old self.new) }
+            (Hears now share self.old self.new) }
     {
+        if !self.has_bytes() {
+            return;
+        }
         self.drained = false;
-        self.room = BYTES_IN_TURN;
-        self.answer_some(connections, handler, now);
+        self.answer_some(connections, handler, now, share);
     }
 
-    /// Handles up to 16 frames.
+    /// Handles up to its share of frames, reading whenever no whole frame is there.
     fn answer_some<C: Connections, H: Handler>(
         &mut self,
         connections: &mut C,
         handler: &mut H,
         now: u64,
+        share: usize,
     )
         requires whole { IsWhole self.old }
         requires awake { self.old.drained ≡ false }
-        requires room { self.old.room ≡ 4194304 }
+        requires few { share ≤ 64 }
         ensures whole { IsWhole self.new }
         ensures id { self.new.id ≡ self.old.id }
         ensures hears { Goes C.does H.handles H.settles connections.old handler.old connections.new handler.new
-            (Hears now self.old self.new) }
+            (HearsSome now share self.old self.new) }
     {
-        for _ in 0..FRAMES_IN_TURN {
+        for _ in 0..share {
             if !self.may_be_read() {
                 return;
             }
-            let Some(frame) = self.next_frame(connections, now) else {
+            let Some(frame) = self.next_frame(connections, now, share) else {
                 return;
             };
             self.answer(handler, frame);
@@ -150,9 +180,10 @@ impl Peer {
 
     /// Whether it isn't leaving, and no more than 8 MiB are queued.
     fn may_be_read(&self) -> bool
+        ensures is { result ≡ may_be_read self.now }
         ensures stays { result ≡ true → self.now.leaving ≡ None }
         ensures few { result ≡ true → length self.now.queue.bytes ≤ 8388608 }
-        ensures rests { result ≡ false → (count : ℕ) → Rests self.now count }
+        ensures rests { result ≡ false → (share count : ℕ) → Rests share self.now count }
     {
         if self.leaving.is_some() {
             return false;
@@ -160,7 +191,8 @@ impl Peer {
         self.queue.len() <= QUEUE_LIMIT
     }
 
-    /// Handles a frame, and queues its reply.
+    /// Handles a frame, and queues its reply. The connection is to leave if memory runs out for that reply, or if
+    /// enough frames of it were handled.
     fn answer<H: Handler>(&mut self, handler: &mut H, frame: Frame)
         requires whole { IsWhole self.old }
         requires version { IsVersion frame.version }
@@ -169,7 +201,7 @@ impl Peer {
         ensures whole { IsWhole self.new }
         ensures id { self.new.id ≡ self.old.id }
         ensures drained { self.new.drained ≡ self.old.drained }
-        ensures room { self.new.room ≡ self.old.room }
+        ensures read { self.new.read ≡ self.old.read }
         ensures counted { self.new.frames ≡ self.old.frames + 1 }
         ensures answers { (reply : Reply) × H.handles handler.old frame reply handler.new
             × ((now : ℕ) (steps : List Step) → Lends self.old.id (kept_of self.old) now steps frame
@@ -184,11 +216,18 @@ impl Peer {
         }
     }
 
-    /// Returns the next frame, if it is whole before this turn's limit of bytes is reached.
-    fn next_frame<C: Connections>(&mut self, connections: &mut C, now: u64) -> Option<Frame>
+    /// Returns the next frame, and reads until it is whole. `None`: nothing more has come, the bytes of its share
+    /// are reached, or the connection is to leave.
+    fn next_frame<C: Connections>(
+        &mut self,
+        connections: &mut C,
+        now: u64,
+        share: usize,
+    ) -> Option<Frame>
         requires whole { IsWhole self.old }
         requires stays { self.old.leaving ≡ None }
         requires awake { self.old.drained ≡ false }
+        requires few { share ≤ 64 }
         ensures whole { IsWhole self.new }
         ensures id { self.new.id ≡ self.old.id }
         ensures version { IfSome result (λ frame. IsVersion frame.version) }
@@ -196,10 +235,11 @@ impl Peer {
         ensures stays { IfSome result (λ frame. self.new.leaving ≡ None) }
         ensures frames { self.new.frames ≡ self.old.frames }
         ensures queue { self.new.queue ≡ self.old.queue }
-        ensures rests { IfNone result ((count : ℕ) → Rests self.new count) }
+        ensures within { self.old.read < share * 65536 + 65536 → self.new.read < share * 65536 + 65536 }
+        ensures rests { IfNone result ((count : ℕ) → Rests share self.new count) }
         ensures moves { Moves C.does connections.old connections.new (λ steps.
             Taking self.old.id now (kept_of self.old) (kept_of self.new) result steps
-            × Turns self.old.id self.old.room self.new.room 0 steps
+            × Turns self.old.id self.old.read self.new.read 0 steps
             × (self.new.drained ≡ true → RanDry self.new steps)) }
     {
         loop {
@@ -210,7 +250,7 @@ impl Peer {
             if self.leaving.is_some() {
                 return None;
             }
-            if self.room == 0 {
+            if self.read >= share * BUFFER {
                 return None;
             }
             if !self.receive(connections, now) {
@@ -219,14 +259,15 @@ impl Peer {
         }
     }
 
-    /// Takes the next frame from the bytes that were read, if it is whole.
+    /// Takes the next frame from the bytes that were read, if it is whole. After a header with a fault the connection
+    /// is to leave.
     fn take(&mut self) -> Option<Frame>
         requires whole { IsWhole self.old }
         requires stays { self.old.leaving ≡ None }
         ensures whole { IsWhole self.new }
         ensures id { self.new.id ≡ self.old.id }
         ensures drained { self.new.drained ≡ self.old.drained }
-        ensures room { self.new.room ≡ self.old.room }
+        ensures read { self.new.read ≡ self.old.read }
         ensures queue { self.new.queue ≡ self.old.queue }
         ensures frames { self.new.frames ≡ self.old.frames }
         ensures stays { IfSome result (λ frame. self.new.leaving ≡ None) }
@@ -246,24 +287,26 @@ impl Peer {
         }
     }
 
-    /// Reads once, and returns whether bytes came.
+    /// Reads once, and returns whether bytes came. A read of no bytes is one that returned nothing yet.
     fn receive<C: Connections>(&mut self, connections: &mut C, now: u64) -> bool
         requires whole { IsWhole self.old }
         requires stays { self.old.leaving ≡ None }
         requires none { unread self.old ≡ [] }
         requires awake { self.old.drained ≡ false }
-        requires room { 0 < self.old.room }
+        requires few { self.old.read ≤ 4194304 }
         ensures whole { IsWhole self.new }
         ensures id { self.new.id ≡ self.old.id }
         ensures queue { self.new.queue ≡ self.old.queue }
         ensures frames { self.new.frames ≡ self.old.frames }
         ensures moves { Moves C.does connections.old connections.new (λ steps.
             Advances self.old.id now (kept_of self.old) (kept_of self.new) steps
-            × Turns self.old.id self.old.room self.new.room 0 steps
+            × Turns self.old.id self.old.read self.new.read 0 steps
             × (self.new.drained ≡ true → RanDry self.new steps)) }
+        ensures bound { self.new.read ≤ self.old.read + 65536 }
         ensures goes_on { result ≡ true
-            → (self.new.leaving ≡ None) × (self.new.drained ≡ false) × (self.new.room < self.old.room) }
-        ensures rests { result ≡ false → (count : ℕ) → Rests self.new count }
+            → (self.new.leaving ≡ None) × (self.new.drained ≡ false) × (self.old.read < self.new.read)
+            × (self.new.start < self.new.end) }
+        ensures rests { result ≡ false → (share count : ℕ) → Rests share self.new count }
     {
         match read_into(connections, self.id, &mut self.buffer) {
             Came::Bytes(count) => {
@@ -274,7 +317,7 @@ impl Peer {
                 self.start = 0;
                 self.end = count;
                 self.active = now;
-                self.room = self.room.saturating_sub(count);
+                self.read += count;
                 true
             }
             Came::Nothing => {
@@ -304,7 +347,7 @@ impl Peer {
         ensures id { self.new.id ≡ self.old.id }
         ensures drained { self.new.drained ≡ self.old.drained }
         ensures leaving { self.new.leaving ≡ self.old.leaving }
-        ensures room { self.new.room ≡ self.old.room }
+        ensures read { self.new.read ≡ self.old.read }
         ensures frames { self.new.frames ≡ self.old.frames }
         ensures held { self.new.feed.bytes ++ unread self.new ≡ self.old.feed.bytes ++ unread self.old }
         ensures writes { Moves C.does connections.old connections.new (λ steps.
@@ -333,14 +376,15 @@ impl Peer {
         }
     }
 
-    /// Writes the queued replies, as far as the connection takes them. Returns false if the connection is broken.
+    /// Writes the queued replies until the queue is empty or the connection takes nothing more. Returns false if the
+    /// connection is broken.
     fn send<C: Connections>(&mut self, connections: &mut C, now: u64) -> bool
         requires whole { IsWhole self.old }
         ensures whole { IsWhole self.new }
         ensures id { self.new.id ≡ self.old.id }
         ensures drained { self.new.drained ≡ self.old.drained }
         ensures leaving { self.new.leaving ≡ self.old.leaving }
-        ensures room { self.new.room ≡ self.old.room }
+        ensures read { self.new.read ≡ self.old.read }
         ensures frames { self.new.frames ≡ self.old.frames }
         ensures held { self.new.feed.bytes ++ unread self.new ≡ self.old.feed.bytes ++ unread self.old }
         ensures moves { Moves C.does connections.old connections.new (λ steps.
@@ -365,7 +409,7 @@ impl Peer {
     }
 }
 
-/// Returns why a connection leaves behind this many frames, if it does.
+/// Returns why a connection leaves after this many frames of it were handled, if it does.
 fn leaving_behind(frames: u64) -> Option<Departure>
     ensures { result ≡ leaving_behind frames }
 {
@@ -384,7 +428,7 @@ fn read_into<C: Connections>(connections: &mut C, id: u64, buffer: &mut Vec<u8>)
     connections.read(id, buffer.as_mut_slice())
 }
 
-/// Returns why a connection is over, whose input ended behind these bytes.
+/// Returns why a connection leaves whose input ended here: between two frames, or within one.
 fn end_of(feed: &FrameFeed) -> Departure
     ensures { EndsAs feed.now.bytes result }
 {

@@ -48,6 +48,8 @@ impl<R: SteadyRead, W: SteadyWrite> Pipe<R, W> {
     }
 }
 
+/// The one connection has the number 0. A call for any other number does nothing. The clock stands still, so the
+/// connection is never idle.
 impl<R: SteadyRead, W: SteadyWrite> Connections for Pipe<R, W> {
     ghost use Rattle.droid_turns.specs.Pipes.{PipeDoes};
 
@@ -96,7 +98,7 @@ impl<R: SteadyRead, W: SteadyWrite> Connections for Pipe<R, W> {
     }
 }
 
-/// Returns why the connection was closed, where the one with this number is closed now.
+/// Returns why the pipe was closed, after a close of the connection with this number: 0 is the pipe.
 fn leaving(before: Option<Departure>, id: u64, why: Departure) -> Option<Departure>
     ensures { result ≡ left_by (Closed id why) before }
 {
@@ -112,6 +114,7 @@ fn read_from<R: SteadyRead>(reader: &mut R, buffer: &mut [u8]) -> Came
     ensures came { CameSo (R.remaining reader.old) (R.remaining reader.new) buffer.new result }
     ensures reported { (start : ℕ) → Counts start (R.seen reader.old) 0 → ReadsAs start (R.seen reader.new) result }
 {
+    // A read into no room would return 0, which is the end.
     if buffer.is_empty() {
         return Came::Nothing;
     }

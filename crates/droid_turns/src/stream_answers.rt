@@ -13,7 +13,7 @@ use std::alloc::Global;
 
 /// Answers the frames of a reader by a handler, until the input ends or a frame or a stream fails.
 ///
-/// Handles up to 16 frames of each read, has the handler settle, and then writes their replies.
+/// Handles up to 64 frames of each read, has the handler settle, and then writes their replies.
 pub fn answer_pipe<R: SteadyRead, W: SteadyWrite, H: Handler>(
     alloc: Global,
     handler: &mut H,

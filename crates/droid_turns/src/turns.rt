@@ -12,9 +12,10 @@ use std::alloc::Global;
 
 /// Serves many connections in turns, until as many as the rules allow came and left.
 ///
-/// In each turn the loop accepts waiting connections while there are seats. Then it reads each open connection and
-/// handles up to 16 of its frames. Then the handler settles, and then the loop writes each connection its replies, as
-/// far as it takes them. No connection is served twice before every other was served once.
+/// In each turn the loop accepts waiting connections while there are seats. Then it looks what each open connection
+/// has, and handles its share of frames: of 256 frames in all, by how many connections have any, at most 64 and at
+/// least 1. Then the handler settles, and then the loop writes each connection its replies, as far as it takes them. No
+/// connection is served twice before every other was served once.
 pub fn serve_in_turns<C: Connections, H: Handler>(
     alloc: Global,
     connections: &mut C,

@@ -13,11 +13,13 @@ pub data Call : Type 0 where
   -- no reply to the request came, for this reason
   Failed : (attempt : ℕ) (request : Request) (fault : ClientFault) → Call
 
+-- the request of a call, however it ended
 abbrev pub request_of : Call → Request
 request_of (Answered attempt request reply) = request
 request_of (Sent request) = request
 request_of (Failed attempt request fault) = request
 
+-- how often its file was added before and found abandoned
 abbrev pub attempt_of : Call → ℕ
 attempt_of (Answered attempt request reply) = attempt
 attempt_of (Sent request) = 0

@@ -6,6 +6,7 @@ use Rattle.droid_tree.specs.Observation.{Observation}
 use Rattle.droid_upload.specs.Calls.{Call}
 use Rattle.droid_upload.specs.declared.upload.Upload.{Upload}
 
+-- one step of a submission, at its tree, its client or its watcher
 pub data Deed : Type 0 where
   -- the tree returned this
   Observed : (observation : Observation) → Deed

@@ -39,10 +39,12 @@ is_node of_use (replies.Node number) = of_use
 is_node of_use (replies.Refused refusal) = skips refusal
 is_node of_use _ = false
 
+-- the profile was made
 abbrev pub is_made : Reply → Bool
 is_made (replies.Made profile) = true
 is_made _ = false
 
+-- the file is finished
 abbrev pub is_finished : Reply → Bool
 is_finished (replies.Finished method mismatch hash puids) = true
 is_finished _ = false
@@ -69,6 +71,7 @@ is_open (replies.Refused refusals.NoSuchNode) = true
 is_open (replies.Refused (refusals.Incomplete missing)) = true
 is_open _ = false
 
+-- a Finish that says that the file is to be sent
 abbrev pub asks_for_more : Request → Reply → Bool
 asks_for_more (Finish profile file) reply = is_open reply
 asks_for_more _ reply = false
@@ -80,18 +83,22 @@ reply_of_node (Err refusal) = replies.Refused refusal
 
 -- ---- faults
 
+-- of a refusal: being out of memory there is being out of memory
 abbrev pub fault_of_refusal : Refusal → SubmissionFault
 fault_of_refusal refusals.Memory = faults.Memory
 fault_of_refusal refusal = faults.Refused refusal
 
+-- of a reply that does not fit: a refusal, or another kind
 abbrev pub fault_of_reply : Reply → SubmissionFault
 fault_of_reply (replies.Refused refusal) = fault_of_refusal refusal
 fault_of_reply _ = faults.Reply
 
+-- of a client that has no reply
 abbrev pub fault_of_client : ClientFault → SubmissionFault
 fault_of_client (client_faults.Piece refusal) = fault_of_refusal refusal
 fault_of_client client_faults.Ended = faults.Ended
 
+-- of a call that ended the submission
 abbrev pub fault_of_call : Call → SubmissionFault
 fault_of_call (Answered attempt request reply) = fault_of_reply reply
 fault_of_call (Sent request) = faults.Reply

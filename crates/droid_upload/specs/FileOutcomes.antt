@@ -58,6 +58,7 @@ pub data FileOutcome : Type 0 where
 
 -- ---- hashes
 
+-- two hashes of one kind, with the same bytes
 abbrev pub same_hash : HashValue → HashValue → Bool
 same_hash one other =
     (hash_kind_number (hash_value_kind one) == hash_kind_number (hash_value_kind other))
@@ -77,6 +78,7 @@ heard_of_end path read found = cond (has_other_hash read found) (Left path reaso
 abbrev pub file_of : ℕ → Bool → Reply → UploadedFile
 file_of number is_read found = record { number = number; found = finding_of found; is_read = is_read }
 
+-- what is returned of a file that is finished: taken, or with another hash than was read
 abbrev pub uploaded_of_end : ℕ → Bool → HashValue → Reply → Uploaded
 uploaded_of_end number is_read read found =
     cond (has_other_hash read found) (uploadeds.Differs (file_of number is_read found))
@@ -141,6 +143,7 @@ module _ (into : Destination) (path : List ℕ) (entry : FolderEntry) (number : 
   holding_deeds found (ReadPartly pieces stop) =
       checking_deeds (ReadPart pieces stop) ++ Informed (Left path (reason_of stop)) ∷ []
 
+-- of a file that was finished before, by whether it was read again
 abbrev pub uploaded_of_holding : Destination → FolderEntry → ℕ → Reply → Holding → Uploaded
 uploaded_of_holding into entry number found Kept =
     uploaded_of_end number (entry.len == 0) (hash_of_held into.hash entry.len) found
@@ -210,6 +213,7 @@ module _ (into : Destination) (entry : FolderEntry) where
 
 -- ---- what is returned
 
+-- of a file, by its outcome
 abbrev pub uploaded_of : Destination → FolderEntry → FileOutcome → Uploaded
 uploaded_of into entry (HeldFile gone number found holding) = uploaded_of_holding into entry number found holding
 uploaded_of into entry (WholeFile gone number first pieces found) =

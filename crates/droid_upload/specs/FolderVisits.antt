@@ -54,9 +54,11 @@ deeds_of_visit into visit =
     deeds_of_listing visit.folder.path visit.observed visit.repeated
     ++ flat_map (deeds_of_kid into visit.folder.path) visit.kids
 
+-- the folders that were found in it, in order
 abbrev pub subfolders_of_visit : Visit → List PendingFolder
 subfolders_of_visit visit = flat_map (subfolders_of_kid visit.folder.path) visit.kids
 
+-- what of it is in the profile, in order
 abbrev pub nodes_of_visit : Destination → Visit → List Node
 nodes_of_visit into visit = flat_map (nodes_of_kid into visit.folder.path) visit.kids
 

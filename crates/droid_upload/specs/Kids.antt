@@ -31,6 +31,7 @@ pub data Kid : Type 0 where
   OtherKind : (entry : FolderEntry) → Kid
   NoText : (entry : FolderEntry) → Kid
 
+-- as its folder lists it, whatever comes of it
 abbrev pub entry_of : Kid → FolderEntry
 entry_of (Subfolder entry number) = entry
 entry_of (RefusedFolder entry refusal) = entry
@@ -108,6 +109,7 @@ nodes_of_kid into path (AFile entry outcome) =
     nodes_of_file into (below path entry.name) entry (uploaded_of into entry outcome)
 nodes_of_kid into path _ = []
 
+-- the file is in the profile as it is in the tree
 abbrev pub is_taken_file : Uploaded → Bool
 is_taken_file (uploads.Taken file) = true
 is_taken_file (uploads.Differs file) = false

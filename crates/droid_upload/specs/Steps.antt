@@ -176,6 +176,7 @@ SeesEnd path entry does progresses.Changed old new = ⊥
 
 -- ---- one piece is sent
 
+-- the request that has these bytes as the piece with this index
 abbrev pub piece_request : Target → ℕ → List ℕ → Request
 piece_request to index bytes = Piece to.into.profile to.number index bytes
 
@@ -208,14 +209,17 @@ pub data Dropping : Type 0 where
   AbandonedBy : (left : Reply) → Dropping
   AbandonedOther : (left : Reply) → Dropping
 
+-- the last reply fits
 abbrev pub MayFinish : Finishing → Type 0
 MayFinish (FinishedBy found) = is_finished found ≡ true
 MayFinish (FinishedOther left) = is_left left ≡ true
 
+-- the last reply fits
 abbrev pub MayDrop : Dropping → Type 0
 MayDrop (AbandonedBy left) = is_left left ≡ true
 MayDrop (AbandonedOther left) = is_left left ≡ true
 
+-- what is returned of it
 abbrev pub uploaded_of_finishing : ℕ → HashValue → Finishing → Uploaded
 uploaded_of_finishing number read (FinishedBy found) = uploaded_of_end number true read found
 uploaded_of_finishing number read (FinishedOther left) = uploadeds.Skipped
@@ -352,6 +356,7 @@ pub data Opening : Type 0 where
   Declined : (refusal : Refusal) → Opening
   Found : (number : ℕ) (found : Reply) (holding : Holding) → Opening
 
+-- the refusal skips the file; or the reply says that it is finished
 abbrev pub MayOpen : Destination → FolderEntry → Opening → Type 0
 MayOpen into entry (Declined refusal) = skips refusal ≡ true
 MayOpen into entry (Found number found holding) = (is_finished found ≡ true) × MayHold into entry holding
@@ -433,6 +438,7 @@ pub data Addition : Type 0 where
   NothingSent : (gone : List ℕ) (opening : Opening) → Addition
   SentRest : (gone : List ℕ) (number first : ℕ) (rest : Rest) → Addition
 
+-- the outcome of the file
 abbrev pub outcome_of_addition : Addition → FileOutcome
 outcome_of_addition (NothingSent gone (Declined refusal)) = RefusedFile gone refusal
 outcome_of_addition (NothingSent gone (Found number found holding)) = HeldFile gone number found holding

@@ -46,6 +46,7 @@ abbrev pub EachFolderOnce : List Visit → List PendingFolder → Type 0
 EachFolderOnce visits pending =
     map (λ visit. visit.folder) visits ++ pending ≡ top ∷ flat_map subfolders_of_visit visits
 
+-- the folder was visited as one of this profile
 abbrev pub IsVisitIn : Options → ℕ → Visit → Type 0
 IsVisitIn options profile visit = IsVisit (into_of options profile visit.folder) visit
 

@@ -123,14 +123,16 @@ fn open_node<T: Tree, C: Client, W: Watcher>(
     }
 }
 
-/// Returns whether the indexes of a file's pieces are below 2^32 - 1.
+/// Returns whether the indexes of a file's pieces are below 2^32 - 1. A file with more can't be sent, and a service
+/// that takes it sent a wrong reply.
 fn is_countable(piece_size: u32, size: u64) -> bool
     ensures { result ≡ is_countable piece_size size }
 {
     size <= u64::from(u32::MAX) * u64::from(piece_size)
 }
 
-/// Sends the first Finish of a file that was just added, and finds what the service has of it.
+/// Sends the first Finish of a file that was just added: its reply says what the service has of it. Returns `None` if
+/// its node was abandoned before.
 fn see_node<T: Tree, C: Client, W: Watcher>(
     upload: &mut Upload<T, C, W>,
     into: Destination,

@@ -103,6 +103,7 @@ fn pass_pieces<T: Tree, C: Client, W: Watcher>(
             Progress::Changed => return Ok(Progress::Changed),
         }
     }
+    // No file has more pieces: this one can be counted (`requires`).
     Ok(Progress::Done)
 }
 
@@ -247,6 +248,7 @@ fn whole_body(body: Vec<u8>) -> Blob
     ensures bytes { IsBytes result }
 {
     let blob = Blob::from(body);
+    // The prover learns from this call that they are bytes.
     let _bytes = blob.as_slice();
     blob
 }

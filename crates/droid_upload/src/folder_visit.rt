@@ -127,7 +127,7 @@ fn submit_entries<T: Tree, C: Client, W: Watcher>(
     Ok(all)
 }
 
-/// Returns whether both are true.
+/// Returns whether both are true. A function, so that the proofs of its callers do not split.
 pub(crate) fn both(first: bool, second: bool) -> bool
     ensures { result ≡ (first && second) }
 {

@@ -1,4 +1,4 @@
-//! What the watcher is informed of.
+//! What the watcher is informed of a file that is sent: which bytes the service had or got, and how the file ended.
 
 ghost use Rattle.std.specs.Prelude.{◌≡◌};
 ghost use Rattle.droid_tree.specs.Heard.{Held, Left, TookBytes};

@@ -6,28 +6,21 @@ ghost use Rattle.droid_upload.specs.Faults.{fault_of_refusal, fault_of_reply};
 use crate::client_fault::ClientFault;
 use droid_frame::{Refusal, Reply};
 use std::alloc::AllocError;
-use thiserror::Error;
 
 /// Why a submission ended early.
-#[derive(Clone, Copy, Debug, PartialEq, Eq, Error)]
+#[derive(Clone, Copy, PartialEq, Eq)]
 pub enum SubmissionFault {
     /// Out of memory, here or in the service.
-    #[error("out of memory")]
     Memory,
     /// No reply came. The client knows why.
-    #[error("no reply came")]
     Ended,
     /// The service sent a reply that does not fit the request.
-    #[error("a reply was not to the request")]
     Reply,
     /// The service refused a request, for a reason that is not the fault of a folder or file.
-    #[error("a request was refused")]
     Refused(Refusal),
     /// A request is too long for a frame.
-    #[error("a request is too long")]
     TooLong,
     /// There are more folders than a profile can have.
-    #[error("there are too many folders")]
     Folders,
 }
 

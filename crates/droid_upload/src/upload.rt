@@ -33,7 +33,7 @@ pub struct Destination {
 }
 
 /// A file that is in the profile.
-#[derive(Clone, Copy, PartialEq, Eq)]
+#[derive(Clone, Copy)]
 pub struct UploadedFile {
     /// The number of the file.
     pub number: u32,
@@ -44,7 +44,7 @@ pub struct UploadedFile {
 }
 
 /// The outcome of a file.
-#[derive(Clone, Copy, PartialEq, Eq)]
+#[derive(Clone, Copy)]
 pub enum Uploaded {
     /// It is in the profile.
     Taken(UploadedFile),

@@ -33,6 +33,7 @@ pub fn ask<T: Tree, C: Client, W: Watcher>(
     if !request.fits(VERSION) {
         return Err(SubmissionFault::TooLong);
     }
+    // The client gives the request its own client and number: only kind and body of this frame are used.
     let frame = request_frame(upload.alloc, VERSION, 0, 0, request)?;
     let Frame { kind, body, .. } = frame;
     let reply = upload.client.ask(attempt, kind, body)?;
@@ -122,7 +123,8 @@ pub fn add_folder<T: Tree, C: Client, W: Watcher>(
     Ok(added)
 }
 
-/// Returns the number of a new node, the refusal that skips it, or the fault. `of_use` says whether a number is of use.
+/// Returns the number of a new node, the refusal that skips it, or the fault. `of_use` says whether a number is of use:
+/// that of a file with too many pieces is not, and is a wrong reply.
 pub(crate) fn node_of(reply: Reply, of_use: bool) -> Result<Result<u32, Refusal>, SubmissionFault>
     ensures node { IfOk result (λ added. (reply ≡ reply_of_node added) × (is_node of_use reply ≡ true)) }
     ensures fault { IfErr result (λ fault. (fault ≡ fault_of_reply reply) × (is_node of_use reply ≡ false)) }

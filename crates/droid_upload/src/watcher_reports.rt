@@ -1,4 +1,4 @@
-//! What the watcher is informed of.
+//! What the watcher is informed of an entry of a folder: that it was skipped, or that a folder is in the profile.
 
 ghost use Rattle.std.specs.Prelude.{◌≡◌, IfErr, OnErr, OnOk};
 ghost use Rattle.droid_tree.specs.Heard.{Left, TookFolder};

@@ -30,6 +30,7 @@ desk_of setting = record {
   next = next setting;
 }
 
+-- the entry that an accepted request with this reply makes
 abbrev pub entry_at : Desk → Frame → Reply → Entry
 entry_at desk frame reply = record { frame = frame; mark = desk.mark frame; reply = reply }
 

@@ -42,11 +42,13 @@ pub record SettlesIn {F : Type 0} (has : F → List ℕ → Type 0) (kept : F �
   pub writing : MayBeOfWriting old.fault → MayBeOfWriting new.fault
   pub closed : IsSome old.fault → done ≡ false
 
+-- what handling a frame does to a service with its journal and its noted fault
 abbrev pub HandlesSo : {F : Type 0} → (F → List ℕ → Type 0) → (F → List ℕ) → JournalHandler F → Frame → Reply
     → JournalHandler F → Type 0
 HandlesSo has kept old frame reply new =
     HandlesIn has kept old.journal.journal frame reply new.journal.journal old.fault new.fault
 
+-- what settling does to them
 abbrev pub SettlesSo : {F : Type 0} → (F → List ℕ → Type 0) → (F → List ℕ) → JournalHandler F → Bool → JournalHandler F
     → Type 0
 SettlesSo has kept old done new = SettlesIn has kept old.journal.journal done new.journal.journal old.fault new.fault

@@ -17,19 +17,21 @@ use Rattle.droid_turns.specs.declared.pipe.Pipe.{Pipe}
 use Rattle.droid_turns.specs.declared.rules.Rules.{Rules}
 use Rattle.droid_turns.specs.declared.service_end.Served.{Served}
 
--- the frames of all connections that were handled, in order, and their replies
+-- the frames of all connections that were handled, in order
 abbrev pub frames_of : List Step → List Frame
 frames_of steps = map (λ (one : Frame × Reply). one.0) (all_handled steps)
 
+-- their replies, in the same order
 abbrev pub replies_of : List Step → List Reply
 replies_of steps = map (λ (one : Frame × Reply). one.1) (all_handled steps)
 
--- the events among the steps, in order
+-- the event, where the step is one
 abbrev pub event_of : Step → List Event
 event_of (Happens event) = event ∷ []
 event_of (Handles id frame reply) = []
 event_of (Settles done) = []
 
+-- the events among the steps, in order
 abbrev pub events_of : List Step → List Event
 events_of steps = flat_map event_of steps
 

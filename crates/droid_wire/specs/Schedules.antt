@@ -52,6 +52,7 @@ start clients =
 
 -- ---- the steps
 
+-- a core submits, if it is one of the cores and has a number left
 abbrev pub submitted : Moment → ℕ → ℕ → Request → Option Core → Moment
 submitted moment which version request None = moment
 submitted moment which version request (Some core) =
@@ -64,9 +65,11 @@ submitted moment which version request (Some core) =
     }
     else moment
 
+-- a reply, as it is sent to the request of a frame
 abbrev pub reply_to : Frame → Reply → Sent
 reply_to frame reply = record { version = frame.version; client = frame.client; number = frame.number; reply = reply }
 
+-- the service answers a frame, if it was submitted
 abbrev pub arrived : Desk → Moment → Option Frame → Moment
 arrived desk moment None = moment
 arrived desk moment (Some frame) =
@@ -77,6 +80,7 @@ arrived desk moment (Some frame) =
       replies = moment.replies ++ reply_to frame (desk.answer moment.history frame) ∷ [];
     }
 
+-- how the service says what it was out of
 abbrev pub refusal_for : Failure → Refusal
 refusal_for OfMemory = Memory
 refusal_for OfStore = Store
@@ -94,6 +98,7 @@ wanted desk moment failure (Some frame) =
     }
     else moment
 
+-- a core takes a reply, if both are there
 abbrev pub replied : Moment → ℕ → Option Core → Option Sent → Moment
 replied moment which None sent = moment
 replied moment which (Some core) None = moment
@@ -105,6 +110,7 @@ replied moment which (Some core) (Some sent) =
       replies = moment.replies;
     }
 
+-- the state after an event; one about a core, a frame or a reply that isn't there changes nothing
 abbrev pub happens : Desk → Moment → Event → Moment
 happens desk moment (Submits core version request) = submitted moment core version request (slice_get moment.cores core)
 happens desk moment (Arrives frame) = arrived desk moment (slice_get moment.frames frame)
@@ -169,6 +175,7 @@ AreOnce moment =
 abbrev pub NoneReused : Moment → Type 0
 NoneReused moment = (sent : Sent) → Contains moment.replies sent → sent.reply ≢ Refused NumberReused
 
+-- the answer that a core holds, if it is one of the cores
 abbrev pub core_answer : Option Core → ℕ → Option Reply
 core_answer None number = None
 core_answer (Some core) number = answer_of core number

@@ -29,7 +29,7 @@ pub fn read_frames_are_answered()
 /// A stream that [`answer_service`](crate::service_stream::answer_service) answers has an outcome of
 /// [`serve`](crate::server::serve) with 1,000,000 turns: frames of its front were handled, in order, their reply frames
 /// were written, and it ends for the same reason. But the loop may have read further than the frames that it handled,
-/// and if writing fails it may have handled up to 16 frames whose replies were not written.
+/// and if writing fails it may have handled up to 64 frames whose replies were not written.
 pub fn a_stream_is_answered_as_by_serve<R: SteadyRead, W: SteadyWrite>()
     ensures { StreamsAreServed R.remaining W.contents R.seen W.seen W.room }
 {}

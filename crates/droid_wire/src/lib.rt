@@ -11,6 +11,7 @@
 mod journal_connections;
 mod journal_handler;
 pub mod journal_laws;
+mod journal_stream;
 pub mod laws;
 mod many;
 mod reading_machine;
@@ -22,12 +23,12 @@ mod service_journal;
 mod service_machine;
 mod service_stream;
 mod small_reader;
-mod stream;
 mod stream_end;
 
 pub use droid_client::{Client, HearFault, Heard, SubmitFault};
 pub use journal_connections::serve_journal;
 pub use journal_handler::JournalHandler;
+pub use journal_stream::answer_journal;
 pub use many::serve_many;
 pub use reading_machine::ReadingMachine;
 pub use serve_fault::ServeFault;
@@ -37,5 +38,4 @@ pub use service_journal::{ServiceJournal, Unopened, crash_and_reopen};
 pub use service_machine::ServiceMachine;
 pub use service_stream::answer_service;
 pub use small_reader::SmallReader;
-pub use stream::answer_journal;
 pub use stream_end::Ended;

@@ -15,7 +15,7 @@ use droid_frame::{
 };
 use std::alloc::Global;
 
-/// The most bytes in the body of a reply whose frame goes out in one write.
+/// The most bytes in the body of a reply whose frame goes out in one write. For speed: no clause needs it.
 const GATHERED: usize = 4_096;
 
 /// Writes the frame of a reply as [`write_reply`] does. A small frame goes out in one write, if there is memory for it.
@@ -48,7 +48,8 @@ pub(crate) fn send_reply<W: SteadyWrite>(
     }
 }
 
-/// Returns the bytes of a reply's frame. `None`: the body has more than 4,096 bytes, or out of memory.
+/// Returns the bytes of a reply's frame, so that one write sends them. `None`: the body has more than 4,096 bytes, or
+/// out of memory.
 fn gathered(alloc: Global, version: u8, client: u32, number: u64, reply: &Reply) -> Option<Vec<u8>>
     requires version { IsVersion version }
     requires spelling { HasReplySpelling version reply.now }

@@ -6,7 +6,7 @@ use droid_frame::FrameFault;
 use thiserror::Error;
 
 /// Why serving a stream ended early. The service keeps what the frames before did.
-#[derive(Clone, Copy, Debug, PartialEq, Eq, Error)]
+#[derive(Clone, Copy, Debug, Error)]
 pub enum ServeFault {
     /// The next frame could not be read. All frames before it were answered.
     #[error("{0}")]

@@ -65,7 +65,9 @@ pub fn serve<R: SteadyRead, W: SteadyWrite>(
 }
 
 /// Reads the next frame, answers it, and returns the length of the reply's frame in bytes; `None` where the stream
-/// ends. The turns before wrote `written` bytes.
+/// ends.
+///
+/// The turns before wrote `written` bytes: at most 2^53, since 2^32 replies of at most 1,048,658 bytes have fewer.
 fn answer_next<R: SteadyRead, W: SteadyWrite>(
     alloc: Global,
     service: &mut Service,

@@ -160,7 +160,7 @@ impl<F: LogFile + Drop> ServiceJournal<F> {
         }
     }
 
-    /// Starts from a journal that was read, if it was made small.
+    /// Starts from a journal that was read, if it was made small: the service takes the place of the reader of records.
     fn revived(
         alloc: Global,
         file: F,
@@ -194,7 +194,7 @@ impl<F: LogFile + Drop> ServiceJournal<F> {
         Ok(Some(ServiceJournal { journal }))
     }
 
-    /// Starts from a journal that was read.
+    /// Starts from a journal that was read: the service that read it serves from now on.
     fn begun(alloc: Global, file: F, opened: Opened<ReadingMachine>) -> ServiceJournal<F>
         ensures settled { (setting : Setting) (base : Base setting) (header : List ℕ) (records : List Record)
             → IsReady F.has F.kept (λ machine its. StandsForRecords setting base machine.service its) header file opened

@@ -1,7 +1,7 @@
 //! The end of serving a stream where nothing failed.
 
 /// How serving a stream ended. All frames that were read were answered.
-#[derive(Clone, Copy, Debug, PartialEq, Eq)]
+#[derive(Clone, Copy, PartialEq, Eq)]
 pub enum Ended {
     /// The stream ended where a frame would begin.
     Closed,

@@ -32,6 +32,7 @@ unfoldable pub cut_at : List ℕ → List ℕ → Option (List ℕ × List ℕ)
 cut_at text [] = None
 cut_at text (b ∷ bytes) = choose (after text (b ∷ bytes)) (λ rest. Some ([], rest)) (behind b (cut_at text bytes))
 
+-- whether a byte is the wanted one
 abbrev pub is_byte : ℕ → ℕ → Bool
 is_byte wanted byte = byte == wanted
 

@@ -16,6 +16,7 @@ word_by quote bytes = do
   cut ← cut_at_byte quote bytes
   only_if (list_all is_word_byte cut.0) cut
 
+-- a declared word in either kind of quotes
 unfoldable pub word_at : List ℕ → Option (List ℕ × List ℕ)
 word_at [] = None
 word_at (quote ∷ bytes) = if quote == 34 then word_by 34 bytes else if quote == 39 then word_by 39 bytes else None
@@ -32,6 +33,7 @@ declared_at name bytes = do
 unfoldable pub declared_or : List ℕ → List ℕ → List ℕ → List ℕ × List ℕ
 declared_or default name bytes = choose (declared_at name bytes) (λ found. found) (default, bytes)
 
+-- whether a word is one that `standalone` may have
 abbrev pub is_yes_or_no : List ℕ → Bool
 is_yes_or_no word = bytes_eq word (codes "yes") || bytes_eq word (codes "no")
 
@@ -59,6 +61,7 @@ declaration_start bytes = do
   rest ← after (codes "<?xml") bytes
   only_if (nat_lt 0 (prefix_len is_space rest)) rest
 
+-- whether each byte is ASCII
 abbrev pub are_ascii : List ℕ → Bool
 are_ascii bytes = list_all (λ b. nat_lt b 128) bytes
 

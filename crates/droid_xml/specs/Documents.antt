@@ -11,7 +11,7 @@ use Rattle.droid_xml.specs.Tags.{start_tag_at}
 use Rattle.droid_xml.specs.declared.problem.Problem.{Problem}
 use Rattle.droid_xml.specs.declared.problem.Problem.TheVariants as problems
 
--- the next piece and what follows it, by what it begins with
+-- the next piece behind its `<`, and what follows it
 unfoldable pub piece_behind_less : List ℕ → Result (Part × List ℕ) Problem
 piece_behind_less bytes =
     choose (after (codes "!--") bytes) (λ rest. required (comment_at rest)) (
@@ -21,6 +21,7 @@ piece_behind_less bytes =
     choose (after (codes "/") bytes) (λ rest. required (end_tag_at rest)) (
     start_tag_at bytes >>= (λ found. Ok (Start found.0, found.1)))))))
 
+-- the next piece and what follows it, by what it begins with
 unfoldable pub piece_at : List ℕ → Result (Part × List ℕ) Problem
 piece_at bytes =
     choose (after (codes "<") bytes) piece_behind_less (
@@ -42,6 +43,7 @@ abbrev pub at_line : {A : Type 0} → ℕ → Result A Problem → Result A (Pro
 at_line line (Ok x) = Ok x
 at_line line (Err problem) = Err (problem, line)
 
+-- the next piece and the place behind it, if it may stand there
 abbrev pub moved : Place → Result (Option (Part × Place)) Problem
 moved place = do
   found ← piece_at place.rest
@@ -71,6 +73,7 @@ declared bytes = do
 unfoldable pub prolog : List ℕ → Result (List ℕ) Problem
 prolog bytes = choose (declaration_start (past_mark bytes)) declared (Ok (past_mark bytes))
 
+-- the place at which a document's pieces begin, from what follows its declaration
 abbrev pub placed : List ℕ → Result (List ℕ) Problem → Result Place Problem
 placed text found =
     found >>= (λ rest. Ok (record { text = text; rest = rest; nesting = record { names = []; has_root = false } }))

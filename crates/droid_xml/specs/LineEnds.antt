@@ -5,6 +5,7 @@ use Rattle.std.specs.Prelude.{ℕ, ◌==◌, ◌&&◌, ◌++◌, Bool, false, if
 abbrev pub line_feed : Bool → ℕ → List ℕ
 line_feed is_behind b = if b == 13 then 10 ∷ [] else if is_behind && (b == 10) then [] else b ∷ []
 
+-- what the bytes become; is_behind is for the first of them
 abbrev pub line_feeds : Bool → List ℕ → List ℕ
 line_feeds is_behind [] = []
 line_feeds is_behind (b ∷ bytes) = line_feed is_behind b ++ line_feeds (b == 13) bytes

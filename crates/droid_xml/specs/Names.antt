@@ -18,6 +18,7 @@ begins_name (c ∷ cs) = is_name_start c
 abbrev pub are_of_name : List ℕ → Bool
 are_of_name cs = begins_name cs && list_all is_name_char cs
 
+-- whether bytes are the UTF-8 of a name
 abbrev pub is_name : List ℕ → Bool
 is_name bytes = is_utf8 bytes && are_of_name (chars bytes)
 

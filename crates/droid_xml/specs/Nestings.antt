@@ -14,6 +14,7 @@ pub record Nesting : Type 0 where
   pub names : List (List ℕ)
   pub has_root : Bool
 
+-- no element is open
 abbrev pub is_outside : Nesting → Bool
 is_outside nesting = nat_eq (length nesting.names) 0
 
@@ -41,6 +42,7 @@ closed nesting name =
     then Ok (record { names = take (length nesting.names - 1) nesting.names; has_root = nesting.has_root })
     else Err problems.NotWellFormed
 
+-- a piece that opens and closes nothing, where the test says whether it may stand there
 abbrev pub allowed : Bool → Nesting → Result Nesting Problem
 allowed test nesting = if test then Ok nesting else Err problems.NotWellFormed
 

@@ -64,6 +64,7 @@ end_tag_at bytes = do
 abbrev pub ends_text : ℕ → Bool
 ends_text byte = byte == 60 || byte == 38
 
+-- the number of bytes before the first < or &
 abbrev pub text_len : List ℕ → ℕ
 text_len bytes = position_or_len ends_text bytes
 
@@ -74,5 +75,6 @@ text_at bytes = do
   whole ← only_if (not (is_some (cut_at (codes "]]>") text))) text
   Some (Text whole, drop (text_len bytes) bytes)
 
+-- a reference behind its &, as a piece
 abbrev pub a_reference : List ℕ → Option (Part × List ℕ)
 a_reference bytes = option_map (λ found. (Reference found.0, found.1)) (reference_at bytes)

@@ -20,6 +20,7 @@ number_in base (b ∷ bytes) = more_digits base 0 (b ∷ bytes)
 abbrev pub char_of : ℕ → Option ℕ
 char_of number = only_if (is_char number) number
 
+-- the character whose number these digits write
 unfoldable pub numbered : ℕ → List ℕ → Option ℕ
 numbered base digits = number_in base digits >>= char_of
 

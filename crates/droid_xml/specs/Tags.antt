@@ -15,6 +15,7 @@ tag_end bytes =
     choose (after (codes "/>") (past_spaces bytes)) (λ rest. Some (true, rest))
     (option_map (λ rest. (false, rest)) (after (codes ">") (past_spaces bytes)))
 
+-- an attribute in front of the others of its tag
 abbrev pub with_first : Setting → Result (List Setting × (Bool × List ℕ)) Problem
     → Result (List Setting × (Bool × List ℕ)) Problem
 with_first setting more = more >>= (λ found. Ok (setting ∷ found.0, found.1))

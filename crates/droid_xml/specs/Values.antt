@@ -12,6 +12,7 @@ pub record Partial : Type 0 where
   pub text : List ℕ
   pub name : Option (List ℕ)
 
+-- a value before its first character
 abbrev pub nothing : Partial
 nothing = record { text = []; name = None }
 
@@ -31,9 +32,11 @@ inside text name c =
     if c == 59 then referenced name >>= (λ char. Some (record { text = text ++ encode_utf8 char; name = None }))
     else Some (record { text = text; name = Some (name ++ encode_utf8 c) })
 
+-- a value after one more character, unless a reference is wrong
 abbrev pub after_char : Partial → ℕ → Option Partial
 after_char value c = choose value.name (λ name. inside value.text name c) (Some (plain value.text c))
 
+-- the same, unless it was wrong before
 abbrev pub after_each : Option Partial → ℕ → Option Partial
 after_each value c = value >>= (λ partial. after_char partial c)
 
@@ -54,6 +57,7 @@ quoted_by quote bytes = do
   value ← value_of (chars raw)
   Some (value, cut.1)
 
+-- [10] AttValue, in either kind of quotes
 unfoldable pub value_at : List ℕ → Option (List ℕ × List ℕ)
 value_at [] = None
 value_at (quote ∷ bytes) = if quote == 34 then quoted_by 34 bytes else if quote == 39 then quoted_by 39 bytes else None

@@ -17,12 +17,15 @@ use Rattle.droid_xml.specs.declared.problem.Fault.TheVariants as faults
 use Rattle.droid_xml.specs.declared.problem.Problem.{Problem}
 use Rattle.droid_xml.specs.Pieces.{Part, Start, End, Text, Data, Reference, Comment, Instruction}
 
+-- an attribute
 abbrev pub setting : Attribute → Setting
 setting a = record { name = a.name.now; value = string_bytes a.value }
 
+-- an element that begins
 abbrev pub tag : Element → Tag
 tag e = record { name = e.name.now; attributes = map setting e.attributes.items; is_empty = e.is_empty }
 
+-- a piece
 abbrev pub part : Piece → Part
 part (pieces.Start e) = Start (tag e)
 part (pieces.End name) = End name.now
@@ -32,6 +35,7 @@ part (pieces.Reference char) = Reference char
 part (pieces.Comment text) = Comment text.now
 part (pieces.Instruction target text) = Instruction target.now text.now
 
+-- the open elements
 abbrev pub nesting : Open → Nesting
 nesting o = record { names = map (λ name. name.now) o.names.items; has_root = o.has_root }
 

@@ -1,4 +1,4 @@
-//! Attributes.
+//! Reads attributes.
 
 ghost use Rattle.std.specs.Prelude.{◌≡◌, map};
 ghost use Rattle.std.specs.List.{list_any};
@@ -33,7 +33,7 @@ fn attribute_at(alloc: Global, text: &[u8]) -> Result<(Attribute<'_>, &[u8]), St
     Ok((Attribute { name, value }, rest))
 }
 
-/// Reads an attribute behind the white space that has to stand before it.
+/// Reads an attribute after the white space that has to stand before it. Returns it and what follows it.
 #[tactic(auto, unfolding(crate::specs::Attributes::next_attribute))]
 pub fn next_attribute(alloc: Global, text: &[u8]) -> Result<(Attribute<'_>, &[u8]), Stop>
     ensures { Gives (λ x. (setting x.0, x.1.now)) result (required (next_attribute text.now)) }
@@ -42,7 +42,7 @@ pub fn next_attribute(alloc: Global, text: &[u8]) -> Result<(Attribute<'_>, &[u8
     attribute_at(alloc, rest)
 }
 
-/// Whether one of the attributes has this name.
+/// Returns whether one of the attributes has this name.
 fn has_name(attributes: &[Attribute<'_>], name: &str) -> bool
     ensures { result ≡ list_any (λ other. bytes_eq name.now other.name) (map setting attributes.now) }
 {
@@ -54,7 +54,7 @@ fn has_name(attributes: &[Attribute<'_>], name: &str) -> bool
     false
 }
 
-/// Whether no name stands twice.
+/// Returns whether no name stands twice.
 pub fn are_distinct(attributes: &[Attribute<'_>]) -> bool
     ensures { result ≡ are_distinct (map setting attributes.now) }
 {

@@ -55,7 +55,7 @@ fn len_before(text: &[u8], byte: u8) -> usize
     text.len()
 }
 
-/// Whether the byte is white space.
+/// Returns whether the byte is white space.
 pub fn is_space(byte: u8) -> bool
     ensures { result ≡ is_space byte }
 {

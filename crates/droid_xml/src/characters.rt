@@ -1,4 +1,4 @@
-//! The characters of a document.
+//! The characters that a document and its names may have.
 
 ghost use Rattle.std.specs.Prelude.{◌≡◌};
 ghost use Rattle.std.specs.List.{list_all};
@@ -8,14 +8,14 @@ ghost use Rattle.droid_xml.specs.Characters.{is_char, is_name_start, is_name_cha
 
 use std::str;
 
-/// Whether a document may have the character of this number.
+/// Returns whether a document may have the character of this number.
 pub fn is_char(c: u32) -> bool
     ensures { result ≡ is_char c }
 {
     matches!(c, 0x9 | 0xA | 0xD | 0x20..=0xD7FF | 0xE000..=0xFFFD | 0x1_0000..=0x10_FFFF)
 }
 
-/// Whether a name may begin with this character.
+/// Returns whether a name may begin with this character.
 #[tactic(auto, unfolding(crate::specs::Characters::is_name_start))]
 pub fn is_name_start(c: u32) -> bool
     ensures { result ≡ is_name_start c }
@@ -40,7 +40,7 @@ pub fn is_name_start(c: u32) -> bool
     )
 }
 
-/// Whether a name may have this character behind its first.
+/// Returns whether a name may have this character behind its first.
 #[tactic(auto, unfolding(crate::specs::Characters::is_name_char))]
 pub fn is_name_char(c: u32) -> bool
     ensures { result ≡ is_name_char c }
@@ -59,7 +59,7 @@ pub fn text_in(bytes: &[u8]) -> Option<&str>
     if are_chars(text) { Some(text) } else { None }
 }
 
-/// Whether a document may have each character of the text.
+/// Returns whether a document may have each character of the text.
 fn are_chars(text: &str) -> bool
     ensures { result ≡ list_all is_char (chars text.now) }
 {

@@ -1,4 +1,4 @@
-//! The XML declaration.
+//! Reads the XML declaration, and judges the encoding that it declares.
 
 ghost use Rattle.std.specs.Prelude.{◌≡◌, ◌==◌};
 ghost use Rattle.std.specs.List.{list_all};
@@ -10,14 +10,14 @@ ghost use Rattle.droid_xml.specs.Declarations.{are_ascii, is_readable};
 
 use crate::bytes::{after, cut_at_byte, past_some_space, past_spaces};
 
-/// Whether a declared word may have this byte.
+/// Returns whether a declared word may have this byte.
 fn is_word_byte(byte: u8) -> bool
     ensures { result ≡ is_word_byte byte }
 {
     matches!(byte, b'A'..=b'Z' | b'a'..=b'z' | b'0'..=b'9' | b'.' | b'-' | b'_')
 }
 
-/// Whether a declared word may have each of these bytes.
+/// Returns whether a declared word may have each of these bytes.
 fn is_word(bytes: &[u8]) -> bool
     ensures { result ≡ list_all is_word_byte bytes.now }
 {
@@ -71,7 +71,7 @@ fn declared_or<'a>(text: &'a [u8], name: &[u8], default: &'a [u8]) -> (&'a [u8],
     }
 }
 
-/// Whether the word is `yes` or `no`.
+/// Returns whether the word is `yes` or `no`.
 fn is_yes_or_no(word: &[u8]) -> bool
     ensures { result ≡ is_yes_or_no word.now }
 {
@@ -115,7 +115,7 @@ pub fn declaration_start(text: &[u8]) -> Option<&[u8]>
     }
 }
 
-/// Whether the bytes, declared to be in this encoding, can be read as UTF-8.
+/// Returns whether the bytes, declared to be in this encoding, can be read as UTF-8.
 #[tactic(auto, unfolding(crate::specs::Declarations::is_readable))]
 pub fn is_readable(encoding: &[u8], text: &[u8]) -> bool
     ensures { result ≡ is_readable encoding.now text.now }
@@ -129,7 +129,7 @@ pub fn is_readable(encoding: &[u8], text: &[u8]) -> bool
     false
 }
 
-/// Whether each byte is ASCII.
+/// Returns whether each byte is ASCII.
 fn are_ascii(text: &[u8]) -> bool
     ensures { result ≡ are_ascii text.now }
 {

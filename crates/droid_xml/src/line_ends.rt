@@ -1,4 +1,4 @@
-//! Line ends.
+//! Makes line ends line feeds.
 
 ghost use Rattle.std.specs.Prelude.{◌≡◌, ◌++◌, IfOk, MatchOption, OnOk};
 ghost use Rattle.droid_xml.specs.LineEnds.{line_feed, with_line_feeds};
@@ -30,7 +30,7 @@ fn rewritten(alloc: Global, text: &[u8]) -> Result<Vec<u8>, AllocError>
     Ok(bytes)
 }
 
-/// Adds what a byte becomes, behind a carriage return or not.
+/// Adds what a byte becomes. `is_behind` says whether a carriage return stands right before it.
 fn push_line_feed(bytes: &mut Vec<u8>, is_behind: bool, byte: u8) -> Result<(), AllocError>
     ensures { OnOk result (bytes.new.items ≡ bytes.old.items ++ line_feed is_behind byte) }
 {

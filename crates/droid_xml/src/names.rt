@@ -1,4 +1,4 @@
-//! Names.
+//! Reads names of elements, attributes and processing instructions.
 
 ghost use Rattle.std.specs.Prelude.{◌≡◌, ◌≤◌, length};
 ghost use Rattle.std.specs.List.{list_all, prefix_len};
@@ -10,7 +10,7 @@ ghost use Rattle.droid_xml.specs.Names.{is_name_byte, begins_name, are_of_name, 
 use crate::characters::{is_name_char, is_name_start};
 use std::str;
 
-/// Whether a name may have this byte.
+/// Returns whether a name may have this byte.
 fn is_name_byte(byte: u8) -> bool
     ensures { result ≡ is_name_byte byte }
 {
@@ -30,7 +30,7 @@ fn name_len(text: &[u8]) -> usize
     text.len()
 }
 
-/// Whether the characters are those of a name.
+/// Returns whether the characters are those of a name.
 fn are_of_name(text: &str) -> bool
     ensures { result ≡ are_of_name (chars text.now) }
 {
@@ -41,7 +41,7 @@ fn are_of_name(text: &str) -> bool
     }
 }
 
-/// Whether a name may begin with the first character.
+/// Returns whether a name may begin with the first character.
 fn begins_name(text: &str) -> bool
     ensures { result ≡ begins_name (chars text.now) }
 {
@@ -51,7 +51,7 @@ fn begins_name(text: &str) -> bool
     }
 }
 
-/// Whether a name may have each of the characters.
+/// Returns whether a name may have each of the characters.
 fn are_name_chars(text: &str) -> bool
     ensures { result ≡ list_all is_name_char (chars text.now) }
 {

@@ -1,4 +1,4 @@
-//! Which elements are open.
+//! Which elements are open, and whether the next piece may stand there.
 
 ghost use Rattle.std.specs.Prelude.{◌≡◌, [], false};
 ghost use Rattle.std.specs.List.{list_all};
@@ -21,7 +21,7 @@ pub struct Open<'a> {
 }
 
 impl<'a> Open<'a> {
-    /// Nothing is open, and no root has begun.
+    /// Begins a document: nothing is open, and no root has begun.
     pub fn new(alloc: Global) -> Self
         ensures { nesting result ≡ record { names = []; has_root = false } }
     {
@@ -31,14 +31,14 @@ impl<'a> Open<'a> {
         }
     }
 
-    /// Whether no element is open.
+    /// Returns whether no element is open.
     pub fn is_outside(&self) -> bool
         ensures { result ≡ is_outside (nesting self.now) }
     {
         self.names.is_empty()
     }
 
-    /// Whether the root has begun and ended.
+    /// Returns whether the root has begun and ended.
     pub fn is_complete(&self) -> bool
         ensures { result ≡ is_complete (nesting self.now) }
     {
@@ -62,7 +62,7 @@ impl<'a> Open<'a> {
         Ok(())
     }
 
-    /// Whether the innermost element has this name.
+    /// Returns whether the innermost element has this name.
     fn is_innermost(&self, name: &str) -> bool
         ensures { result ≡ is_innermost (nesting self.now) name.now }
     {
@@ -83,7 +83,7 @@ impl<'a> Open<'a> {
         Ok(())
     }
 
-    /// Nothing changes, where the piece may stand here.
+    /// Accepts a piece that opens and closes nothing, if it may stand here.
     fn allow(&self, is_allowed: bool) -> Result<(), Stop>
         ensures { Changes result (allowed is_allowed (nesting self.now)) (nesting self.now) (nesting self.now) }
     {
@@ -94,7 +94,7 @@ impl<'a> Open<'a> {
         }
     }
 
-    /// Takes the next piece, where it may stand here. If not, nothing changes.
+    /// Takes the next piece, if it may stand here. If not, nothing changes.
     #[tactic(auto, unfolding(crate::specs::Nestings::nested))]
     pub fn take(&mut self, piece: &Piece<'a>) -> Result<(), Stop>
         ensures { Changes result (nested (nesting self.old) (part piece.now)) (nesting self.old) (nesting self.new) }
@@ -110,7 +110,7 @@ impl<'a> Open<'a> {
     }
 }
 
-/// Whether the text is white space and nothing else.
+/// Returns whether the text is white space and nothing else.
 fn is_white(text: &str) -> bool
     ensures { result ≡ list_all is_space text.now }
 {

@@ -1,4 +1,4 @@
-//! The pieces of a document.
+//! Reads the pieces of a document.
 
 ghost use Rattle.std.specs.Prelude.{◌≡◌};
 ghost use Rattle.std.specs.Option.{option_map};
@@ -88,7 +88,7 @@ fn end_tag_at(text: &[u8]) -> Option<(Piece<'_>, &[u8])>
     Some((Piece::End(name), rest))
 }
 
-/// Whether text ends before this byte.
+/// Returns whether text ends before this byte.
 fn ends_text(byte: u8) -> bool
     ensures { result ≡ ends_text byte }
 {
@@ -107,7 +107,7 @@ fn text_len(text: &[u8]) -> usize
     text.len()
 }
 
-/// Reads text. Returns it and what follows it.
+/// Reads text up to the next `<` or `&`. Returns it and what follows it.
 #[tactic(auto, unfolding(crate::specs::Pieces::text_at))]
 fn text_at(text: &[u8]) -> Option<(Piece<'_>, &[u8])>
     ensures { option_map (λ x. (part x.0, x.1.now)) result ≡ text_at text.now }

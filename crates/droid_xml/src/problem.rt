@@ -7,7 +7,7 @@ ghost use Rattle.droid_xml.specs.declared.problem.Stop.TheVariants as stops;
 use std::alloc::{AllocError, AllocFailed};
 
 /// Why a document is not read.
-#[derive(Clone, Copy, Debug, PartialEq, Eq)]
+#[derive(Clone, Copy)]
 pub enum Problem {
     /// It is not well-formed.
     NotWellFormed,
@@ -22,7 +22,7 @@ pub enum Problem {
 }
 
 /// Why reading stopped.
-#[derive(Clone, Copy, Debug, PartialEq, Eq)]
+#[derive(Clone, Copy)]
 pub enum Fault {
     /// Memory ran out.
     Memory,

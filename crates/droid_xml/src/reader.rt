@@ -59,7 +59,7 @@ impl<'a> Reader<'a> {
         Ok(Some(piece))
     }
 
-    /// Nothing comes where nothing is left, if the document may end there.
+    /// Ends a document of which nothing is left: returns `None`, or a fault if the document may not end there.
     fn end(&self) -> Result<Option<Piece<'a>>, Fault>
         requires { length (place self.now).rest ≡ 0 }
         ensures { Goes (place self.now) result (place self.now) }
@@ -139,6 +139,7 @@ pub fn read(alloc: Global, text: &[u8]) -> Result<Vec<Piece<'_>>, Fault>
 {
     let mut reader = Reader::new(alloc, text)?;
     let mut pieces = Vec::new(alloc);
+    // The prover asks for a bound. No document has as many pieces.
     for _ in 0..u64::MAX {
         match reader.next(alloc) {
             Ok(Some(piece)) => pieces.push(piece)?,

@@ -1,4 +1,4 @@
-//! References to characters and to the five entities.
+//! Reads references to characters and to the five entities.
 
 ghost use Rattle.std.specs.Prelude.{◌≡◌, ◌<◌, ◌≤◌, MatchOption};
 ghost use Rattle.std.specs.Char.{digit_value};
@@ -23,6 +23,7 @@ fn numbered(base: u32, digits: &[u8]) -> Option<char>
             Some(digit) => digit,
             None => return None,
         };
+        // Kept at the first number past all characters, so that it does not overflow.
         value = (value * base + digit).min(0x11_0000);
     }
     char_of(value)

@@ -1,4 +1,4 @@
-//! Tags.
+//! Reads start tags.
 
 ghost use Rattle.std.specs.Prelude.{◌≡◌, ◌≤◌, map};
 ghost use Rattle.std.specs.Option.{option_map};
@@ -41,7 +41,7 @@ fn tag_end(text: &[u8]) -> Option<(bool, &[u8])>
 /// The attributes of a tag, and what its end is.
 type Attributes<'a> = (Vec<Attribute<'a>>, (bool, &'a [u8]));
 
-/// Reads the attributes and the end of a start tag.
+/// Reads the attributes of a start tag, at most 64, and its end.
 fn attributes_at(alloc: Global, text: &[u8]) -> Result<Attributes<'_>, Stop>
     ensures { Gives (λ x. (map setting x.0.items, (x.1.0, x.1.1.now))) result (attributes_at 64 text.now) }
 {
@@ -65,7 +65,8 @@ fn attributes_at(alloc: Global, text: &[u8]) -> Result<Attributes<'_>, Stop>
     }
 }
 
-/// Returns what is wrong where a tag doesn't end behind its last attribute.
+/// Returns what is wrong with a tag that does not end after 64 attributes: another attribute follows, or something that
+/// is none.
 fn one_more(alloc: Global, text: &[u8]) -> Stop
     ensures { Stops result (one_too_many text.now) }
 {

@@ -1,4 +1,4 @@
-//! The values of attributes.
+//! Reads the values of attributes.
 
 ghost use Rattle.std.specs.Prelude.{◌≡◌, false, IfOk, OnOk};
 ghost use Rattle.std.specs.List.{list_any};
@@ -117,7 +117,7 @@ fn value_of(alloc: Global, text: &str) -> Result<String, Stop>
     Ok(value)
 }
 
-/// Whether the text has a `<`.
+/// Returns whether the text has a `<`.
 fn has_less(text: &str) -> bool
     ensures { result ≡ list_any (is_byte 60) text.now }
 {

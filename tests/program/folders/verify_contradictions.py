@@ -133,7 +133,7 @@ class Contradictions(InProfiles):
         for at, rows in {3: self.rows[:2] + [self.rows[2][:-1]] + self.rows[3:], 8: self.rows + [["a"]]}.items():
             listed = self.write(b"bad.csv", spell(rows))
             status, out, said = verify(self.top, "--against", listed, "--quiet")
-            self.assertEqual((status, out, said), (3, b"", b"fault: List\n%s: record %d does not have 18 fields\n" % (listed, at)))
+            self.assertEqual((status, out, said), (3, b"", b"fault: List\n%s: record %d does not have a field for each column\n" % (listed, at)))
 
     def test_wrong_parents(self):
         """Another folder's ID, a file's, the row's own or nobody's; the folder's row stands in front, or behind."""

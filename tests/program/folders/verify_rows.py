@@ -1,10 +1,13 @@
 """The CSV of a profile, row by row: how `verify` reads it, and what it reports beside a tree of one file. What is expected is
 written by hand; Python's `hashlib` computed the hashes, its `csv` the rows of the first comparison."""
+import csv
+import io
 import os
+import random
 import shutil
 import unittest
 
-from verify_lists import InLists, rows_in, verify
+from verify_lists import InLists, profile, records_in, rows_in, verify
 
 # the names of the columns of a profile with MD5 hashes
 NAMES = "ID,PARENT_ID,URI,FILE_PATH,NAME,METHOD,STATUS,SIZE,TYPE,EXT,LAST_MODIFIED,EXTENSION_MISMATCH,MD5_HASH,FORMAT_COUNT,PUID,MIME_TYPE,FORMAT_NAME,FORMAT_VERSION\n"
@@ -61,9 +64,20 @@ ROWS = [
     ("1,,u,/a,a,,Done,5,File,,,false,0001020304050607_8090a0b0c0d0e0f,0,,,,\n", "record 2: MD5_HASH is wrong"),
     ("1,,u,/d,d,,Done,,Folder,,,false,000102030405060708090a0b0c0d0e0f,,,,,\n", "record 2: MD5_HASH is wrong"),
     # the number of fields
-    ("1,,u,/a,a,,Done,5,File,,,false,,0,,,\n", "record 2 does not have 18 fields"),
-    ("1,,u,/a,a,,Done,5,File,,,false,,0,,,,\n2,,u,/b,b,,Done,6,File,,,false,,0,,,,,\n", "record 3 does not have 18 fields"),
+    ("1,,u,/a,a,,Done,5,File,,,false,,0,,,\n", "record 2 does not have a field for each column"),
+    ("1,,u,/a,a,,Done,5,File,,,false,,0,,,,\n2,,u,/b,b,,Done,6,File,,,false,,0,,,,,\n", "record 3 does not have a field for each column"),
 ]
+# the columns that a list is read by, in the order in which a missing one is named, and the others
+NEEDED = "ID PARENT_ID FILE_PATH NAME SIZE TYPE LAST_MODIFIED MD5_HASH FORMAT_COUNT".split()
+OTHERS = "URI METHOD STATUS EXT EXTENSION_MISMATCH PUID MIME_TYPE FORMAT_NAME FORMAT_VERSION".split()
+# a file with two formats, a folder, and a file in it whose name has a quote and a comma
+SEVERAL = (
+    '1,,u,/a,a,Signature,Done,5,File,,2026-01-31T23:59:51,false,000102030405060708090a0b0c0d0e0f,2,fmt/1,m,n,v\n'
+    '1,,u,/a,a,Signature,Done,5,File,,2026-01-31T23:59:51,false,000102030405060708090a0b0c0d0e0f,2,fmt/2,m,o,v\n'
+    '2,,u,/d,d,,Done,,Folder,,2026-01-31T23:59:53,false,,,,,,\n'
+    '3,2,u,"/d/""b"",","""b"",",,Done,6,File,,2026-01-31T23:59:52,false,,0,,,,\n'
+)
+SEVERAL_ITEMS = '/a f 5 1 15;/d d - 3 -;/d/"b", f 6 2 -;'
 # the hash of the rows that have one, and a moment of 2026-01-31T23:59:50
 HASH, MOMENT = bytes(range(16)).hex().encode(), 1_769_903_990
 # lists without rows, and whether they have the header of a profile
@@ -140,6 +154,19 @@ def words_of(rows):
     return text.decode()
 
 
+def part(text, names, quoting=csv.QUOTE_MINIMAL):
+    """The columns of these names alone, as Python's `csv` writes them."""
+    rows = [*csv.reader(io.StringIO(text, newline=""), strict=True)]
+    places = [rows[0].index(name) for name in names]
+    out = io.StringIO(newline="")
+    csv.writer(out, quoting=quoting, lineterminator="\n").writerows([[row[place] for place in places] for row in rows])
+    return out.getvalue()
+
+
+def in_order(names):
+    return [name for name in NAMES.strip().split(",") if name in names]
+
+
 class Rows(InLists):
     def fails(self, text, fault):
         listed = self.write(b"listed", text.encode())
@@ -191,6 +218,72 @@ class Rows(InLists):
                 self.fails(text, due)
             else:
                 self.reads(text, [])
+
+    def test_some_columns(self):
+        chance = random.Random(18)
+        kept = [[], OTHERS] + [[other for other in OTHERS if other != one] for one in OTHERS] + [chance.sample(OTHERS, chance.randrange(9)) for _ in range(12)]
+        for others in kept:
+            for quoting in (csv.QUOTE_MINIMAL, csv.QUOTE_ALL):
+                self.reads(part(NAMES + SEVERAL, in_order(NEEDED + others), quoting), items_of(SEVERAL_ITEMS))
+
+    def test_missing_columns(self):
+        chance = random.Random(19)
+        for count in range(1, 9):
+            for first in NEEDED[1:]:
+                gone = {first, *chance.sample(NEEDED[1:], count - 1)}
+                named = next(name for name in NEEDED if name in gone).replace("MD5_HASH", "MD5_HASH, SHA256_HASH or HASH")
+                left = in_order([name for name in NEEDED + chance.sample(OTHERS, 4) if name not in gone])
+                self.fails(part(NAMES + SEVERAL, left), f"there is no column {named}")
+                self.fails(part(NAMES, left, csv.QUOTE_ALL), f"there is no column {named}")
+
+    def test_other_headers(self):
+        names = in_order(NEEDED)
+        for place in range(1, len(names)):
+            for others in (
+                names[:place] + [names[place], names[place]] + names[place + 1 :],
+                names[:place] + ["SHA1_HASH"] + names[place + 1 :],
+                names[: place - 1] + [names[place], names[place - 1]] + names[place + 1 :],
+                names[:place] + [names[place] + " "] + names[place + 1 :],
+            ):
+                if others[0] == "ID":
+                    self.fails(",".join(others) + "\n", "header")
+
+    def test_fields_of_some_columns(self):
+        text = part(NAMES + SEVERAL, in_order(NEEDED))
+        lines = text.splitlines(True)
+        for place in range(1, len(lines)):
+            for line in (lines[place].replace("\n", ",\n"), lines[place].rpartition(",")[0] + "\n", "x\n"):
+                wrong = "".join(lines[:place]) + line + "".join(lines[place + 1 :])
+                self.fails(wrong, f"record {place + 1} does not have a field for each column")
+        # a field is that of its own column, whatever is left out before it
+        for name, value in [("SIZE", "x"), ("TYPE", "file"), ("LAST_MODIFIED", "2026-13-01T00:00:00"), ("MD5_HASH", "00"), ("FORMAT_COUNT", "-1"), ("FILE_PATH", "a"), ("NAME", "c"), ("PARENT_ID", "0")]:
+            for others in (OTHERS, [], OTHERS[:3], OTHERS[4:]):
+                names = in_order(NEEDED + others)
+                rows = [*csv.reader(io.StringIO(part(NAMES + SEVERAL, names), newline=""))]
+                rows[2][names.index(name)] = value
+                out = io.StringIO(newline="")
+                csv.writer(out, lineterminator="\n").writerows(rows)
+                self.fails(out.getvalue(), f"record 3: {name} is wrong")
+
+    def test_formats_of_some_columns(self):
+        self.file(b"/a.txt", b"first\n", MOMENT)
+        listed = self.work + b"/whole"
+        self.assertEqual(profile(self.top, "--output", listed, "--quiet")[0], 0)
+        with open(listed, encoding="utf-8", newline="") as file:
+            whole = file.read()
+        other = whole.replace("x-fmt/111", "fmt/43")
+        self.assertNotEqual(whole, other)
+        for others in (OTHERS, ["PUID"], ["URI", "PUID", "FORMAT_NAME"]):
+            names = in_order(NEEDED + others)
+            for text, due in ((whole, []), (other, [(b"format", b"/a.txt", b"fmt/43", b"x-fmt/111")])):
+                against = self.write(b"listed", part(text, names).encode())
+                status, out, said = verify(self.top, "--against", against, "--identify", "--quiet")
+                found = [(row["difference"], row["path"], row["formats"], row["found_formats"]) for row in records_in(out)]
+                self.assertEqual((status, found, said), (5 if due else 0, due, b""), names)
+        without = part(other, in_order(NEEDED + OTHERS[:5]))
+        self.reports(without, [])
+        against = self.write(b"listed", without.encode())
+        self.assertEqual(verify(self.top, "--against", against, "--identify"), (3, b"", b"fault: List\n" + against + b": there is no column PUID\n"))
 
     def test_comparisons(self):
         for rows, later, words, due in COMPARED:

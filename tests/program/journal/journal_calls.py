@@ -305,19 +305,19 @@ class Failing(Noted):
                 self.assertFalse(is_open(waits))
         return answered
 
-    def test_sixteen_in_a_turn(self):
-        """Of 40 frames that come at once, sixteen are handled in a turn: where a write or a sync of a turn fails, the replies of the turns
+    def test_many_in_a_turn(self):
+        """Of 160 frames that come at once, 64 are handled in a turn: where a write or a sync of a turn fails, the replies of the turns
         before it were written, and no others."""
         self.assertEqual(run_journal(self.path)[0], 0)
-        asked = [create(1)] + [folder(number, b"%d" % number) for number in range(2, 41)]
+        asked = [create(1)] + [folder(number, b"%d" % number) for number in range(2, 161)]
         due, found, syncs = due_to(asked), set(), 0
         for call, (_, written, _) in self.each_in_turn(contents(self.path), lambda env: run_journal(self.path, b"".join(asked), env=env)):
             # (a start syncs the file first)
             if call in (f"write {FILE}", f"sync {FILE}") and syncs:
-                self.assertEqual(written, due[: len(due_to(asked[: 16 * (syncs - 1)]))], call)
-                found.add((call.split()[0], 16 * (syncs - 1)))
+                self.assertEqual(written, due[: len(due_to(asked[: 64 * (syncs - 1)]))], call)
+                found.add((call.split()[0], 64 * (syncs - 1)))
             syncs += call == f"sync {FILE}"
-        self.assertEqual(found, {(verb, count) for verb in ("write", "sync") for count in (0, 16, 32)})
+        self.assertEqual(found, {(verb, count) for verb in ("write", "sync") for count in (0, 64, 128)})
 
     def test_many_clients(self):
         """Three clients send in pieces by chance while a write or a sync fails, whichever it is. Behind that call nothing is written to

@@ -121,14 +121,14 @@ class Starts(InJournal):
         self.assertEqual(run_journal(self.path, b"".join(asked)), (0, by_model(asked), b""))
         self.assertEqual(read(contents(self.path)).records, records)
 
-    def test_sixteen_in_a_turn(self):
-        """Of frames that come at once, sixteen are handled in a turn. The first record of each turn begins with a mark: all before
-        it was on the disk."""
-        for count in (0, 1, 15, 16, 17, 100):
+    def test_many_in_a_turn(self):
+        """Of frames that come at once, 64 are handled in a turn. The first record of each turn begins with a mark: all before it was
+        on the disk."""
+        for count in (0, 1, 63, 64, 65, 200):
             path = f"{self.path}{count}"
-            asked = ([create(1)] + [folder(number, b"%d" % number, version=1 + number % 2) for number in range(2, 101)])[:count]
+            asked = ([create(1)] + [folder(number, b"%d" % number, version=1 + number % 2) for number in range(2, 201)])[:count]
             self.assertEqual(run_journal(path, b"".join(asked)), (0, by_model(asked), b""))
-            self.assertEqual([it.first for it in read(contents(path)).records], [place % 16 == 0 for place in range(count)])
+            self.assertEqual([it.first for it in read(contents(path)).records], [place % 64 == 0 for place in range(count)])
 
 
 class LongBodies(InJournal):

@@ -41,6 +41,30 @@ class SharedSyncs(InJournal):
         self.assertGreaterEqual(found.count(b"sync"), ASKED)
         self.assertNotIn(b"1", found)
 
+    def syncs_of(self, busy, idle):
+        """Some connections send 64 requests at once, others nothing: how many syncs the replies take."""
+        with serving(self.path, "--forever", env=self.env, killed=True) as service:
+            streams = [connect(service.port) for _ in range(busy + idle)]
+            self.assertEqual(self.ask(streams[0], create(1)), MADE)
+            before = contents(self.waits).split().count(b"sync")
+            for place, stream in enumerate(streams[:busy]):
+                stream.sendall(b"".join(folder(number, b"%d" % number) for number in range(2 + 64 * place, 66 + 64 * place)))
+            for stream in streams[:busy]:
+                for _ in range(64):
+                    self.assertEqual(read_frame(stream)[0], NODE)
+            syncs = contents(self.waits).split().count(b"sync") - before
+            for stream in streams:
+                stream.close()
+        return syncs
+
+    def test_many_of_one(self):
+        """64 requests of one connection share a sync, whichever others are open."""
+        self.assertEqual(self.syncs_of(busy=1, idle=9), 1)
+
+    def test_many_of_each(self):
+        """Of eight connections 32 are handled in a turn, of 256 in all: two syncs, and one more where the first requests came alone."""
+        self.assertIn(self.syncs_of(busy=8, idle=2), (2, 3, 4))
+
     def test_two_in_turn(self):
         """Each is awaited where the other one asks: never with success, so ever more turns don't wait."""
         found = self.asked_in_turn(2)

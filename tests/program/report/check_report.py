@@ -1,7 +1,9 @@
 """Tests `report` of the built program: every number of the page is computed again from the CSV, which is random or odd.
 check_report.py PROGRAM"""
 
+import csv
 import datetime
+import io
 import os
 import random
 import re
@@ -91,6 +93,34 @@ def random_profiles():
     print("200 random profiles: passed")
 
 
+# the columns that a report is made of, in the order in which a missing one is named
+NEEDED = "ID FILE_PATH METHOD SIZE TYPE LAST_MODIFIED EXTENSION_MISMATCH MD5_HASH FORMAT_COUNT PUID FORMAT_NAME FORMAT_VERSION".split()
+
+
+def part(text, names):
+    """Returns the columns of these names alone, as Python's `csv` writes them."""
+    rows = [*csv.reader(io.StringIO(text, newline=""), strict=True)]
+    places = [place for place, name in enumerate(rows[0]) if name in names]
+    out = io.StringIO(newline="")
+    csv.writer(out, lineterminator="\n").writerows([[row[place] for place in places] for row in rows])
+    return out.getvalue()
+
+
+def some_columns():
+    """The page of a CSV with some of the columns is that of all, if those that it is made of are there."""
+    def without_moment(page):
+        return re.sub(r"p\.csv at \S+ ", "p.csv ", page)
+
+    for seed in range(20):
+        chance = random.Random(seed)
+        text = profile(chance, 40)
+        others = [name for name in NAMES if name not in NEEDED]
+        whole = without_moment(page_by(text.encode(), "t"))
+        for kept in ([], others, chance.sample(others, chance.randrange(len(others)))):
+            assert without_moment(page_by(part(text, NEEDED + kept).encode(), "t")) == whole, (seed, kept)
+    print("some of the columns: passed")
+
+
 def odd_profiles():
     """An empty profile, one whose names fill more than a page, one of many years, one whose sums end at 2^64 - 1, and those
     whose formats' names fill a page."""
@@ -169,7 +199,7 @@ def each_byte_changed():
                     pages += 1
                 else:
                     assert done.returncode == 3 and done.stdout == b"", (done.returncode, at, other)
-                    assert re.match(rb"fault: Profile\n.*: (record \d+ is malformed|does not begin with)", done.stderr), (done.stderr, at, other)
+                    assert re.match(rb"fault: Profile\n.*: (record \d+ is malformed|does not begin with|there is no column)", done.stderr), (done.stderr, at, other)
     print(f"each of {len(whole)} bytes changed: passed ({pages} pages)")
 
 
@@ -188,7 +218,12 @@ def faults():
 
     fails(b"", "does not begin with")
     fails(b"\xef\xbb\xbf", "does not begin with")
-    fails(written([], NAMES[:-1]).encode(), "does not begin with")
+    fails(written([], NAMES[1::-1] + NAMES[2:]).encode(), "does not begin with")
+    for name in NEEDED:
+        named = name.replace("MD5_HASH", "MD5_HASH, SHA256_HASH or HASH")
+        fails(part(good, [other for other in NAMES if other != name]).encode(), f"there is no column {named}\n")
+    fails(part(good, NEEDED[:3]).encode(), "there is no column SIZE\n")
+    fails((part(good, NEEDED) + "1\n").encode(), "is malformed")
     for place in (1, 3, 7):
         bad = written([row(n, f"/{n}") for n in range(1, place)] + [row(place, f"/{place}", size="x")] + [row(place + 1, "/z")])
         fails(bad.encode(), f"record {place + 1} is malformed")
@@ -257,6 +292,7 @@ def pictures(page):
 
 def main():
     random_profiles()
+    some_columns()
     odd_profiles()
     pages_by_hand()
     each_byte_changed()

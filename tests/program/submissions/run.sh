@@ -7,5 +7,5 @@ tests=$(cd "$(dirname "$0")/../.." && pwd)
 export PRELOAD_READS="$work/reads.so" PYTHONPATH="$tests:$tests/program/model:$tests/program/wire"
 build_library ../folders/reads.c "$PRELOAD_READS"
 run_modules submit_whole submit_numbers submit_known_numbers submit_states submit_names submit_begun submit_outputs \
-    submit_options submit_check submit_texts submit_broken submit_steps submit_resumed submit_restarted submit_waits submit_refused submit_lies submit_disturbed \
+    submit_options submit_check submit_texts submit_broken submit_cuts submit_steps submit_resumed submit_restarted submit_waits submit_timeout submit_refused submit_lies submit_disturbed \
     submit_at_once example_client

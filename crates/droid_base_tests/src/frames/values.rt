@@ -1,8 +1,8 @@
 //! Values: copies, lists and numbers; and the texts of faults.
 
 use droid_frame::{
-    Blob, Criteria, Criterion, Filter, FrameFault, HashKind, HashValue, InputFault, Limit, Method,
-    NodeKind, ReadFault, Record, Refusal, Text, Texts, WriteFault,
+    Blob, Criteria, Criterion, Filter, FrameFault, HashKind, HashValue, Limit, Method, NodeKind,
+    Record, Refusal, Text, Texts, WriteFault,
 };
 use std::alloc::{AllocError, Global};
 use std::fmt::Display;
@@ -130,14 +130,6 @@ const FRAME_FAULTS: [(FrameFault, &str); 5] = [
     (FrameFault::Read, "the stream could not be read"),
 ];
 
-const INPUT_FAULTS: [(InputFault, &str); 3] = [
-    (InputFault::TooLong, "the input is too long"),
-    (InputFault::Memory, "out of memory"),
-    (InputFault::Read, "the input could not be read"),
-];
-
-const READ_FAULT: [(ReadFault, &str); 1] = [(ReadFault, "the stream could not be read")];
-
 const WRITE_FAULT: [(WriteFault, &str); 1] = [(
     WriteFault { written: 7 },
     "the output could not be written past its first 7 bytes",
@@ -146,8 +138,7 @@ const WRITE_FAULT: [(WriteFault, &str); 1] = [(
 #[test]
 fn faults(rt: HostRuntime) -> Result<(), Fail> {
     let alloc = rt.alloc();
-    assert!(rt; say(alloc, &FRAME_FAULTS)? && say(alloc, &INPUT_FAULTS)?);
-    assert!(rt; say(alloc, &READ_FAULT)? && say(alloc, &WRITE_FAULT)?);
+    assert!(rt; say(alloc, &FRAME_FAULTS)? && say(alloc, &WRITE_FAULT)?);
     Ok(())
 }
 

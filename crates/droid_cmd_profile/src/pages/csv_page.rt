@@ -27,6 +27,9 @@ pub struct PageTexts<'a> {
 }
 
 /// Makes the page of a profile's CSV. An error names the first malformed record.
+///
+/// Records are what the kit's `csv` reads by its default rules, behind a byte order mark if there is one: `AreRecords`
+/// and `strip_bom` are its definitions.
 pub fn page_of_csv(alloc: Global, csv: &[u8], texts: PageTexts<'_>) -> Result<String, ProfileFault>
     // The page is that of the records that `csv` reads, unless memory runs out.
     ensures { (records : List (List (List ℕ))) → AreRecords default_config st.StartRecord (strip_bom csv.now) records

@@ -1,4 +1,7 @@
 //! The page of a CSV, made now and written to a file.
+//!
+//! Proved is that the page is that of the CSV, at some moment. Which moment the clock shows, and what becomes of the
+//! file, has no contract: `tests/program/report` and `tests/program/folders/profile_report.py` test it.
 
 ghost use Rattle.std.specs.Prelude.{◌≡◌, ℕ, List, option_map};
 ghost use Rattle.csv.specs.Reading.{AreRecords, default_config, strip_bom};
@@ -70,7 +73,7 @@ pub fn put_page<R: Files<File = File>>(output: Output<'_, R>, page: &str) -> Res
     }
 }
 
-/// Returns what the clock shows, in UTC. It may show nothing that has a text.
+/// Returns what the clock shows, in UTC. If it shows none that has a text, the page says that the time is unknown.
 fn moment_now<R: Clock + AllocGlobal>(rt: &R) -> Result<Text, AllocError> {
     match seconds_now(rt) {
         Some(seconds) => moment_of(rt, seconds),

@@ -1,13 +1,14 @@
-//! Why the page of a CSV was not written.
+//! Why the page of a CSV was not written, and how a command then ends.
 
 ghost use Rattle.std.specs.Prelude.{◌≡◌};
-ghost use Rattle.droid_cmd_profile.specs.Endings.{TellsOutput, TellsPage, told_unmade};
+ghost use Rattle.droid_cmd_profile.specs.Endings.{TellsPage, told_unmade};
 ghost use Rattle.droid_terminal.specs.Endings.{told};
 
+use crate::output_told::told_output;
 use droid_disk::OutputFault;
 use droid_frame::WriteFault;
 use droid_report::ProfileFault;
-use droid_terminal::{About, Detail, Ending, faults, told_no_output};
+use droid_terminal::{About, Detail, Ending, faults};
 use std::alloc::AllocError;
 use std::fs::Files;
 
@@ -46,16 +47,6 @@ impl PageFault {
     }
 }
 
-/// Returns the ending where a file could not be created or replaced.
-pub fn told_output<'a, R: Files>(rt: &R, fault: OutputFault, path: &'a str) -> Ending<'a>
-    ensures { TellsOutput fault path.now (told result) }
-{
-    match fault {
-        OutputFault::Memory => Ending::by(faults::MEMORY, About::Nothing),
-        OutputFault::Refused => told_no_output(rt, path),
-    }
-}
-
 /// Returns the ending where no page could be made of a CSV of the command's own.
 fn told_unmade<'a>(fault: ProfileFault, csv: &'a str) -> Ending<'a>
     ensures { told result ≡ told_unmade fault csv.now }
@@ -63,7 +54,9 @@ fn told_unmade<'a>(fault: ProfileFault, csv: &'a str) -> Ending<'a>
     let about = About::Path(csv);
     match fault {
         ProfileFault::Memory => Ending::by(faults::MEMORY, About::Nothing),
-        ProfileFault::Header => Ending::by(faults::OWN_CSV_NO_PROFILE, about),
+        ProfileFault::Header | ProfileFault::Missing { .. } => {
+            Ending::by(faults::OWN_CSV_NO_PROFILE, about)
+        }
         ProfileFault::Record { record } => {
             Ending::detailed(faults::OWN_CSV_MALFORMED, about, Detail::Number(record))
         }

@@ -1,4 +1,5 @@
-//! The report on a profile in a file of this machine.
+//! The report on a profile in a file of this machine. It joins proved calls to files, without contracts, and is tested
+//! by `tests/program/report`.
 
 use crate::pages::csv_report::{page_now, put_page};
 use crate::pages::page_fault::PageFault;
@@ -32,6 +33,7 @@ where
     }
 }
 
+/// Makes the page, and writes it to a file, which must not be the CSV itself.
 fn report_to_file<R>(rt: &R, profile: &str, title: &str, place: &str) -> ReportEnding
 where
     R: Files<File = File> + Clock + AllocGlobal,
@@ -54,6 +56,7 @@ where
     }
 }
 
+/// Writes the page to its file.
 fn put<R: Files<File = File>>(output: Output<'_, R>, page: &str) -> ReportEnding {
     match put_page(output, page) {
         Ok(()) => ReportEnding::Whole,
@@ -61,6 +64,7 @@ fn put<R: Files<File = File>>(output: Output<'_, R>, page: &str) -> ReportEnding
     }
 }
 
+/// Makes the page, and writes it to standard output.
 fn report_to_output<R>(rt: &R, profile: &str, title: &str) -> ReportEnding
 where
     R: Files<File = File> + Clock + Print + AllocGlobal,
@@ -90,6 +94,7 @@ where
     }
 }
 
+/// Ends a report whose page could not be made or not be written.
 fn no_page(fault: PageFault) -> ReportEnding {
     ReportEnding::NoPage(fault)
 }

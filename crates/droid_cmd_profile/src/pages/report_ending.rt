@@ -1,10 +1,11 @@
-//! How a report ended.
+//! How a report ended, and what is told of it.
 
 ghost use Rattle.std.specs.Prelude.{◌≡◌, option_map};
 ghost use Rattle.droid_cmd_profile.specs.Endings.{told_no_profile, told_unread};
 ghost use Rattle.droid_terminal.specs.Endings.{output_name, told};
 
-use crate::pages::page_fault::{PageFault, told_output};
+use crate::output_told::told_output;
+use crate::pages::page_fault::PageFault;
 use droid_report::ProfileFault;
 use droid_terminal::{About, Detail, Ending, faults};
 use std::fs::Files;
@@ -63,6 +64,9 @@ fn told_no_profile<'a>(fault: ProfileFault, profile: &'a str) -> Ending<'a>
     match fault {
         ProfileFault::Memory => Ending::by(faults::MEMORY, About::Nothing),
         ProfileFault::Header => Ending::by(faults::NO_PROFILE, about),
+        ProfileFault::Missing { column } => {
+            Ending::detailed(faults::PROFILE_LACKS, about, Detail::Words(column.names()))
+        }
         ProfileFault::Record { record } => {
             Ending::detailed(faults::PROFILE_MALFORMED, about, Detail::Number(record))
         }

@@ -6,7 +6,7 @@ ghost use Rattle.droid_core_spec.specs.Conditions.{is_too_large, is_md5, is_carr
 
 use droid_frame::HashKind;
 
-/// Whether a scan limit lies from 1 to 65,536.
+/// Returns whether a scan limit lies from 1 to 65,536.
 #[tactic(auto, using(crate::proofs::Meanings::scan_limit_is))]
 pub fn is_scan_limit(bytes: u32) -> bool
     ensures { result ≡ is_scan_limit bytes }
@@ -14,7 +14,7 @@ pub fn is_scan_limit(bytes: u32) -> bool
     1 <= bytes && bytes <= 65_536
 }
 
-/// Whether the size of a piece lies from 1 to 1,048,576 in version 1, and to 4,194,304 in version 2.
+/// Returns whether the size of a piece lies from 1 to 1,048,576 in version 1, and to 4,194,304 in version 2.
 #[tactic(auto, using(crate::proofs::Meanings::piece_size_is))]
 pub(crate) fn is_piece_size(version: u8, bytes: u32) -> bool
     ensures same { result ≡ is_piece_size version bytes }
@@ -31,7 +31,7 @@ fn piece_size_limit(version: u8) -> u32
     if version == 1 { 1_048_576 } else { 4_194_304 }
 }
 
-/// Whether the size of a part of an export lies from 1 to 1,048,576.
+/// Returns whether the size of a part of an export lies from 1 to 1,048,576.
 #[tactic(auto, using(crate::proofs::Meanings::part_size_is))]
 pub(crate) fn is_part_size(max: u32) -> bool
     ensures { result ≡ is_part_size max }
@@ -39,7 +39,7 @@ pub(crate) fn is_part_size(max: u32) -> bool
     1 <= max && max <= 1_048_576
 }
 
-/// Whether a file has more than 2^40 bytes, or more than 1,048,576 pieces.
+/// Returns whether a file has more than 2^40 bytes, or more than 1,048,576 pieces.
 #[tactic(auto, using(crate::proofs::Meanings::too_large_is))]
 pub(crate) fn is_too_large(size: u64, piece_size: u32) -> bool
     requires { 0 < piece_size }
@@ -48,7 +48,7 @@ pub(crate) fn is_too_large(size: u64, piece_size: u32) -> bool
     1_099_511_627_776 < size || 1_048_576 < size.div_ceil(u64::from(piece_size))
 }
 
-/// Whether a Finished of this version can carry a hash of this kind.
+/// Returns whether a Finished of this version can carry a hash of this kind.
 pub fn is_carried(version: u8, hash: HashKind) -> bool
     ensures { result ≡ is_carried version hash }
 {

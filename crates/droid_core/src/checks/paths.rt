@@ -5,7 +5,7 @@ ghost use Rattle.std.specs.Prelude.{◌≡◌, ◌+◌, ◌++◌, ◌∷◌, nat
 use droid_frame::Text;
 use std::alloc::{AllocError, Global};
 
-/// Whether the path of a new node of this folder has more than 4,096 bytes.
+/// Returns whether the path of a new node of this folder has more than 4,096 bytes.
 pub fn is_too_deep_below(parent_path: &str, name: &str) -> bool
     ensures { result ≡ nat_lt 4096 (length parent_path.now + 1 + length name.now) }
 {

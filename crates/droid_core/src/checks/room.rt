@@ -3,7 +3,7 @@
 ghost use Rattle.std.specs.Prelude.{◌≡◌, nat_le};
 
 /// A count of profiles, nodes or unfinished files, beside its limit.
-#[derive(Clone, Copy, PartialEq, Eq)]
+#[derive(Clone, Copy)]
 pub struct Room {
     /// How many there are.
     pub count: u64,
@@ -12,7 +12,7 @@ pub struct Room {
 }
 
 impl Room {
-    /// Whether the count has reached the limit.
+    /// Returns whether the count has reached the limit.
     pub fn is_full(self) -> bool
         ensures { result ≡ nat_le self.limit self.count }
     {

@@ -70,7 +70,7 @@ fn path_of(row: NodeRow) -> Result<Text, Refusal>
     }
 }
 
-/// Whether the store found the node. The store fails only if memory runs out.
+/// Returns whether the store found the node. The store fails only if memory runs out.
 fn is_taken(found: Result<Option<u32>, StoreFault>) -> Result<bool, Refusal>
     requires memory { IfErr found (λ fault. fault ≡ StoreFault.Memory) }
     ensures reported { result ≡ taken_in found }

@@ -86,7 +86,7 @@ fn with_moments(records: Vec<Record>) -> Result<Vec<Record>, Refusal>
     Ok(records)
 }
 
-/// Whether each record has a moment that can be written.
+/// Returns whether each record has a moment that can be written.
 fn have_moments(records: &[Record]) -> bool
     ensures all { IsTrue result → HaveMoments records.now }
     ensures none { HaveMoments records.now → IsTrue result }

@@ -4,7 +4,7 @@ ghost use Rattle.std.specs.Prelude.{◌≡◌, IsTrue};
 
 use droid_frame::{Criterion, Filter, Text};
 
-/// Whether two filters join the same criteria in the same way.
+/// Returns whether two filters join the same criteria in the same way.
 pub fn are_same_filters(one: &Filter, other: &Filter) -> bool
     ensures same { IsTrue result → one.now ≡ other.now }
     ensures found { one.now ≡ other.now → IsTrue result }
@@ -15,7 +15,7 @@ pub fn are_same_filters(one: &Filter, other: &Filter) -> bool
     are_same_criteria(one.criteria.as_slice(), other.criteria.as_slice())
 }
 
-/// Whether two lists have the same criteria in the same order.
+/// Returns whether two lists have the same criteria in the same order.
 fn are_same_criteria(one: &[Criterion], other: &[Criterion]) -> bool
     ensures same { IsTrue result → one.now ≡ other.now }
     ensures found { one.now ≡ other.now → IsTrue result }
@@ -31,7 +31,7 @@ fn are_same_criteria(one: &[Criterion], other: &[Criterion]) -> bool
     true
 }
 
-/// Whether two criteria are the same.
+/// Returns whether two criteria are the same.
 fn are_same(one: &Criterion, other: &Criterion) -> bool
     ensures same { IsTrue result → one.now ≡ other.now }
     ensures found { one.now ≡ other.now → IsTrue result }
@@ -52,7 +52,7 @@ fn are_same(one: &Criterion, other: &Criterion) -> bool
     }
 }
 
-/// Whether two lists have the same texts in the same order.
+/// Returns whether two lists have the same texts in the same order.
 fn are_same_texts(one: &[Text], other: &[Text]) -> bool
     ensures same { IsTrue result → one.now ≡ other.now }
     ensures found { one.now ≡ other.now → IsTrue result }

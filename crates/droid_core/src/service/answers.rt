@@ -44,7 +44,8 @@ use droid_store::Entry;
 pub struct Outcome {
     /// The reply.
     pub reply: Reply,
-    /// Whether the request is a new command that was accepted. A repeated command is not new, however old it is.
+    /// Returns whether the request is a new command that was accepted. A repeated command is not new, however old it
+    /// is.
     pub is_new: bool,
 }
 
@@ -144,14 +145,14 @@ fn cache_reply(
     recent.put_reply(stamp, reply);
 }
 
-/// Whether a request is a command, which changes the service if it is accepted. The others are queries.
+/// Returns whether a request is a command, which changes the service if it is accepted. The others are queries.
 fn asks_command(request: &Request) -> bool
     ensures { result ≡ is_command request.now }
 {
     !matches!(request, Request::Status { .. } | Request::Export { .. })
 }
 
-/// Whether a request is a command that was accepted.
+/// Returns whether a request is a command that was accepted.
 fn is_accepted(commands: bool, reply: &Reply) -> bool
     ensures { result ≡ (commands && not (is_refused reply.now)) }
 {

@@ -249,7 +249,7 @@ impl Service {
         self.recent.len()
     }
 
-    /// Whether the reply to the request of this client under this number is cached. Only kept replies are.
+    /// Returns whether the reply to the request of this client under this number is cached. Only kept replies are.
     pub fn is_cached(&self, client: u32, number: u64) -> bool
         ensures its { result ≡ caches self.now client number }
         ensures kept { (setting : Setting) (history : History) → StandsFor setting self.now history → IsTrue result

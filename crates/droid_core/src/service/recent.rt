@@ -1,4 +1,8 @@
 //! The cache of kept replies, in which a service looks before it asks the store.
+//!
+//! Of the words that come with the kit's `lru`, `entries` is what is cached, the most recently used first, `cap` is
+//! how many entries there may be, `promoted` is these entries with one of them moved to the front, and `lru_cache`
+//! is the cache with such entries and such a `cap`.
 
 ghost use Rattle.std.specs.Prelude.{◌≡◌, ◌≤◌, [], length, IfOk, IfSome};
 ghost use Rattle.std.specs.NonZero.{non_zero_usize_get};
@@ -45,7 +49,7 @@ impl RecentReplies {
         self.rows.len()
     }
 
-    /// Whether a row of this client and number is cached. The order in which rows were used stays.
+    /// Returns whether a row of this client and number is cached. The order in which rows were used stays.
     pub fn contains(&self, client: u32, number: u64) -> bool
         ensures { result ≡ is_cached_in self.now.rows.entries client number }
     {

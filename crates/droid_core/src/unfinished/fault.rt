@@ -5,16 +5,13 @@ ghost use Rattle.std.specs.Prelude.{◌≡◌};
 use droid_assembly::Incomplete;
 use droid_frame::Refusal;
 use std::alloc::AllocError;
-use thiserror::Error;
 
 /// Why an unfinished file is not identified. It stays as it was.
-#[derive(Clone, Copy, Debug, PartialEq, Eq, Error)]
+#[derive(Clone, Copy)]
 pub enum IdentifyFault {
     /// A piece is missing: `missing` is the smallest such index.
-    #[error("piece {missing} is missing")]
     Incomplete { missing: u32 },
     /// There is no memory for the finding.
-    #[error("out of memory")]
     Memory,
 }
 
@@ -23,6 +20,7 @@ impl From<Incomplete> for IdentifyFault {
 
     ghost from_gives = { λ from fault. fault ≡ IdentifyFault.Incomplete from.missing };
 
+    /// Keeps the first missing index.
     fn from(fault: Incomplete) -> IdentifyFault {
         IdentifyFault::Incomplete {
             missing: fault.missing,

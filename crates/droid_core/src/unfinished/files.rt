@@ -75,14 +75,14 @@ impl UnfinishedFiles {
         self.files.len() as u32
     }
 
-    /// Whether there is no file.
+    /// Returns whether there is no file.
     pub fn is_empty(&self) -> bool
         ensures { IsTrue result ↔ (self.now.files ≡ []) }
     {
         self.files.is_empty()
     }
 
-    /// Whether the limit is reached.
+    /// Returns whether the limit is reached.
     pub fn is_full(&self) -> bool
         ensures full { IsTrue result ↔ (length self.now.files ≡ self.now.limit) }
         ensures room { OnFalse result (length self.now.files < self.now.limit) }
@@ -216,7 +216,7 @@ impl UnfinishedFiles {
         self.files[place].assembly.missing()
     }
 
-    /// Whether a piece of the file at this place is pending.
+    /// Returns whether a piece of the file at this place is pending.
     pub fn has_pending(&self, place: usize) -> bool
         requires { place < length self.now.files }
         ensures { At self.now place (λ file. result ≡ is_some file.pending) }

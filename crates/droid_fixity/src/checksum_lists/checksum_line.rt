@@ -61,7 +61,7 @@ fn add_line_below(text: &mut Vec<u8>, hash: HashValue, path: &[u8]) -> Result<()
     }
 }
 
-/// Returns the 32 digits of an MD5.
+/// Returns the 32 digits of an MD5. There is room for two digits of each byte, which is all that the encoder asks.
 fn md5_digits(digest: [u8; 16]) -> [u8; 32]
     ensures { result ≡ encode_lower digest }
 {
@@ -72,7 +72,7 @@ fn md5_digits(digest: [u8; 16]) -> [u8; 32]
     }
 }
 
-/// Returns the 64 digits of a SHA-256.
+/// Returns the 64 digits of a SHA-256, in the same way.
 fn sha256_digits(digest: [u8; 32]) -> [u8; 64]
     ensures { result ≡ encode_lower digest }
 {

@@ -1,7 +1,7 @@
 //! The forms of a list of checksums.
 
 /// How the lines of a list of checksums are written.
-#[derive(Clone, Copy, PartialEq, Eq)]
+#[derive(Clone, Copy)]
 pub enum ManifestForm {
     /// As `md5sum` and `sha256sum` of GNU coreutils write and check them.
     Checksums,

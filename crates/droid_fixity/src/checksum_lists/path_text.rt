@@ -87,7 +87,8 @@ fn add_decoded(path: &mut Vec<u8>, text: &[u8]) -> Result<(), AllocError>
     Ok(())
 }
 
-/// Appends the bytes of a text that stands behind a percent sign.
+/// Appends the bytes of a text that stands behind a percent sign: the byte that the first two digits encode and the
+/// rest, or the sign itself and all of the text.
 fn add_behind_percent(path: &mut Vec<u8>, text: &[u8]) -> Result<(), AllocError>
     ensures { OnOk result (path.new.items ≡ path.old.items ++ spellings.behind_percent text.now) }
 {

@@ -66,7 +66,7 @@ fn is_second(after: bool, byte: u8) -> bool
     after && byte == b'\n'
 }
 
-/// Returns whether another byte may end the same line.
+/// Returns whether another byte may end the same line: only a line feed behind a carriage return does.
 fn may_be_first(second: bool, byte: u8) -> bool
     ensures { result ≡ (not second && (byte == 13)) }
 {

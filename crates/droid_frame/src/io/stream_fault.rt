@@ -6,21 +6,17 @@ use std::alloc::AllocError;
 use thiserror::Error;
 
 /// The reader failed, or was interrupted more than 64 times.
-#[derive(Clone, Copy, Debug, PartialEq, Eq, Error)]
-#[error("the stream could not be read")]
+#[derive(Clone, Copy, PartialEq, Eq)]
 pub struct ReadFault;
 
 /// Why an input could not be read to its end.
-#[derive(Clone, Copy, Debug, PartialEq, Eq, Error)]
+#[derive(Clone, Copy, PartialEq, Eq)]
 pub enum InputFault {
     /// It has more bytes than the limit.
-    #[error("the input is too long")]
     TooLong,
     /// Out of memory.
-    #[error("out of memory")]
     Memory,
     /// The reader failed, or was interrupted more than 64 times.
-    #[error("the input could not be read")]
     Read,
 }
 

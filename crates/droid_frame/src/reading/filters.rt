@@ -29,7 +29,7 @@ pub(crate) fn filter_of(alloc: Global, bytes: &[u8]) -> Result<Filter, BodyFault
     Ok(filter)
 }
 
-/// Returns whether all these bytes spell a filter, without taking memory.
+/// Returns whether all these bytes spell a filter. Allocates nothing.
 #[tactic(auto, unfolding(crate::specs::FilterValues::filter_value, crate::specs::Reading::whole))]
 fn is_filter(bytes: &[u8]) -> bool
     ensures { result ≡ is_some (filter_value bytes.now) }
@@ -86,8 +86,8 @@ fn after_list(bytes: &[u8]) -> Option<&[u8]>
     after_texts(usize::from(count), 0, 255, rest)
 }
 
-/// Reads a filter, and returns it and the bytes after it. It allocates as it reads, so callers check the bytes with
-/// [`after_filter`] first.
+/// Reads a filter, and returns it and the bytes after it. It allocates as it reads, so [`filter_of`] checks the bytes
+/// with [`is_filter`] first.
 #[tactic(auto, unfolding(crate::specs::FilterValues::filter_at, crate::specs::SequenceFields::counted_at))]
 fn filter_at(alloc: Global, bytes: &[u8]) -> Result<(Filter, &[u8]), BodyFault>
     ensures { Gives (λ x. (x.0, x.1.now)) result (filter_at bytes.now) }

@@ -44,6 +44,7 @@ pub fn read_frame<R: SteadyRead>(alloc: Global, reader: &mut R) -> Result<Arriva
     next_arrival(alloc, reader, &mut retries)
 }
 
+/// Does the work of `read_frame`, with the retries of this frame so far.
 fn next_arrival<R: SteadyRead>(
     alloc: Global,
     reader: &mut R,

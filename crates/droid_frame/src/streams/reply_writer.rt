@@ -9,7 +9,7 @@ ghost use Rattle.droid_frame.specs.ReplyFronts.{HasRestSpelling, reply_rest};
 ghost use Rattle.droid_frame.specs.StreamWrites.{Stops};
 ghost use Rattle.droid_frame.specs.Seen.{Counts, IsSound};
 ghost use Rattle.droid_frame.specs.Writes.{StopsWithin, Takes, ReportsWrite, WritesOn};
-ghost use Rattle.droid_frame.specs.TextLists.{texts_bytes};
+ghost use Rattle.droid_frame.specs.TextLists.{sized_bytes, texts_bytes};
 ghost use Rattle.droid_frame.specs.Versions.{IsVersion};
 
 use super::header::Header;
@@ -17,9 +17,11 @@ use crate::io::output::{WriteState, write_all};
 use crate::io::steady::SteadyWrite;
 use crate::io::stream_fault::WriteFault;
 use crate::reply::Reply;
+use crate::text::Text;
 use crate::texts::Texts;
-use crate::writing::replies::fronts::{front_of, sized_puid};
+use crate::writing::replies::fronts::front_of;
 use crate::writing::replies::reply_body_len;
+use crate::writing::replies::small_bytes::SmallBytes;
 
 /// Writes the frame of a reply. The version, client and number are those of the request. It allocates nothing, and
 /// retries interrupted writes, up to 64 in one frame.
@@ -111,4 +113,15 @@ fn write_puids<W: SteadyWrite>(
         write_all(writer, sized_puid(puid).as_slice(), progress)?;
     }
     Ok(())
+}
+
+/// Makes the bytes of a format identifier after its length.
+fn sized_puid(puid: &Text) -> SmallBytes
+    requires { IsPuidText puid.now }
+    ensures { result ≡ sized_bytes puid.now }
+{
+    let mut sized = SmallBytes::new();
+    sized.add(&[puid.len() as u8]);
+    sized.add(puid.as_str().as_bytes());
+    sized
 }

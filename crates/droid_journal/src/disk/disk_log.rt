@@ -87,6 +87,7 @@ fn save_end<D: Drive>(drive: &mut D, from: u64) -> Result<(), FileError>
     ensures stays { D.failed drive.old → D.failed drive.new }
 {
     let mut at = from;
+    // The bound is never reached. With it the loop ends, whatever the file does.
     for _ in 0..u64::MAX {
         let Ok(count) = save_some(drive, at) else {
             return Err(FileError);
@@ -137,6 +138,7 @@ impl<D: Drive> LogFile for DiskLog<D> {
         read_full(&self.drive, at, buffer)
     }
 
+    /// Saves what is cut off first, so that no byte of a journal is lost, also if it was not torn.
     fn cut(&mut self, len: u64) -> Result<(), FileError> {
         match save_end(&mut self.drive, len) {
             Ok(()) => {}

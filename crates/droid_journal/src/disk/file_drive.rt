@@ -1,4 +1,8 @@
-//! A file of this machine.
+//! A journal's file on a disk of this machine: how it is opened and locked, and each call of the system that it needs.
+//!
+//! Most functions have no contract, as nothing is assumed of what the system does. The tests in `tests/program/journal`
+//! hold them: journal_files.py what is opened and what is refused, journal_calls.py which calls are made, in which
+//! order, and what comes of each that fails.
 
 ghost use Rattle.std.specs.Prelude.{[], ◌≡◌, ◌≤◌, IfOk, length, true};
 
@@ -120,7 +124,7 @@ fn is_same_file(first: &Metadata, second: &Metadata) -> bool {
     first.dev() == second.dev() && first.ino() == second.ino()
 }
 
-/// Syncs the folder that has a file's name.
+/// Syncs the folder that has a file's name, so that the name is on the disk too.
 pub fn sync_folder<R: Files<File = File>>(runtime: &R, path: &str) -> io::Result<()> {
     let folder = match path.rfind('/') {
         Some(0) => "/",
@@ -221,8 +225,8 @@ fn drive_result<T: Drop>(answer: io::Result<T>) -> Result<T, DriveError> {
     }
 }
 
-// The clauses hold since nothing is assumed of the file's bytes. Each method is one call of the system; that the system
-// does what the clause says is trusted.
+// The clauses hold since `has` says of no bytes that the file has them. Each method is one call of the system; that the
+// system does what the clauses say is trusted.
 impl<'a, R: Files<File = File> + Eprint + AllocGlobal> Drive for FileDrive<'a, R> {
     ghost has = { λ drive bytes. ⊥ };
 
@@ -250,6 +254,7 @@ impl<'a, R: Files<File = File> + Eprint + AllocGlobal> Drive for FileDrive<'a, R
         drive_result(self.cut(len))
     }
 
+    /// Makes the other file only once there are bytes for it.
     fn save(&mut self, bytes: &[u8]) -> Result<(), DriveError> {
         if bytes.is_empty() {
             return Ok(());
@@ -264,6 +269,7 @@ impl<'a, R: Files<File = File> + Eprint + AllocGlobal> Drive for FileDrive<'a, R
         }
     }
 
+    /// Syncs the bytes and the length, and no more of the metadata.
     fn sync(&mut self) -> Result<(), DriveError> {
         if self.failed {
             return Err(DriveError);

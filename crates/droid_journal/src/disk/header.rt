@@ -62,7 +62,7 @@ fn random_of<F: LogFile>(file: &F, at: u64, fresh: &[u8; 16]) -> Result<[u8; 16]
     Ok(begun_by(&found[..count], fresh))
 }
 
-/// Overwrites the first bytes.
+/// Returns 16 bytes, of which the first are others.
 fn begun_by(first: &[u8], bytes: &[u8; 16]) -> [u8; 16]
     requires { length first.now ≤ 16 }
     ensures { result ≡ first.now ++ drop (length first.now) bytes.now }

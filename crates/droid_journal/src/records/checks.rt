@@ -1,4 +1,4 @@
-//! Check values and marks.
+//! The check values of records and the marks of turns, which only who knows a journal's start value can make.
 
 ghost use Rattle.std.specs.Prelude.{◌≡◌, ◌≤◌, ◌++◌, ◌↔◌, IsTrue, [], length, take};
 ghost use Rattle.std.specs.Int.{w64, to_be_bytes};
@@ -40,7 +40,7 @@ pub fn turn_mark(key: Key, at: u64) -> [u8; 17]
     bytes
 }
 
-/// Where a record stands: its offset, and how many records stand before it.
+/// Spells where a record stands: its offset, and how many records stand before it.
 fn bytes_of(place: Place) -> [u8; 16]
     ensures { result ≡ to_be_bytes w64 place.at ++ to_be_bytes w64 place.records }
 {
@@ -60,7 +60,8 @@ fn of_form(form: Form, bytes: &[u8]) -> &[u8]
     }
 }
 
-/// Computes the MD5 of a record at a place. Of the request only its checksum is hashed.
+/// Computes the MD5 of a record at a place. Of the request only its header and its checksum are hashed, as its body was
+/// hashed for that.
 #[tactic(auto, unfolding(crate::specs::Records::digest))]
 fn digest_of(
     key: Key,

@@ -2,18 +2,24 @@
 
 ghost use Rattle.std.specs.Prelude.{◌≡◌, ◌+◌, ◌<◌, ◌≤◌, ℕ, List, Some, IfNone, IfSome, length};
 ghost use Rattle.droid_journal.specs.Chains.{BeginsNoRecord, BeginsWith};
-ghost use Rattle.droid_journal.specs.Reading.{Gives, behind_mark, check_at, front_at, is_right, number_at, record_at};
-ghost use Rattle.droid_journal.specs.Reading.{request_in, string_at};
+ghost use Rattle.droid_journal.specs.Reading.{Gives, behind_mark, check_at, fits, front_at, is_right, number_at};
+ghost use Rattle.droid_journal.specs.Reading.{record_at, request_in, string_at};
 ghost use Rattle.droid_journal.specs.Records.{checksum, made, mark_at};
 
 use crate::records::checks::{MARK, check_of, mark_of};
 use crate::records::checksums::checksum_of;
 use crate::records::key::{Form, Key};
 use crate::records::place::Place;
-use crate::records::record_writer::fits;
+use droid_frame::HEADER_LENGTH;
 
 /// How many bytes a check value or a mark has.
 const CHECK: usize = 16;
+
+/// The most bytes of a record beside its frames.
+const OVERHEAD: usize = 41;
+
+/// The most bytes of a record.
+const LIMIT: usize = 8_388_608;
 
 /// A record at the front of bytes.
 #[derive(Clone, Copy)]
@@ -58,7 +64,8 @@ pub fn record_of<'a>(key: Key, place: Place, bytes: &'a [u8]) -> Option<Found<'a
     record_by(key, place, bytes, None)
 }
 
-/// Reads the record at the front as [`record_of`] does, with the checksum of its request, if that was computed before.
+/// Reads the record at the front as [`record_of`] does. The checksum of its request may have been computed before: that
+/// is for speed, and no clause needs it.
 pub fn record_by<'a>(
     key: Key,
     place: Place,
@@ -96,6 +103,7 @@ pub fn record_by<'a>(
     })
 }
 
+/// Does the work of [`record_by`], but for the place behind the record.
 #[tactic(auto, unfolding(crate::specs::Reading::record_at))]
 fn read_record<'a>(
     key: Key,
@@ -142,6 +150,21 @@ pub fn request_of(form: Form, bytes: &[u8]) -> Option<&[u8]>
     let (_, behind) = front_of(form, bytes)?;
     let (request, _) = string_of(behind)?;
     Some(request)
+}
+
+/// Returns whether a record can have this request and this reply: the request has the header of a frame, and the record
+/// at most 8 MiB.
+fn fits(request: &[u8], reply: &[u8]) -> bool
+    ensures { result ≡ fits request.now reply.now }
+{
+    if request.len() < HEADER_LENGTH {
+        return false;
+    }
+    request
+        .len()
+        .saturating_add(reply.len())
+        .saturating_add(OVERHEAD)
+        <= LIMIT
 }
 
 /// Returns the bytes behind the mark of a turn's first record, behind its first byte.

@@ -1,34 +1,11 @@
 //! Writing a record.
 
 ghost use Rattle.std.specs.Prelude.{◌≡◌, ◌+◌, ◌<◌, ◌≤◌, ◌++◌, length, vec_capacity, vec_len};
-ghost use Rattle.droid_journal.specs.Reading as reading;
 ghost use Rattle.droid_journal.specs.Records.{checksum, front_bytes, made, next_check, record_bytes, string};
 
 use crate::records::checks::{check_of, turn_mark};
 use crate::records::key::{Form, Key};
 use crate::records::place::Place;
-use droid_frame::HEADER_LENGTH;
-
-/// The most bytes of a record beside its frames.
-const OVERHEAD: usize = 41;
-
-/// The most bytes of a record.
-const LIMIT: usize = 8_388_608;
-
-/// Returns whether a record can have this request and this reply: the request has the header of a frame, and the record
-/// at most 8 MiB.
-pub(crate) fn fits(request: &[u8], reply: &[u8]) -> bool
-    ensures { result ≡ reading.fits request.now reply.now }
-{
-    if request.len() < HEADER_LENGTH {
-        return false;
-    }
-    request
-        .len()
-        .saturating_add(reply.len())
-        .saturating_add(OVERHEAD)
-        <= LIMIT
-}
 
 /// Appends bytes for which there is room.
 fn put(out: &mut Vec<u8>, bytes: &[u8])

@@ -3,35 +3,37 @@
 ghost use Rattle.std.specs.Prelude.{◌≡◌};
 ghost use Rattle.droid_lists.specs.Profiles.{fault_at};
 
-use crate::csv_items::column::Column;
+use droid_export::Column;
+use droid_frame::HashKind;
 use std::alloc::AllocError;
-use thiserror::Error;
 
 /// Why a list cannot be read. A record's number counts from 1, which the names of the columns have.
-#[derive(Clone, Copy, Debug, PartialEq, Eq, Error)]
+#[derive(Clone, Copy)]
 pub enum ListFault {
     /// Out of memory.
-    #[error("out of memory")]
     Memory,
     /// The list does not begin with the names of a profile's columns.
-    #[error("the first record is not that of a profile")]
     Header,
-    /// A record has more fields, or fewer, than a profile has columns.
-    #[error("record {record} does not have 18 fields")]
+    /// The list lacks a column that is needed.
+    Missing {
+        /// The first such column.
+        column: Column,
+    },
+    /// A record has more fields, or fewer, than the list has columns.
     Fields {
         /// Its number.
         record: u64,
     },
     /// A field is malformed, or its row contradicts itself.
-    #[error("record {record}: {} is wrong", .column.name())]
     Column {
         /// The number of the first such record.
         record: u64,
         /// The first such column.
         column: Column,
+        /// The kind of the list's hashes, which names their column.
+        hash: HashKind,
     },
     /// A record contradicts another one.
-    #[error("record {record}: {} contradicts another record", .column.name())]
     Contradiction {
         /// The number of the first record that contradicts one before it.
         record: u64,
@@ -53,21 +55,22 @@ impl From<AllocError> for ListFault {
 /// What is wrong with a row.
 #[derive(Clone, Copy)]
 pub(crate) enum RowFault {
-    /// It does not have 18 fields.
+    /// It does not have a field for each column.
     Fields,
     /// A field is malformed, or contradicts another field.
     Column(Column),
 }
 
-/// Returns the fault of a list whose record of this number has such a row.
-pub(crate) fn fault_at(number: u64, fault: RowFault) -> ListFault
-    ensures { result ≡ fault_at number fault }
+/// Returns the fault of a list with these hashes whose record of this number has such a row.
+pub(crate) fn fault_at(number: u64, hash: HashKind, fault: RowFault) -> ListFault
+    ensures { result ≡ fault_at number hash fault }
 {
     match fault {
         RowFault::Fields => ListFault::Fields { record: number },
         RowFault::Column(column) => ListFault::Column {
             record: number,
             column,
+            hash,
         },
     }
 }

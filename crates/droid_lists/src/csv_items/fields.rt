@@ -2,13 +2,11 @@
 
 ghost use Rattle.std.specs.Prelude.{◌≡◌, ◌∷◌, IsTrue, Ok, Some, bytes_eq, length};
 ghost use Rattle.hex.specs.Hex.{decode_sized};
-ghost use Rattle.std.specs.Char.{is_ascii_digit};
-ghost use Rattle.std.specs.List.{list_all};
 ghost use Rattle.std.specs.Option.{option_map};
 ghost use Rattle.droid_lists.specs.Fields as fields;
 
-use crate::csv_items::column::Column;
 use crate::csv_items::moment::is_moment;
+use droid_export::number_of;
 use droid_fixity::is_file_path;
 use droid_frame::{HashKind, HashValue, NodeKind};
 use hex::FromHex;
@@ -23,6 +21,7 @@ pub(crate) fn id_of(text: &[u8]) -> Option<u32>
     }
 }
 
+/// Returns the ID, if the number is one.
 fn id_by(number: u64) -> Option<u32>
     ensures { result ≡ fields.id_by (Some number) }
 {
@@ -76,21 +75,6 @@ pub(crate) fn has_no_slash(name: &[u8]) -> bool
     name.iter().all(|byte| *byte != b'/')
 }
 
-/// Reads the kind of an item: `File` or `Folder`.
-pub(crate) fn kind_of(text: &[u8]) -> Option<NodeKind>
-    ensures { result ≡ fields.kind_of text.now }
-{
-    let file: &[u8] = b"File";
-    let folder: &[u8] = b"Folder";
-    if text == file {
-        Some(NodeKind::File)
-    } else if text == folder {
-        Some(NodeKind::Folder)
-    } else {
-        None
-    }
-}
-
 /// Reads the length of an item: a number of bytes for a file, nothing for a folder.
 pub(crate) fn length_of(kind: NodeKind, text: &[u8]) -> Option<Option<u64>>
     ensures { result ≡ fields.length_of kind text.now }
@@ -102,25 +86,6 @@ pub(crate) fn length_of(kind: NodeKind, text: &[u8]) -> Option<Option<u64>>
         },
         NodeKind::Folder => { if text.is_empty() { Some(None) } else { None } }
     }
-}
-
-/// Reads a number in decimal digits.
-pub fn number_of(text: &[u8]) -> Option<u64>
-    ensures { result ≡ fields.number_of text.now }
-{
-    if !are_digits(text) {
-        return None;
-    }
-    match str::from_utf8(text) {
-        Ok(text) => text.parse::<u64>().ok(),
-        Err(_) => None,
-    }
-}
-
-fn are_digits(text: &[u8]) -> bool
-    ensures { result ≡ list_all is_ascii_digit text.now }
-{
-    text.iter().all(|c| c.is_ascii_digit())
 }
 
 /// Reads a moment, or nothing.
@@ -155,17 +120,6 @@ pub(crate) fn rows_of(kind: NodeKind, text: &[u8]) -> Option<u64>
     }
 }
 
-/// Returns the column of a kind of hash.
-pub(crate) fn hash_column(digest: HashKind) -> Column
-    ensures { result ≡ fields.hash_column digest }
-{
-    match digest {
-        HashKind::Nothing => Column::Hash,
-        HashKind::Md5 => Column::Md5Hash,
-        HashKind::Sha256 => Column::Sha256Hash,
-    }
-}
-
 /// Reads a hash of this kind: its hexadecimal digits, or nothing. A folder has none.
 pub(crate) fn hash_of(digest: HashKind, kind: NodeKind, text: &[u8]) -> Option<HashValue>
     ensures { result ≡ fields.hash_of digest kind text.now }
@@ -179,6 +133,7 @@ pub(crate) fn hash_of(digest: HashKind, kind: NodeKind, text: &[u8]) -> Option<H
     }
 }
 
+/// Reads the hexadecimal digits of a hash of this kind.
 fn digest_of(digest: HashKind, text: &[u8]) -> Option<HashValue>
     ensures { result ≡ fields.digest_of digest text.now }
 {
@@ -189,6 +144,8 @@ fn digest_of(digest: HashKind, text: &[u8]) -> Option<HashValue>
     }
 }
 
+/// Reads the 32 digits of an MD5. `is_decoded` comes first for speed alone: `hex` answers the same, and is asked again
+/// where the digits are none.
 fn md5_of(text: &[u8]) -> Option<HashValue>
     ensures { result ≡ fields.md5_of (decode_sized text.now 16) }
 {
@@ -203,6 +160,7 @@ fn md5_of(text: &[u8]) -> Option<HashValue>
     }
 }
 
+/// Reads the 64 digits of a SHA-256, in the same way.
 fn sha256_of(text: &[u8]) -> Option<HashValue>
     ensures { result ≡ fields.sha256_of (decode_sized text.now 32) }
 {

@@ -5,9 +5,9 @@ ghost use Rattle.droid_lists.specs.FolderMaps.{AllNoted, HasIds, Holds, Noted, R
 ghost use Rattle.droid_lists.specs.Numbers as numbers;
 ghost use Rattle.droid_lists.specs.Numbers.{Saying, above_sayings, own_sayings};
 
-use crate::csv_items::column::Column;
 use crate::csv_items::fault::ListFault;
 use crate::csv_items::tag::Tag;
+use droid_export::Column;
 use droid_fixity::Item;
 use droid_frame::NodeKind;
 use std::alloc::{AllocError, Global};

@@ -56,7 +56,7 @@ impl<'a> PlainRow<'a> {
 }
 
 /// Returns the field between double quotes in front of a text, if it has none in it, and what comes after the mark
-/// behind it.
+/// behind it. `None` says nothing: `csv` then reads the list.
 fn quoted(text: &[u8], mark: u8) -> Option<(&[u8], &[u8])>
     ensures { IfSome result (λ parts. IsQuoted mark text.now parts.0.now parts.1.now) }
 {

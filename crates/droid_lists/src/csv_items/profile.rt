@@ -1,44 +1,56 @@
 //! The CSV of a profile.
 
-ghost use Rattle.std.specs.Prelude.{◌≡◌, ℕ, List};
+ghost use Rattle.std.specs.Prelude.{ℕ, List};
 ghost use Rattle.csv.specs.Reading.{AreRecords, default_config, strip_bom};
 ghost use Rattle.csv.specs.declared.parser.State.TheVariants as st;
-ghost use Rattle.droid_lists.specs.Calls.{Gives};
-ghost use Rattle.droid_lists.specs.Profiles.{profile_of};
+ghost use Rattle.droid_lists.specs.Calls.{GivesProfile};
 
-use crate::csv_items::csv_error::csv_fault;
 use crate::csv_items::draft::Draft;
 use crate::csv_items::fault::ListFault;
-use crate::csv_items::plain_list::plain_items;
+use crate::csv_items::format_row::FormatRow;
+use crate::csv_items::plain_list::plain_profile;
 use csv::{ByteRecord, ReaderBuilder};
+use droid_export::no_memory;
 use droid_fixity::Item;
 use std::alloc::Global;
 
-/// Reads the CSV of a profile or of an export, with any of the three hash columns. docs/CSV.md describes it.
+/// What the CSV of a profile says.
+#[derive(Drop)]
+pub struct Profile {
+    /// The folders and files, in its order.
+    pub items: Vec<Item>,
+    /// A row for each format of each file, in its order, if they are asked for.
+    pub formats: Vec<FormatRow>,
+}
+
+/// Reads the CSV of a profile or of an export, with any of the three hash columns. docs/CSV.md describes it. `formats`
+/// asks for the formats of its files.
 ///
-/// A row whose columns are the same as those of the row before it, but for the last four, the format's, adds no item: a
-/// file has as many rows, one behind the other, as FORMAT_COUNT says, or one. An error names the first malformed record
-/// and its first wrong column. If all are well-formed, it names the first record that contradicts one before it: no two
-/// items have one ID, and no folder has two numbers. A field of a hash may be empty. A list whose fields all stand
-/// between double quotes and have none in them takes the least time.
-pub fn read_profile(alloc: Global, text: &[u8]) -> Result<Vec<Item>, ListFault>
+/// Columns may be left out whose fields no item has; that of the PUIDs too, if no formats are asked for. A row whose
+/// columns are the same as those of the row before it, but for the last four, the format's, adds no item: a file has as
+/// many rows, one behind the other, as FORMAT_COUNT says, or one. An error names the first column that is needed and
+/// missing, or the first malformed record and its first wrong column. If all are well-formed, it names the first record
+/// that contradicts one before it: no two items have one ID, and no folder has two numbers. A field of a hash may be
+/// empty. A list with all columns whose fields all stand between double quotes and have none in them takes the least
+/// time.
+pub fn read_profile(alloc: Global, formats: bool, text: &[u8]) -> Result<Profile, ListFault>
     // The result is that of the records that `csv` reads, unless memory runs out.
     ensures { (records : List (List (List ℕ))) → AreRecords default_config st.StartRecord (strip_bom text.now) records
-        → Gives result (profile_of records) }
+        → GivesProfile formats records result }
 {
-    if let Some(items) = plain_items(alloc, text)? {
-        return Ok(items);
+    if let Some(profile) = plain_profile(alloc, formats, text)? {
+        return Ok(profile);
     }
     // `Draft::take` judges the number of fields, so the reader accepts any number.
     let mut reader = ReaderBuilder::new()
         .has_headers(false)
         .flexible(true)
         .from_reader(alloc, text);
-    let mut draft = Draft::new(alloc);
+    let mut draft = Draft::new(alloc, formats);
     let mut row = ByteRecord::new(alloc);
     for _ in 0..u64::MAX {
         match reader.read_byte_record(&mut row) {
-            Err(error) => return Err(csv_fault(error)),
+            Err(error) => return Err(ListFault::from(no_memory(error))),
             Ok(false) => return draft.finish(alloc),
             Ok(true) => {
                 if let Err(fault) = draft.take(alloc, &mut row) {

@@ -3,13 +3,11 @@
 ghost use Rattle.std.specs.Prelude.{◌≡◌, IfOk};
 ghost use Rattle.droid_lists.specs.Profiles as profiles;
 
-use crate::csv_items::column::Column;
 use crate::csv_items::fault::RowFault;
 use crate::csv_items::fields::{
-    above_of, hash_column, hash_of, id_of, kind_of, length_of, moment_of, parent_of, path_of,
-    rows_of,
+    above_of, hash_of, id_of, length_of, moment_of, parent_of, path_of, rows_of,
 };
-use droid_export::Row;
+use droid_export::{COLUMNS, Column, Row, kind_of, said};
 use droid_fixity::Item;
 use droid_frame::{Blob, HashKind, HashValue, NodeKind};
 use std::alloc::{AllocError, Global};
@@ -55,12 +53,12 @@ pub(crate) fn entry_of<R: Row>(
 ) -> Result<Result<Entry, RowFault>, AllocError>
     ensures { IfOk result (λ entry. entry ≡ profiles.entry_of digest (R.fields row.now)) }
 {
-    if row.count() != 18 {
+    if row.count() != COLUMNS.len() {
         return Ok(Err(RowFault::Fields));
     }
     match parts_of(digest, row) {
         Ok(parts) => {
-            let path = Blob::copy_of(alloc, row.field(3))?;
+            let path = Blob::copy_of(alloc, said(row, Column::FilePath))?;
             let item = Item {
                 path,
                 kind: parts.kind,
@@ -84,11 +82,11 @@ fn parts_of<R: Row>(digest: HashKind, row: &R) -> Result<Parts, Column>
     ensures { result ≡ profiles.parts_of digest (R.fields row.now) }
 {
     let spot = spot_of(row)?;
-    let kind = kind_of(row.field(8)).ok_or(Column::Kind)?;
-    let length = length_of(kind, row.field(7)).ok_or(Column::Size)?;
-    let modified = moment_of(row.field(10)).ok_or(Column::LastModified)?;
-    let hash = hash_of(digest, kind, row.field(12)).ok_or(hash_column(digest))?;
-    let rows = rows_of(kind, row.field(13)).ok_or(Column::FormatCount)?;
+    let kind = kind_of(said(row, Column::Kind)).ok_or(Column::Kind)?;
+    let length = length_of(kind, said(row, Column::Size)).ok_or(Column::Size)?;
+    let modified = moment_of(said(row, Column::LastModified)).ok_or(Column::LastModified)?;
+    let hash = hash_of(digest, kind, said(row, Column::Hash)).ok_or(Column::Hash)?;
+    let rows = rows_of(kind, said(row, Column::FormatCount)).ok_or(Column::FormatCount)?;
     Ok(Parts {
         spot,
         kind,
@@ -104,10 +102,10 @@ fn parts_of<R: Row>(digest: HashKind, row: &R) -> Result<Parts, Column>
 fn spot_of<R: Row>(row: &R) -> Result<Spot, Column>
     ensures { result ≡ profiles.spot_of (R.fields row.now) }
 {
-    let id = id_of(row.field(0)).ok_or(Column::Id)?;
-    let parent = parent_of(row.field(1)).ok_or(Column::ParentId)?;
-    let path = path_of(row.field(3)).ok_or(Column::FilePath)?;
-    let above = above_of(path, row.field(4)).ok_or(Column::Name)?;
+    let id = id_of(said(row, Column::Id)).ok_or(Column::Id)?;
+    let parent = parent_of(said(row, Column::ParentId)).ok_or(Column::ParentId)?;
+    let path = path_of(said(row, Column::FilePath)).ok_or(Column::FilePath)?;
+    let above = above_of(path, said(row, Column::Name)).ok_or(Column::Name)?;
     spot_by(id, parent, above)
 }
 

@@ -3,11 +3,11 @@
 ghost use Rattle.std.specs.Prelude.{◌≡◌, ◌∷◌, ◌++◌, [], OnOk};
 ghost use Rattle.droid_lists.specs.Profiles as profiles;
 
-use crate::csv_items::column::Column;
 use crate::csv_items::fault::ListFault;
 use crate::csv_items::folder_numbers::contradiction;
 use crate::csv_items::row::Entry;
 use crate::csv_items::tag::Tag;
+use droid_export::Column;
 use droid_fixity::Item;
 use std::alloc::{AllocError, Global};
 
@@ -51,6 +51,7 @@ impl Rows {
         }
     }
 
+    /// Takes a row that repeats the one before it, if its item has one more row.
     fn repeat(&mut self, number: u64) -> Result<(), ListFault>
         ensures { (entry : Entry)
             → Leaves result (rows_of self.new) (profiles.with_entry number (rows_of self.old) entry true) }
@@ -65,6 +66,7 @@ impl Rows {
         Ok(())
     }
 
+    /// Takes the first row of an item, if the item before has all its rows.
     fn begin(&mut self, number: u64, entry: Entry) -> Result<(), ListFault>
         ensures { Leaves result (rows_of self.new) (profiles.with_entry number (rows_of self.old) entry false) }
     {

@@ -2,5 +2,4 @@
 
 pub mod file_formats;
 pub mod format_change;
-pub mod format_row;
 pub mod listed_formats;

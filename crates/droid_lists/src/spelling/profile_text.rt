@@ -41,7 +41,7 @@ fn read_names(alloc: Global, hash: HashKind, text: &[u8]) -> Result<Result<&[u8]
     }
 }
 
-/// Reads the records behind the names of the columns.
+/// Reads the records behind the names of the columns. Each has at least one byte, so that there are turns enough.
 fn read_entries(alloc: Global, hash: HashKind, text: &[u8]) -> Result<Entries, TextFault>
     ensures read { IfOk result (λ entries. ReadsAll hash text.now entries) }
     ensures wrong { IfErr result (λ fault. IsFaultBehind hash text.now fault) }

@@ -1,4 +1,5 @@
-//! What the rows of a profile's text say of formats.
+//! What the rows of a profile's text say of formats, in the last four columns: 14 (PUID), 15 (MIME_TYPE), 16
+//! (FORMAT_NAME) and 17 (FORMAT_VERSION).
 
 ghost use Rattle.std.specs.Prelude.{◌≡◌, ◌||◌, ℕ, List, None, IfOk, OnOk, nat_lt};
 ghost use Rattle.std.specs.Option.{is_some};

@@ -1,4 +1,4 @@
-//! What the columns of a row may say.
+//! What the columns of a row may say. Columns are counted from 0, in the order of `COLUMNS` in `droid_export`.
 
 ghost use Rattle.std.specs.Prelude.{◌≡◌, codes, if◌then◌else◌};
 ghost use Rattle.std.specs.List.{list_all};

@@ -1,16 +1,13 @@
 //! Why a profile's text cannot be compared.
 
 use std::alloc::AllocError;
-use thiserror::Error;
 
 /// Why the CSV of a profile cannot be compared with what is known.
-#[derive(Clone, Copy, Debug, Drop, Error)]
+#[derive(Clone, Copy, Drop)]
 pub enum TextFault {
     /// Out of memory.
-    #[error("out of memory")]
     Memory,
     /// No profile has this CSV.
-    #[error("record {record} is wrong in column {column}")]
     Wrong {
         /// The first wrong record, counted from 1, which is that of the columns' names.
         record: u64,

@@ -1,4 +1,5 @@
-//! Fields of a profile's text.
+//! Fields of a profile's text. Of the kit's record `fields_of` are the whole fields, and `partial_of` is what was
+//! pushed of the next one: always nothing here.
 
 ghost use Rattle.std.specs.Prelude.{◌≡◌, ◌==◌, [], IfOk, IfSome, OnOk, Some, false};
 ghost use Rattle.std.specs.List.{position};
@@ -50,7 +51,8 @@ fn push_inner<'a>(
     }
 }
 
-/// Adds a field behind whose first double quote another one comes.
+/// Adds a field behind whose first double quote another one comes. For speed it is taken as it stands, if it has none
+/// in it; the clause is the same for both ways.
 fn push_closed<'a>(
     alloc: Global,
     row: &mut ByteRecord,

@@ -5,7 +5,7 @@ ghost use Rattle.std.specs.Fmt.{decimal};
 ghost use Rattle.droid_export.specs.Rows.{parent_text};
 ghost use Rattle.droid_lists.specs.RowTests as tests;
 
-use crate::csv_items::fields::number_of;
+use droid_export::number_of;
 use itoa::Buffer;
 
 /// Reads a number as an export writes it: decimal digits without a zero in front.

@@ -1,13 +1,23 @@
 //! Moves the places of a bit set over one byte or over a gap.
 
-ghost use Rattle.std.specs.Prelude.{◌≡◌, ◌↔◌, ◌<◌, ◌≤◌, ◌+◌, ◌^◌, ℕ, OnOk, length};
+ghost use Rattle.std.specs.Prelude.{◌≡◌, ◌↔◌, ◌<◌, ◌≤◌, ◌+◌, ◌/◌, ◌^◌, ℕ, OnOk, length};
 ghost use Rattle.droid_pattern.specs.Places.{IsPlace};
 
 use crate::bit_sets::ends::first_place;
 use crate::bit_sets::run::push_runs;
 use crate::bit_sets::shift::{advance, widen};
-use crate::bit_sets::word_count::{drop_above, grow, trim};
+use crate::bit_sets::word_count::{clear_past, grow, trim};
 use std::alloc::AllocError;
+
+/// Drops the places above `last`.
+fn drop_above(words: &mut Vec<u64>, last: usize)
+    ensures len { length words.new.items ≤ last / 64 + 1 }
+    ensures places { (p : ℕ) → IsPlace words.new.items p ↔ (IsPlace words.old.items p × (p ≤ last)) }
+{
+    words.truncate(last / 64 + 1);
+    clear_past(words, last);
+    trim(words);
+}
 
 /// Moves each place up by one.
 pub(crate) fn step(words: &mut Vec<u64>) -> Result<(), AllocError>
@@ -33,10 +43,12 @@ pub(crate) fn cross(
     ensures { OnOk result ((q : ℕ) → IsPlace words.new.items q
         ↔ ((q ≤ len) × ((p : ℕ) × IsPlace words.old.items p × (p + least ≤ q) × (q ≤ p + (least + more))))) }
 {
+    // Also bounds the number of words, as `first_place` requires.
     drop_above(words, len);
     let Some(first) = first_place(words) else {
         return Ok(());
     };
+    // For speed: the lowest place alone reaches all places up to `len`.
     if len <= first.saturating_add(least + more) {
         return push_runs(words, first + least, len);
     }

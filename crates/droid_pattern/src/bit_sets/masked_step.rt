@@ -23,7 +23,7 @@ pub(crate) fn keep_step(words: &mut Vec<u64>, others: &[u64]) -> Result<(), Allo
     Ok(())
 }
 
-/// Does this within the words of the set. A place that would move past the last word is lost.
+/// Does the work of `keep_step` within the words of the set. A place that would move past the last word is lost.
 fn step_kept(words: &mut [u64], others: &[u64])
     requires some { 0 < length words.old }
     requires enough { length words.old ≤ length others.now }

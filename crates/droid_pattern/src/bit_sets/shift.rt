@@ -22,7 +22,7 @@ fn moved(words: &[u64], place: usize, whole: usize, part: u32) -> u64
     high | (words[place - whole - 1] >> (64 - part))
 }
 
-/// Returns the same word as [`moved`], where its bits come from two words below it.
+/// Returns the same word as [`moved`], where its bits come from two words below it. For speed: it tests nothing.
 #[inline(always)]
 fn joined(words: &[u64], place: usize, whole: usize, part: u32) -> u64
     requires inside { (whole < place) × (place < length words.now) }

@@ -1,4 +1,4 @@
-//! The words of a bit set: drops the places above one, drops words that are 0, adds words.
+//! The words of a bit set: clears the end of the last one, drops those at the end that are 0, adds some.
 
 ghost use Rattle.std.specs.Prelude.{◌≡◌, ◌↔◌, ◌<◌, ◌≤◌, ◌+◌, ◌/◌, ◌*◌, ℕ, OnOk, max, length};
 ghost use Rattle.droid_pattern.specs.Places.{IsPlace};
@@ -7,17 +7,7 @@ use crate::bit_sets::ends::used;
 use crate::bit_sets::run::run_of;
 use std::alloc::AllocError;
 
-/// Drops the places above `last`.
-pub(crate) fn drop_above(words: &mut Vec<u64>, last: usize)
-    ensures len { length words.new.items ≤ last / 64 + 1 }
-    ensures places { (p : ℕ) → IsPlace words.new.items p ↔ (IsPlace words.old.items p × (p ≤ last)) }
-{
-    words.truncate(last / 64 + 1);
-    clear_past(words, last);
-    trim(words);
-}
-
-/// Drops the places above `last` that lie in the same word as `last`.
+/// Drops the places above `last`, where no word lies past the one of `last`.
 pub(crate) fn clear_past(words: &mut [u64], last: usize)
     requires { length words.old ≤ last / 64 + 1 }
     ensures len { length words.new ≡ length words.old }

@@ -37,6 +37,7 @@ pub(crate) fn end_file(
         return Ok(());
     }
     let place = batch.lanes[lane].place;
+    // Always so for a busy lane. The test spares the proof an invariant.
     if !is_read_in(batch.files.as_slice(), place, lane) {
         batch.lanes[lane].busy = false;
         return Ok(());

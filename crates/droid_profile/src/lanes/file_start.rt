@@ -25,6 +25,7 @@ pub(crate) fn begin_file(batch: &mut Batch, lane: usize)
     let Some(place) = batch.waiting.pop() else {
         return;
     };
+    // Always so for a place that waits. The test spares the proof an invariant.
     if !waits_at(batch.files.as_slice(), place) {
         return;
     }

@@ -51,6 +51,7 @@ pub(crate) fn read_on<T: Tree, W: Watcher>(
         return Ok(());
     }
     let place = lanes[lane].place;
+    // Always so for a busy lane. The test spares the proof an invariant.
     if !is_read_in(files.as_slice(), place, lane) {
         lanes[lane].busy = false;
         return Ok(());
@@ -112,7 +113,8 @@ fn read_piece<T: Tree, W: Watcher>(
     }
 }
 
-/// Returns how many bytes the next read asks for: one more than the file has left, if that fits the buffer.
+/// Returns how many bytes the next read asks for: one more than the file has left, if that fits the buffer. So the read
+/// shows whether the file ends where its folder says.
 fn next_wanted(size: u64, from: u64) -> u32
     ensures most { result ≤ 65536 }
     ensures some { 0 < result }
@@ -124,7 +126,8 @@ fn next_wanted(size: u64, from: u64) -> u32
     }
 }
 
-/// Judges the bytes that came, and keeps them if they are the file's.
+/// Judges the bytes that came, and keeps them if they are the file's: no more than it has left, and, if fewer came than
+/// were asked for, exactly those.
 fn take_piece(lane: &mut FileLane, size: u64, wanted: u32) -> Came
     requires hashed { lane.old.hashed ≡ 0 }
     requires wanted { 0 < wanted }

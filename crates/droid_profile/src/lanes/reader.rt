@@ -60,7 +60,8 @@ fn are_read(batch: &Batch) -> bool
     are_idle(batch.lanes.as_slice())
 }
 
-/// Fills each lane that is empty, and hashes the next bytes of all.
+/// Ends the file of each lane that is read, begins the next one there, reads on in each lane, and hashes the next bytes
+/// of all.
 fn read_turn<T: Tree, W: Watcher>(
     alloc: Global,
     tree: &mut T,
@@ -89,7 +90,8 @@ fn read_turn<T: Tree, W: Watcher>(
     Ok(())
 }
 
-/// Returns the places of the files, those of the longest last.
+/// Returns the places of the files, those of the longest last, which are read first. That is for speed, so that no long
+/// file is read at the end beside idle lanes: no clause needs the order.
 fn places_of(alloc: Global, files: &[FileRow]) -> Result<Vec<usize>, AllocError>
     ensures { IfOk result (λ places. (place : ℕ) → place < length files.now → Contains places.items place) }
 {
@@ -109,7 +111,8 @@ fn places_below(alloc: Global, count: usize) -> Result<Vec<usize>, AllocError>
     Ok(places)
 }
 
-/// Returns the size of the file at this place, as its folder lists it.
+/// Returns the size of the file at this place, as its folder lists it. Without a contract, since only the order of
+/// reading depends on it.
 fn size_at(files: &[FileRow], place: usize) -> u64 {
     match files.get(place) {
         Some(row) => row.entry.len,

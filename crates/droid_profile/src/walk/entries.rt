@@ -109,7 +109,8 @@ fn take_file(
     Ok(())
 }
 
-/// Takes a folder, if it can be listed: gives it the next number, and lets it wait.
+/// Takes a folder, if it can be listed now: gives it the next number, and lets it wait to be listed. Otherwise it is
+/// skipped, and has no number.
 fn take_folder<T: Tree>(
     alloc: Global,
     tree: &mut T,

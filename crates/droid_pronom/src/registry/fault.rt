@@ -41,7 +41,7 @@ pub enum RegistryFault {
 }
 
 /// What is wrong with one record.
-#[derive(Clone, Copy, Debug, PartialEq, Eq)]
+#[derive(Clone, Copy)]
 pub(crate) enum Fault {
     NotUtf8,
     BadRecord,
@@ -52,7 +52,7 @@ pub(crate) enum Fault {
 }
 
 /// Why one record could not be added.
-#[derive(Debug, Drop)]
+#[derive(Drop)]
 pub(crate) enum Refusal {
     /// Out of memory.
     Memory,

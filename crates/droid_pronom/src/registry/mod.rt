@@ -146,6 +146,7 @@ impl Registry {
     /// Returns the number of formats.
     pub fn len(&self) -> usize
         ensures count { result ≡ length self.now.formats }
+        // What holds of every registry, for whoever has one.
         ensures rules { IsRegistry self.now }
     {
         self.formats.len()
@@ -255,6 +256,7 @@ impl Registry {
         ensures ok { OnOk result (self.new ≡ with_format self.old format) }
         ensures err { OnErr result (self.new ≡ self.old) }
     {
+        // What may fail comes first. The last of it, `insert`, changes nothing when it fails.
         let puid = String::from_str(alloc, format.puid.as_str())?;
         let place = self.formats.len() as u32;
         self.formats.reserve(1)?;

@@ -5,7 +5,7 @@ ghost use Rattle.droid_pronom.specs.RegistryFields as field;
 ghost use Rattle.droid_pronom.specs.RegistryCalls.{kind_is};
 
 /// The kind of a record. The letter is the record's first field.
-#[derive(Clone, Copy, PartialEq, Eq)]
+#[derive(Clone, Copy)]
 pub(crate) enum RecordKind {
     /// `F`: a format.
     Format,

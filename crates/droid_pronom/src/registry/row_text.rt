@@ -1,4 +1,4 @@
-//! The six texts of a record, and its pattern.
+//! The six texts of a record, and its pattern. `fields_of`, of the kit's `csv`, is the list of a record's texts.
 
 ghost use Rattle.std.specs.Prelude.{◌≡◌, [], ◌∷◌, length};
 ghost use Rattle.csv.specs.Records.{fields_of};

@@ -81,6 +81,7 @@ pub fn hit_formats(
             continue;
         }
         let place = signature.place() as usize;
+        // For speed: one signature is enough.
         if hit[place] {
             continue;
         }

@@ -1,4 +1,4 @@
-//! Collects the PUIDs of the formats that were found.
+//! Collects the PUIDs of the formats that were found. A flag at a format's place says whether it was.
 
 ghost use Rattle.std.specs.Prelude.{◌≡◌, IfOk, length};
 ghost use Rattle.std.specs.List.{list_any};
@@ -16,6 +16,7 @@ pub fn puids_of(alloc: Global, formats: &[Format], flags: &[bool]) -> Result<Tex
 {
     let mut puids = Texts::new(alloc);
     let none = !is_any_set(flags);
+    // For speed; no clause needs it.
     if none {
         return Ok(puids);
     }

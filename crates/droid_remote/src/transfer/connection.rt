@@ -5,11 +5,9 @@ ghost use Rattle.droid_remote.specs.Events.{Event, Joined, Alone, Sent, Cut, Cam
 
 use droid_frame::Frame;
 use std::alloc::Global;
-use thiserror::Error;
 
 /// The connection broke. Nothing more comes from it.
-#[derive(Clone, Copy, Debug, PartialEq, Eq, Error)]
-#[error("the connection broke")]
+#[derive(Clone, Copy)]
 pub struct Broken;
 
 /// A connection that can be made again after it broke.

@@ -17,7 +17,7 @@ use std::alloc::Global;
 use std::collections::VecDeque;
 
 /// Which of the frames in flight were written on the connection that stands.
-#[derive(Clone, Copy, PartialEq, Eq)]
+#[derive(Clone, Copy)]
 pub enum Stage {
     /// None, since no connection stands or it is known to be broken.
     Nowhere,
@@ -72,6 +72,7 @@ pub(crate) fn write_behind<C: Connection>(
             }
         }
         Stage::First => {
+            // Else the new frame would be the first in flight, and would count as written.
             if waiting.is_empty() {
                 Stage::Nowhere
             } else {

@@ -1,4 +1,4 @@
-//! Checks of the frames that come as replies.
+//! What is done with the frames that come as replies: they are checked, read, and copied where the reply is kept.
 
 ghost use Rattle.std.specs.Prelude.{◌≡◌, ◌↔◌, ℕ, IfErr, IfOk, IsTrue, OnOk};
 ghost use Rattle.droid_frame.specs.Replies.{SpellsReply};
@@ -43,7 +43,7 @@ pub(crate) fn is_same(one: &Frame, other: &Frame) -> bool
     one.body.as_slice() == other.body.as_slice()
 }
 
-/// Copies a frame.
+/// Copies a reply's frame: the copy is read, and `KnownRequests` keeps the frame.
 pub(crate) fn copy_of(alloc: Global, frame: &Frame) -> Result<Frame, AllocError>
     ensures { IfOk result (λ copy. copy ≡ frame.now) }
 {

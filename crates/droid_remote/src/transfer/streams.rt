@@ -1,6 +1,6 @@
 //! Connections that are streams of bytes.
 
-ghost use Rattle.std.specs.Prelude.{IfOk, OnErr, if◌then◌else◌};
+ghost use Rattle.std.specs.Prelude.{◌≡◌, IfOk, OnErr, if◌then◌else◌};
 ghost use Rattle.droid_remote.specs.Events.{Alone, Event, Expired, Paused, Started};
 ghost use Rattle.droid_remote.specs.Streams.{StreamDoes};
 
@@ -9,7 +9,7 @@ use droid_frame::{Arrival, Frame, SteadyRead, SteadyWrite, body_limit, read_fram
 use std::alloc::Global;
 
 /// Opens streams, and waits between tries.
-pub trait Open<S> {
+pub trait Open<S: SteadyRead + SteadyWrite> {
     /// Relates the state before opening a stream, the stream as it was opened, and the state after it.
     ghost opens: { Self → S → Self → Type 0 };
 
@@ -21,6 +21,11 @@ pub trait Open<S> {
     fn open(&mut self) -> Result<S, Broken>
         ensures opened { IfOk result (λ stream. opens self.old stream self.new) }
         ensures alone { OnErr result (waits self.old Alone self.new) };
+
+    /// Is told that a frame is awaited from now on. Reads and writes nothing.
+    fn await_frame(&self, stream: &mut S)
+        ensures unread { S.remaining stream.new ≡ S.remaining stream.old }
+        ensures unwritten { S.contents stream.new ≡ S.contents stream.old };
 
     /// Waits a while. Returns false, without waiting, if the time that may be waited is over.
     fn pause(&mut self) -> bool
@@ -70,6 +75,7 @@ impl<O: Open<S>, S: SteadyRead + SteadyWrite + Drop> Connection for Streams<O, S
         let Some(mut stream) = self.stream.take() else {
             return Err(Broken);
         };
+        self.opener.await_frame(&mut stream);
         match read_frame(alloc, &mut stream) {
             Ok(Arrival::Frame(frame)) => {
                 self.stream = Some(stream);

@@ -5,29 +5,22 @@ ghost use Rattle.droid_remote.specs.TransferFaults.{is_refusal};
 
 use droid_frame::Refusal;
 use std::alloc::AllocError;
-use thiserror::Error;
 
 /// Why a request got no reply that the client accepts.
-#[derive(Clone, Copy, Debug, PartialEq, Eq, Error)]
+#[derive(Clone, Copy)]
 pub enum TransferFault {
     /// Out of memory, here or in the service.
-    #[error("out of memory")]
     Memory,
     /// No connection held until a reply came, and the time that may be waited is over.
-    #[error("no connection holds until an answer comes")]
     Broken,
     /// The service sent a frame that is no reply to the request.
-    #[error("a frame came that is no reply to the request")]
     Stranger,
     /// On a new connection, the service did not repeat what it answered before: it lost what was sent, or is another
     /// service.
-    #[error("the service has lost what was sent to it")]
     Restarted,
     /// A piece that was in flight was refused, for another reason than memory.
-    #[error("a piece was refused")]
     Refused(Refusal),
     /// The service has no place for another unfinished file, and the time that may be waited is over.
-    #[error("the service has no place for another unfinished file")]
     Busy,
 }
 

@@ -87,6 +87,7 @@ fn page_of(alloc: Global, title: &str, about: &str, tables: &[Table]) -> Result<
         title,
         body: body.as_str(),
     };
+    // This and `tables_are_a_tree` do nothing: they are laws that the prover uses here.
     page_is_a_tree();
     let page = format!(in alloc; "{page}")?;
     Ok(page)
@@ -96,6 +97,7 @@ fn page_of(alloc: Global, title: &str, about: &str, tables: &[Table]) -> Result<
 fn body_of(alloc: Global, title: &str, about: &str, tables: &[Table]) -> Result<String, AllocError>
     ensures { IfOk result (λ body. string_bytes body ≡ text_of (body_tree title.now about.now tables.now) []) }
 {
+    // A law for the prover, as above.
     tables_are_a_tree();
     let body = Body {
         title,

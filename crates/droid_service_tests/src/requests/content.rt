@@ -1,11 +1,10 @@
 //! How many bytes of content a service keeps of a file, and frames of versions that no stream carries.
 
 use crate::requests::steps::{CREATE, LARGEST, Step, is_answered, printed, service};
-use droid_core::{IdentifyFault, Service};
+use droid_core::Service;
 use droid_frame::{Blob, Reply, Request, request_frame};
 use droid_testing::frame;
 use std::alloc::Global;
-use std::test::Fail;
 
 /// A line and what its reply prints, the profile and the file whose bytes are counted then, and how many there are.
 type Kept<'a> = (&'a str, &'a str, u32, u32, Option<u64>);
@@ -144,12 +143,4 @@ fn are_malformed(alloc: Global, places: usize) -> Option<bool> {
 fn other_versions(rt: HostRuntime) {
     let alloc = rt.alloc();
     assert!(rt; are_malformed(alloc, 1) == Some(true) && are_malformed(alloc, 256) == Some(true));
-}
-
-#[test]
-fn texts(rt: HostRuntime) -> Result<(), Fail> {
-    let missing = format!(in rt.alloc(); "{}", IdentifyFault::Incomplete { missing: 7 })?;
-    let memory = format!(in rt.alloc(); "{}", IdentifyFault::Memory)?;
-    assert!(rt; missing.as_str() == "piece 7 is missing" && memory.as_str() == "out of memory");
-    Ok(())
 }

@@ -84,7 +84,7 @@ impl Store {
         Ok(records)
     }
 
-    /// Returns the number of rows. It reads no table and never fails.
+    /// Returns the number of rows. It reads no table and never fails, but has the form of the other queries.
     pub fn counts(&mut self) -> Result<Counts, StoreFault>
         ensures same { self.new ≡ self.old }
         ensures found { result ≡ Ok (counts_of self.old) }

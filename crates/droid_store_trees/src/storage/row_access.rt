@@ -10,8 +10,10 @@ use sqlite_trees::store::{Direction, Shape, Store};
 use sqlite_trees::typed::is_typed;
 use sqlite_value::row::Row;
 
-// The trait of the kit's `sqlite_trees` for rows and transactions; it says what each method has to do. A row or entry
-// that is not there is removed without a fault: then nothing changes. `put` and `insert` refuse rows of other types.
+// The trait of the kit's `sqlite_trees` for rows and transactions. Its contracts are those of the methods; a line at
+// each says what they ask. A write fails for memory alone, but that `put` and `insert` also refuse rows of other types;
+// then no row has changed. No cursor may be used after a write. The `ghost` lines say that this storage never breaks:
+// it has no disk, so there are no faults, and a crash leaves what was committed last.
 impl Store for TreeStore {
     ghost use Rattle.droid_store_trees.specs.Shown.{view, current};
     ghost use Rattle.droid_store_trees.specs.Laws.{is_ordered, is_unaltered};
@@ -42,10 +44,12 @@ impl Store for TreeStore {
 
     ghost unaltered = { λ s _. is_unaltered (current s) s.base };
 
+    /// Returns whether the storage failed in a way that only a rollback mends. In memory it never does.
     fn is_broken(&self) -> bool {
         false
     }
 
+    /// Returns the number after that of the last tree that is not absent, at most 2^32, or 0 if there is none.
     fn tree_count(&self) -> u64 {
         let mut count = (self.current().trees.len() as u64).min(1 << 32);
         while count > 0 && self.shape((count - 1) as u32) == Shape::Absent {
@@ -54,6 +58,7 @@ impl Store for TreeStore {
         count
     }
 
+    /// Returns which columns of a tree hold REAL numbers, as a bit set. An absent tree has none.
     fn reals(&self, tree: u32) -> u64 {
         self.current()
             .trees
@@ -61,10 +66,12 @@ impl Store for TreeStore {
             .map_or(0, |t| if t.shape == Shape::Absent { 0 } else { t.reals })
     }
 
+    /// Returns whether the tree of this number is a table, an index or absent.
     fn shape(&self, tree: u32) -> Shape {
         self.current().shape(tree)
     }
 
+    /// Places a cursor at the first row that is not below the key, or, backward, at the last that is not above it.
     fn seek(
         &mut self,
         cursor: u16,
@@ -76,6 +83,7 @@ impl Store for TreeStore {
         Ok(Self::set_cursor(&mut self.cursors, usize::from(cursor), placed)?)
     }
 
+    /// Reads the cursor's row into `row` and moves on, or returns `false` at the end. The cursor has to be placed.
     fn next(&mut self, cursor: u16, row: &mut Row) -> Result<bool, StoreError> {
         let at = usize::from(cursor);
         match self.current().step(self.cursors[at].unwrap(), row)? {
@@ -87,10 +95,13 @@ impl Store for TreeStore {
         }
     }
 
+    /// Reads the table's row of this number into `row`, or returns `false` if there is none.
     fn get(&mut self, table: u32, id: i64, row: &mut Row) -> Result<bool, StoreError> {
         Ok(self.current().trees[table as usize].get(id, row)?)
     }
 
+    /// Adds a row to a table, or replaces the one of its number. Refuses a row without a column beside its number, or
+    /// with a value that its column cannot hold.
     fn put(&mut self, table: u32, row: &Row) -> Result<(), StoreError> {
         if row.len() < 2 || !is_typed(row, self.reals(table)) {
             return Err(StoreError::Unstorable);
@@ -98,10 +109,13 @@ impl Store for TreeStore {
         self.write(table, Edit::Put(row))
     }
 
+    /// Removes the row of this number from a table. If there is none, nothing changes, and that is no fault.
     fn delete(&mut self, table: u32, id: i64) -> Result<(), StoreError> {
         self.write(table, Edit::Delete(id))
     }
 
+    /// Adds an entry to an index; one that is there stays as it is. Refuses an entry with a value that its column
+    /// cannot hold.
     fn insert(&mut self, index: u32, entry: &Row) -> Result<(), StoreError> {
         if !is_typed(entry, self.reals(index)) {
             return Err(StoreError::Unstorable);
@@ -109,10 +123,13 @@ impl Store for TreeStore {
         self.write(index, Edit::Insert(self.shape(index).order(), entry))
     }
 
+    /// Removes an entry from an index. If it is not there, nothing changes, and that is no fault; so, unlike in
+    /// `insert`, its types need no test.
     fn remove(&mut self, index: u32, entry: &Row) -> Result<(), StoreError> {
         self.write(index, Edit::Remove(self.shape(index).order(), entry))
     }
 
+    /// Makes what the transaction wrote the committed trees, and drops the marks. Allocates nothing and never fails.
     fn commit(&mut self) -> Result<(), StoreError> {
         self.marks.clear();
         if let Some(forest) = self.changed.take() {
@@ -121,22 +138,26 @@ impl Store for TreeStore {
         Ok(())
     }
 
+    /// Drops what the transaction wrote, the marks and the cursors.
     fn rollback(&mut self) {
         self.changed = None;
         self.marks.clear();
         self.cursors.clear();
     }
 
+    /// Marks what the transaction sees, so that `rollback_to` can go back to it.
     fn savepoint(&mut self) -> Result<(), StoreError> {
         let mark = self.current().copy(self.alloc)?;
         Ok(self.marks.push(mark)?)
     }
 
+    /// Drops the newest mark, and keeps what was written since.
     fn release(&mut self) -> Result<(), StoreError> {
         self.marks.pop();
         Ok(())
     }
 
+    /// Goes back to the newest mark, which stays. Without a mark nothing changes.
     fn rollback_to(&mut self) -> Result<(), StoreError> {
         let Some(mark) = self.marks.last() else {
             return Ok(());

@@ -1,7 +1,8 @@
 //! How a command ends.
 
 ghost use Rattle.std.specs.Prelude.{◌≡◌};
-ghost use Rattle.droid_terminal.specs.Endings.{about_text, by, detail_text, detailed, numbered, said, status_of, told};
+ghost use Rattle.droid_terminal.specs.Endings.{about_text, by, detail_text, detailed, numbered, said};
+ghost use Rattle.droid_terminal.specs.Endings.{status_of, told, told_at};
 
 use crate::ending::about::About;
 use crate::ending::detail::Detail;
@@ -44,11 +45,18 @@ impl<'a> Ending<'a> {
     pub fn numbered(row: Row, about: About<'a>, number: u64) -> Ending<'a>
         ensures { told result ≡ numbered (said row) (about_text about.entry) number }
     {
+        Ending::at(row, about, number, Detail::Number(number))
+    }
+
+    /// Ends a command by a fault of this row, whose name has this number, and whose sentence names this.
+    pub fn at(row: Row, about: About<'a>, number: u64, detail: Detail<'a>) -> Ending<'a>
+        ensures { told result ≡ told_at (said row) (about_text about.entry) number (detail_text detail.entry) }
+    {
         Ending::Fault(Fault {
             row,
             at: Some(number),
             about,
-            detail: Detail::Number(number),
+            detail,
         })
     }
 
@@ -63,7 +71,8 @@ impl<'a> Ending<'a> {
         }
     }
 
-    /// Prints the fault to standard error, and behind it a sentence that says what happened and what to do.
+    /// Prints the fault to standard error, and behind it a sentence that says what happened and what to do. Without a
+    /// contract of its own: `FaultLine` and `Sentence` say what they print, and `tests/program/endings.sh` reads it.
     pub fn print<R: Eprint>(self, rt: &R) -> io::Result<()> {
         match self {
             Ending::Whole | Ending::Partly => Ok(()),

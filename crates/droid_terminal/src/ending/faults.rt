@@ -21,6 +21,9 @@ macro_rules! fault_row {
     };
 }
 
+const NO_MEMORY: &str =
+    "out of memory: close other programs, or allow this one more, and try again";
+
 const LOST: &str = "the service no longer has what was sent: run the same command again";
 
 const LOST_PIECES: &str =
@@ -29,11 +32,14 @@ const LOST_PIECES: &str =
 const MUST_TAKE: &str =
     "the service refused a request that it must take: this is a mistake in droid_desk or in the service";
 
+const NO_REPLY: &str = "the reply could not be read: send the same lines again to resume";
+
+const STRANGE: &str = "what came is not the reply: is droid_desk serve listening there?";
+
 // Faults of several commands.
 
 /// Memory ran out.
-pub const MEMORY: Row = fault_row!(Failed "Memory"
-    "out of memory: close other programs, or allow this one more, and try again");
+pub const MEMORY: Row = fault_row!(Failed "Memory" NO_MEMORY);
 /// Not all could be written.
 pub const UNWRITTEN: Row =
     fault_row!(Failed "Write" "could not be written: is the disk full, or its reader gone?");
@@ -80,6 +86,9 @@ pub const OWN_CSV_NO_PROFILE: Row = fault_row!(Failed "Profile"
 /// A record of that CSV, which is named, is malformed.
 pub const OWN_CSV_MALFORMED: Row = fault_row!(Failed "Profile"
     "record " .. " is malformed (the column names are record 1): was the file changed?");
+/// A read failed.
+pub const READING_FAILED: Row =
+    fault_row!(Unread "Read" "reading failed: try again with a copy of the file");
 
 // Faults of report.
 
@@ -93,6 +102,8 @@ pub const CSV_ITSELF: Row =
 /// The CSV for a page is no profile's.
 pub const NO_PROFILE: Row = fault_row!(Unread "Profile"
     "does not begin with the column names of a profile: name a CSV of `profile` or of an export");
+/// It lacks a column that is needed, which is named.
+pub const PROFILE_LACKS: Row = fault_row!(Unread "Profile" "there is no column " ..);
 /// A record of it, which is named, is malformed.
 pub const PROFILE_MALFORMED: Row = fault_row!(Unread "Profile"
     "record " .. " is malformed (the column names are record 1): was the file changed?");
@@ -106,9 +117,6 @@ pub const UNOPENED_FOLDER: Row =
     fault_row!(Unread "Read" "a folder: name the signature file in it");
 /// A file could not be opened, for the system's reason.
 pub const UNOPENED: Row = fault_row!(Unread "Read" "" ..);
-/// A read failed.
-pub const READING_FAILED: Row =
-    fault_row!(Unread "Read" "reading failed: try again with a copy of the file");
 /// The signature file is too long.
 pub const LONG_SIGNATURE_FILE: Row =
     fault_row!(Unread "TooLong" "more than 67,108,864 bytes: is it a signature file?");
@@ -155,8 +163,11 @@ pub const LIST_MISSING: Row =
 pub const LIST_UNOPENED: Row = fault_row!(Unread "Open" "" ..);
 /// A list is no profile's CSV.
 pub const LIST_OTHER: Row = fault_row!(Unread "List" "the first record is not that of a profile");
+/// A profile's CSV lacks a column that is needed, which is named.
+pub const LIST_LACKS: Row = fault_row!(Unread "List" "there is no column " ..);
 /// A record, which is named, has another number of fields.
-pub const LIST_FIELDS: Row = fault_row!(Unread "List" "record " .. " does not have 18 fields");
+pub const LIST_FIELDS: Row =
+    fault_row!(Unread "List" "record " .. " does not have a field for each column");
 /// A field is wrong: the record and the column are named.
 pub const LIST_WRONG: Row = fault_row!(Unread "List" "record " .. " is wrong");
 /// A record contradicts another: it and the column are named.
@@ -290,3 +301,135 @@ pub const PIECE_HELD: Row = fault_row!(Failed "PieceHeld" MUST_TAKE);
 pub const NODES: Row = fault_row!(Failed "Nodes" MUST_TAKE);
 /// More unfinished files than it takes.
 pub const UNFINISHED: Row = fault_row!(Failed "Busy" MUST_TAKE);
+
+// Faults of script, run, serve, send and compact.
+
+/// A registry file has too many bytes.
+pub const REGISTRY_LONG: Row =
+    fault_row!(Unread "TooLong" "more than 16,777,216 bytes: is it a registry file?");
+/// Memory ran out for a registry.
+pub const REGISTRY_MEMORY: Row = fault_row!(Unread "Memory" NO_MEMORY);
+/// A registry file is not there.
+pub const REGISTRY_MISSING: Row =
+    fault_row!(Unread "Read" "no such file: check the path after --registry");
+/// A registry file may not be read.
+pub const REGISTRY_DENIED: Row =
+    fault_row!(Unread "Read" "permission denied: make the file readable");
+/// A folder is in the place of a registry file.
+pub const REGISTRY_IS_A_FOLDER: Row =
+    fault_row!(Unread "Read" "a folder: name the registry file in it");
+/// A registry file could not be opened, for the system's reason.
+pub const REGISTRY_UNOPENED: Row = fault_row!(Unread "Read" "" ..);
+/// A field of this record is not UTF-8. The next five name the record too.
+pub const NOT_UTF8: Row =
+    fault_row!(Unread "NotUtf8" "record " .. ": a field is not UTF-8 text: save the file as UTF-8");
+/// It is no record of a registry.
+pub const BAD_RECORD: Row = fault_row!(Unread "BadRecord"
+    "record " .. ": expected six fields, the first of them F, E, S, B or P: is it a registry file?");
+/// Its pattern is none.
+pub const BAD_PATTERN: Row = fault_row!(Unread "BadPattern"
+    "record " .. ": the last field is not a pattern: expected one as 25504446");
+/// It names a format that no record above it has.
+pub const UNKNOWN_PUID: Row = fault_row!(Unread "UnknownPuid"
+    "record " .. ": expected an identifier that an F record above gives");
+/// It has the identifier of a format above.
+pub const DUPLICATE_PUID: Row = fault_row!(Unread "DuplicatePuid"
+    "record " .. ": an F record above has this identifier: each may stand once");
+/// A registry has no place for it.
+pub const TOO_MANY_OF_A_KIND: Row = fault_row!(Unread "TooMany"
+    "record " .. ": one more of its kind than a registry may have: shorten it");
+/// Memory ran out for the service.
+pub const SERVICE_WITHOUT_MEMORY: Row = fault_row!(Unmade "Memory" NO_MEMORY);
+/// The database refused its tables.
+pub const SERVICE_REFUSED: Row =
+    fault_row!(Unmade "Store" "the database refused its tables: this is a mistake in droid_desk");
+/// Standard input has too many bytes.
+pub const INPUT_TOO_LONG: Row = fault_row!(Failed "TooLong"
+    "standard input has more than 67,108,864 bytes: use serve and send");
+/// Standard input could not be read.
+pub const INPUT_UNREAD: Row = fault_row!(Failed "Read" "standard input could not be read");
+/// Standard output could not be written.
+pub const OUTPUT_STOPPED: Row = fault_row!(Failed "Write"
+    "standard output could not be written: is the disk full, or its reader gone?");
+/// Standard input ends within a frame.
+pub const FRAME_TRUNCATED: Row =
+    fault_row!(Failed "Truncated" "standard input ends inside a frame");
+/// A frame has another version.
+pub const FRAME_VERSION: Row = fault_row!(Failed "BadVersion"
+    "a frame begins with another byte than 1 or 2: is standard input a stream of frames?");
+/// A frame is too long.
+pub const FRAME_TOO_LONG: Row = fault_row!(Failed "TooLong"
+    "the body of a frame is longer than its version allows: send smaller pieces");
+/// No number for a request is left.
+pub const SENT_NUMBERS: Row =
+    fault_row!(Failed "NumbersUsedUp" "no number is left: use another --client");
+/// A request could not be sent.
+pub const SENT_BROKEN: Row =
+    fault_row!(Failed "Write" "the connection broke: send the same lines again to resume");
+/// The service closed the connection.
+pub const SENT_CLOSED: Row = fault_row!(Failed "Closed"
+    "the service closed the connection: start it again with more --connections, if it has ended");
+/// A reply ends within its frame.
+pub const REPLY_TRUNCATED: Row = fault_row!(Failed "Truncated" NO_REPLY);
+/// A reply has another version.
+pub const REPLY_VERSION: Row = fault_row!(Failed "BadVersion" NO_REPLY);
+/// A reply is too long.
+pub const REPLY_TOO_LONG: Row = fault_row!(Failed "TooLong" NO_REPLY);
+/// Memory ran out for a reply.
+pub const REPLY_MEMORY: Row = fault_row!(Failed "Memory" NO_REPLY);
+/// A reply could not be read.
+pub const REPLY_UNREAD: Row = fault_row!(Failed "Read" NO_REPLY);
+/// What came is no reply.
+pub const SENT_MALFORMED: Row = fault_row!(Failed "Malformed" STRANGE);
+/// What came is no reply to the request.
+pub const SENT_STRANGER: Row = fault_row!(Failed "Stranger" STRANGE);
+/// What came is a reply that came before.
+pub const SENT_REPEATED: Row = fault_row!(Failed "Repeated" STRANGE);
+/// Another program listens on the port, which is named.
+pub const PORT_IN_USE: Row = fault_row!(Failed "Socket"
+    "port " .. " is in use: choose another, or stop the program that listens on it");
+/// Nobody listens on the port.
+pub const PORT_UNHEARD: Row = fault_row!(Failed "Socket" "");
+/// The port may not be listened on.
+pub const PORT_DENIED: Row =
+    fault_row!(Failed "Socket" "permission denied: choose a port above 1023");
+/// The port could not be used, for the system's reason.
+pub const PORT_UNUSABLE: Row = fault_row!(Failed "Socket" "" ..);
+/// No connection could be accepted.
+pub const PORT_STOPPED: Row =
+    fault_row!(Failed "Socket" "no connection could be accepted: start the service again");
+/// Another process has the journal open.
+pub const JOURNAL_IN_USE: Row =
+    fault_row!(Failed "Journal in use" "another droid_desk has this journal open: stop it first");
+/// Something else is in the place of a journal.
+pub const JOURNAL_NO_FILE: Row = fault_row!(Failed "Journal"
+    "this is a folder, a link or a device: name a file, or a path where nothing is yet");
+/// A journal could not be opened, for the system's reason.
+pub const JOURNAL_UNOPENED: Row = fault_row!(Failed "Journal"
+    "could not be opened (" .. "): check the path, and whether you may write in its folder");
+/// A journal begins with another header.
+pub const JOURNAL_OTHER: Row = fault_row!(Unread "Journal"
+    "not a journal of this registry and this version of droid_desk, or damaged at its beginning: " ..
+    "name the registry of its first start, restore a copy, or name a new file");
+/// A record, which is named, has another reply.
+pub const JOURNAL_REPLY: Row = fault_row!(Unread "Journal"
+    "the reply in record " .. " is not the one that its request gets: restore a copy of the file");
+/// A journal is damaged behind this record.
+pub const JOURNAL_DAMAGED: Row =
+    fault_row!(Unread "Journal" "damaged after record " .. ": restore a copy of the file");
+/// Memory ran out for a journal.
+pub const JOURNAL_MEMORY: Row = fault_row!(Failed "Memory"
+    "out of memory: close other programs, or allow this one more, and start again");
+/// A journal could not be read.
+pub const JOURNAL_UNREAD: Row = fault_row!(Failed "Journal" "could not be read: check the disk");
+/// A journal could not be written.
+pub const JOURNAL_UNWRITTEN: Row = fault_row!(Failed "Journal"
+    "could not be written, so nothing more is answered: is the disk full? Make room, and start again");
+/// The smaller journal could not be made, for the system's reason.
+pub const JOURNAL_NOT_SMALLER: Row = fault_row!(Failed "Journal" "" .. " is as it was");
+/// The smaller journal could not be written.
+pub const SMALLER_UNWRITTEN: Row =
+    fault_row!(Failed "Journal" "could not be written: is the disk full? " .. " is as it was");
+/// The smaller journal may not have got its name.
+pub const NOT_EXCHANGED: Row = fault_row!(Failed "Journal"
+    "has all its records, but the smaller journal could not be synced or renamed: try again");

@@ -35,7 +35,7 @@ pub fn told_no_folder<'a, R: Files + AllocGlobal>(rt: &R, path: &'a str) -> Endi
     told_of_folder(seen_folder(rt, path), path)
 }
 
-/// Looks at a path.
+/// Looks at a path. What is there is up to the machine, so this has no contract: any answer has its ending.
 fn seen_folder<R: Files + AllocGlobal>(rt: &R, path: &str) -> SeenFolder {
     match fs::metadata(rt, path) {
         Ok(found) if found.is_dir() => match why_unlisted(rt, path) {

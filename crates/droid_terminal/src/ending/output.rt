@@ -32,7 +32,7 @@ pub fn told_no_output<'a, R: Files>(rt: &R, path: &'a str) -> Ending<'a>
     Ending::by(output_row(seen_output(rt, path)), About::Path(path))
 }
 
-/// Looks at a path.
+/// Looks at a path. What is there is up to the machine, so this has no contract: any answer has its row.
 fn seen_output<R: Files>(rt: &R, path: &str) -> SeenOutput {
     if let Ok(found) = fs::metadata(rt, path)
         && !found.is_file()
@@ -42,7 +42,7 @@ fn seen_output<R: Files>(rt: &R, path: &str) -> SeenOutput {
     SeenOutput::InFolder(folder_fault(rt, folder_of(path)))
 }
 
-/// Returns why a folder cannot be used, or `None` if it is there.
+/// Returns why a folder cannot be used, or `None` if it is there. Without a contract too.
 fn folder_fault<R: Files>(rt: &R, path: &str) -> Option<ErrorKind> {
     match fs::metadata(rt, path) {
         Ok(found) if found.is_dir() => None,

@@ -10,6 +10,8 @@ pub enum Status {
     Unread,
     /// 4: something failed on the way.
     Failed,
+    /// 6: no service could be made.
+    Unmade,
 }
 
 impl Status {
@@ -20,6 +22,7 @@ impl Status {
         match self {
             Status::Unread => 3,
             Status::Failed => 4,
+            Status::Unmade => 6,
         }
     }
 }

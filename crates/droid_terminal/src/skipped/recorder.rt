@@ -1,4 +1,4 @@
-//! Keeps what a submission skips.
+//! Keeps what a walk skips.
 
 ghost use Rattle.std.specs.Prelude.{◌≡◌, ◌++◌, [], ◌∷◌, true, OnOk};
 ghost use Rattle.droid_terminal.specs.SkippedPaths.{Records};

@@ -31,13 +31,13 @@ fn gives(
         HashKind::Md5,
         &mut stream,
     );
-    let wanted = if written < text.len() {
-        Err(ExportFault::Write { written })
-    } else {
-        Ok(())
+    let ends = match answer {
+        Ok(()) => text.len() <= written,
+        Err(ExportFault::Write { written: count }) => count == written && written < text.len(),
+        Err(ExportFault::Memory) => false,
     };
     let first = written.min(text.len());
-    Ok(answer == wanted && text.get(..first) == Some(stream.stream.taken()))
+    Ok(ends && text.get(..first) == Some(stream.stream.taken()))
 }
 
 /// The number of bytes that a call takes, the number of first calls that are interrupted, and the number of bytes that

@@ -71,8 +71,8 @@ const CSV: &str =
 
 /// Returns whether a profile is read right.
 fn is_read(alloc: Global) -> Result<bool, AllocError> {
-    match read_profile(alloc, CSV.as_bytes()) {
-        Ok(items) => Ok(items.len() == 3),
+    match read_profile(alloc, true, CSV.as_bytes()) {
+        Ok(profile) => Ok(profile.items.len() == 3 && profile.formats.len() == 3),
         Err(ListFault::Memory) => Err(AllocError),
         Err(_) => Ok(false),
     }

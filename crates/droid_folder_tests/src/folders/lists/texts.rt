@@ -109,7 +109,9 @@ fn said_of(alloc: Global, rows: &str, size: u64) -> Result<String, AllocError> {
     match check_text(alloc, HashKind::Md5, known.as_slice(), csv.as_slice()) {
         Ok(found) => words_of(alloc, found.as_slice()),
         Err(TextFault::Memory) => Err(AllocError),
-        Err(fault) => Ok(format!(in alloc; "{fault}")?),
+        Err(TextFault::Wrong { record, column }) => {
+            Ok(format!(in alloc; "record {record} is wrong in column {column}")?)
+        }
     }
 }
 
@@ -176,7 +178,8 @@ fn a_missing_row(rt: HostRuntime) -> Result<(), Fail> {
         found: no_finding(),
     })?;
     let names = NAMES.as_bytes();
-    let found = check_text(alloc, HashKind::Md5, known.as_slice(), names)?;
+    let found = check_text(alloc, HashKind::Md5, known.as_slice(), names).ok();
+    let found = found.expect(&rt, "a comparison");
     assert!(rt; found.len() == 1 && matches!(&found[0], Difference::Missing { known: 0 }));
     Ok(())
 }

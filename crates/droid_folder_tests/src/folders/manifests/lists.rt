@@ -3,30 +3,29 @@
 
 use droid_fixity::{ManifestFault, ManifestForm, add_line, read_manifest};
 use droid_frame::HashValue;
+use std::alloc::Global;
 use std::test::Fail;
 
-/// Manifests of bags, and why they can't be read.
-const BAGS: [(&str, ManifestFault); 2] = [
-    (
-        "b1946ac92492d2347c6235b4d2611184  \n",
-        ManifestFault::Line { line: 1 },
-    ),
-    (
-        "b1946ac92492d2347c6235b4d2611184  a\n",
-        ManifestFault::Path { line: 1 },
-    ),
-];
+/// Manifests of bags that can't be read: a line without a path, and a path that does not begin with `data/`.
+const NO_PATH: &[u8] = b"b1946ac92492d2347c6235b4d2611184  \n";
+
+const OTHER_PATH: &[u8] = b"b1946ac92492d2347c6235b4d2611184  a\n";
+
+/// Returns why the manifest of a bag can't be read.
+fn fault_of(alloc: Global, list: &[u8]) -> Option<ManifestFault> {
+    read_manifest(alloc, ManifestForm::Bag, list).err()
+}
 
 #[test]
 fn manifests_of_bags(rt: HostRuntime) -> Result<(), Fail> {
     let alloc = rt.alloc();
-    for (list, fault) in &BAGS {
-        let read = read_manifest(alloc, ManifestForm::Bag, list.as_bytes());
-        assert!(rt; read.err() == Some(*fault), "{list}");
-    }
-    let read = read_manifest(alloc, ManifestForm::Bag, b"");
+    let fault = fault_of(alloc, NO_PATH);
+    assert!(rt; matches!(fault, Some(ManifestFault::Line { line: 1 })));
+    let fault = fault_of(alloc, OTHER_PATH);
+    assert!(rt; matches!(fault, Some(ManifestFault::Path { line: 1 })));
     let mut list = Vec::new(alloc);
     add_line(&mut list, HashValue::Nothing, "/a")?;
-    assert!(rt; read.err() == Some(ManifestFault::Empty) && list.is_empty());
+    let fault = fault_of(alloc, b"");
+    assert!(rt; matches!(fault, Some(ManifestFault::Empty)) && list.is_empty());
     Ok(())
 }

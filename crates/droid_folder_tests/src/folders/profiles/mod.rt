@@ -1,6 +1,5 @@
 //! Profiles of trees in memory. (tests/program/folders has those of folders of this machine.)
 
-mod fault_texts;
 mod memory;
 mod page;
 mod skipped_entries;

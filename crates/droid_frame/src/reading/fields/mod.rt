@@ -1,4 +1,7 @@
-//! Readers of single fields. Each reads from the front of the bytes and returns the value and the bytes after it.
+//! Readers of single fields.
+//!
+//! A function `.._at` reads from the front of the bytes and returns the value and the bytes after it. `text_of` and
+//! `bytes_after` take what is left of a body, in its own buffer.
 
 pub(crate) mod hashes;
 pub(crate) mod text_lists;
@@ -13,7 +16,7 @@ use crate::blob::Blob;
 use crate::method::Method;
 use crate::text::Text;
 
-/// Makes a text of all these bytes, or `None` if they are not UTF-8.
+/// Makes a text of all these bytes, in their own buffer, or returns `None` if they are not UTF-8.
 pub(crate) fn text_of(bytes: Vec<u8>) -> Option<Text>
     ensures { result ≡ text_at bytes.items }
 {

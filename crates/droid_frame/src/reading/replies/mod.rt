@@ -47,10 +47,11 @@ pub fn reply_of(alloc: Global, frame: Frame) -> Result<Reply, BodyFault>
     value_of(alloc, frame.version, frame.kind, frame.body)
 }
 
-/// Reads the body of a reply of this kind, in a known version.
+/// Reads the reply that a version, a kind and a body spell. The version may be any number.
 #[tactic(auto, unfolding(crate::specs::ReplyValues::reply_value))]
 fn value_of(alloc: Global, version: u8, kind: u8, body: Blob) -> Result<Reply, BodyFault>
     ensures answer { IsReplyAnswer kind (reply_value version kind body) result }
+    // For the proof of the caller: an invariant of the body.
     ensures bytes { IsBytes body }
 {
     if !is_version(version) {
@@ -59,10 +60,11 @@ fn value_of(alloc: Global, version: u8, kind: u8, body: Blob) -> Result<Reply, B
     any_value(alloc, version, kind, body)
 }
 
-/// Reads the reply, in version 1 or 2.
+/// Reads the reply that a kind and a body spell in version 1 or 2. Callers check the version.
 #[tactic(auto, unfolding(crate::specs::ReplyValues::any_value))]
 fn any_value(alloc: Global, version: u8, kind: u8, body: Blob) -> Result<Reply, BodyFault>
     ensures answer { IsReplyAnswer kind (any_value version kind body) result }
+    // For the proof of the caller: an invariant of the body.
     ensures bytes { IsBytes body }
 {
     let bytes = body.as_slice();

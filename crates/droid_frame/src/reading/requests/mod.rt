@@ -49,12 +49,13 @@ pub fn request_of(alloc: Global, frame: Frame) -> Result<Request, BodyFault>
     value_of(alloc, frame.version, frame.kind, frame.body)
 }
 
-/// Reads the body of a request of this kind, in a known version. Only an Export takes memory.
+/// Reads the request that a version, a kind and a body spell. The version may be any number. Only an Export allocates.
 #[tactic(auto, unfolding(crate::specs::RequestValues::request_value))]
 fn value_of(alloc: Global, version: u8, kind: u8, body: Blob) -> Result<Request, BodyFault>
     ensures answer { IsAnswer result (request_value version kind body) }
     ensures exact { ¬ (kind ≡ 8) → result ≡ ok_or (request_value version kind body) BodyFault.Malformed }
     ensures out_of_memory { IsErrOf result BodyFault.Memory → kind ≡ 8 }
+    // For the proof of the caller: an invariant of the body.
     ensures bytes { IsBytes body }
 {
     if !is_version(version) {
@@ -63,12 +64,13 @@ fn value_of(alloc: Global, version: u8, kind: u8, body: Blob) -> Result<Request,
     any_value(alloc, version, kind, body)
 }
 
-/// Reads the request, in version 1 or 2.
+/// Reads the request that a kind and a body spell in version 1 or 2. Callers check the version.
 #[tactic(auto, unfolding(crate::specs::RequestValues::any_value))]
 fn any_value(alloc: Global, version: u8, kind: u8, body: Blob) -> Result<Request, BodyFault>
     ensures answer { IsAnswer result (any_value version kind body) }
     ensures exact { ¬ (kind ≡ 8) → result ≡ ok_or (any_value version kind body) BodyFault.Malformed }
     ensures out_of_memory { IsErrOf result BodyFault.Memory → kind ≡ 8 }
+    // For the proof of the caller: an invariant of the body.
     ensures bytes { IsBytes body }
 {
     let bytes = body.as_slice();

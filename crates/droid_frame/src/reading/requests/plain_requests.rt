@@ -12,7 +12,7 @@ use crate::reading::fields::{bool_at, bytes_after, text_of, u32_at, u64_at};
 use crate::request::Request;
 use crate::text::Text;
 
-/// Reads a request that has no list, in this version. A name and a piece's bytes stay in the body's own buffer.
+/// Reads a request that has no list, in version 1 or 2. A name and a piece's bytes stay in the body's own buffer.
 /// Allocates nothing.
 #[tactic(auto, unfolding(crate::specs::RequestValues::plain_value, crate::specs::RequestValues::finish_value, crate::specs::RequestValues::abandon_value, crate::specs::RequestValues::status_value))]
 pub(crate) fn plain_value(version: u8, kind: u8, body: Blob) -> Option<Request>

@@ -2,16 +2,14 @@
 
 ghost use Rattle.std.specs.Prelude.{◌≡◌, ◌≤◌, ◌++◌, [], length};
 ghost use Rattle.droid_frame.specs.Hashes.{IsHashValue};
-ghost use Rattle.droid_frame.specs.Replies.{HasReplySpelling, HasRefusalSpelling, IsPuidText, digest_bytes};
+ghost use Rattle.droid_frame.specs.Replies.{HasReplySpelling, HasRefusalSpelling, digest_bytes};
 ghost use Rattle.droid_frame.specs.Replies.{refusal_bytes};
 ghost use Rattle.droid_frame.specs.ReplyFronts.{reply_front};
-ghost use Rattle.droid_frame.specs.TextLists.{sized_bytes};
 
 use super::small_bytes::SmallBytes;
 use crate::hash_value::HashValue;
 use crate::refusal::Refusal;
 use crate::reply::Reply;
-use crate::text::Text;
 
 /// Makes the front of the reply's body in this version: the fields before its list or bytes.
 pub(crate) fn front_of(version: u8, reply: &Reply) -> SmallBytes
@@ -77,15 +75,4 @@ fn add_refusal(front: &mut SmallBytes, refusal: Refusal)
         Refusal::LimitReached(which) => front.add(&[which.number()]),
         _ => {}
     }
-}
-
-/// Makes the bytes of a format identifier after its length.
-pub(crate) fn sized_puid(puid: &Text) -> SmallBytes
-    requires { IsPuidText puid.now }
-    ensures { result ≡ sized_bytes puid.now }
-{
-    let mut sized = SmallBytes::new();
-    sized.add(&[puid.len() as u8]);
-    sized.add(puid.as_str().as_bytes());
-    sized
 }

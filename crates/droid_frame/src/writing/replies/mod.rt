@@ -1,7 +1,7 @@
 //! Writers of replies' bodies.
 
 pub(crate) mod fronts;
-mod small_bytes;
+pub(crate) mod small_bytes;
 
 ghost use Rattle.std.specs.Prelude.{◌≡◌, ◌≤◌, IfOk, length};
 ghost use Rattle.std.specs.List.{AllByRecursion};

@@ -1,4 +1,4 @@
-//! A few bytes without an allocation.
+//! A few bytes without an allocation: the front of a reply's body, or one format identifier after its length.
 
 ghost use Rattle.std.specs.Prelude.{◌≡◌, ◌+◌, ◌≤◌, ◌++◌, [], length};
 

@@ -1,4 +1,4 @@
-//! A registry that is being read.
+//! A registry that is being read. `fields_of`, of the kit's `csv`, is the list of a record's texts.
 
 ghost use Rattle.std.specs.Prelude.{◌≡◌, ◌<◌, ◌^◌, length, IfOk};
 ghost use Rattle.csv.specs.Records.{fields_of};

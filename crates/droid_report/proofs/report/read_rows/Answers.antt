@@ -59,7 +59,7 @@ returns-in-Err-take c = λ records are some.
     let old = inv.7 records are in
     left_fault c.loop-row.row-iterator.rdr c.next.new.self.rdr inv.5 (fields_of c.in-Ok.row) n old.0 c.in-Err-take.fault (profile_of records) (c.in-Err-take.ensures old.0 old.1 some) old.2
 
-pub csv_fault-requires : goal.csv_fault-requires
-csv_fault-requires c =
+pub no_memory-requires : goal.no_memory-requires
+no_memory-requires c =
     let inv = c.loop-row.invariant in
     ends_reading c.loop-row.row-iterator.rdr c.next.new.self.rdr (error_kind c.in-Err.error) inv.4 (rw (c.in-Some.is, c.in-Err.is) at ((c.next.ensures.steps inv.2 inv.0).0 inv.1))

@@ -34,7 +34,9 @@ fn are_served(alloc: Global, turns: Turns) -> bool {
     let writer = ShakyWriter::new(Vec::new(alloc), written, Stop::Fails, STEADY);
     let mut writer = Noted::new(writer);
     let found = serve(alloc, &mut service, &mut reader, &mut writer, frames);
-    found == Ok(ended) && writer.stream.taken() == replies && reader.stream.left() == left
+    matches!(found, Ok(end) if end == ended)
+        && writer.stream.taken() == replies
+        && reader.stream.left() == left
 }
 
 #[test]

@@ -173,10 +173,13 @@ impl Connections for Hall {
     }
 
     fn close(&mut self, _id: u64, why: Departure, frames: u64) {
-        if why == Departure::Closed && frames == u64::from(self.orders).wrapping_mul(3) {
+        if matches!(why, Departure::Closed) && frames == u64::from(self.orders).wrapping_mul(3) {
             self.closed = self.closed.wrapping_add(1);
         }
-        if why == Departure::Memory || why == Departure::Frame(FrameFault::Memory) {
+        if matches!(
+            why,
+            Departure::Memory | Departure::Frame(FrameFault::Memory)
+        ) {
             self.short = self.short.wrapping_add(1);
             self.given = 0;
         }

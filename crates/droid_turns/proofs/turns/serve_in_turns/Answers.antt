@@ -1,12 +1,13 @@
-use Rattle.std.proofs.Common.{◌≡◌, ◌+◌, ◌++◌, ◌∷◌, [], Bool, List, refl, ap, subst, arith, inl, inr}
+use Rattle.std.proofs.Common.{◌≡◌, ◌+◌, ◌++◌, ◌∷◌, [], ℕ, Bool, List, refl, sym, ap, subst, arith, inl, inr}
 use Rattle.droid_turns.specs.Events.{Unwaited, Waited}
 use Rattle.droid_turns.specs.Halls.{GivesUp, Stops, TakesTurn, Turned}
-use Rattle.droid_turns.specs.Turns.{ServesAll}
+use Rattle.droid_turns.specs.Turns.{IsShare, ServesAll}
 use Rattle.droid_turns.specs.Steps.{Goes, Happens, Step}
 use Rattle.droid_turns.specs.declared.service_end.Served.TheVariants as ways
 use Rattle.droid_turns.proofs.Moments.{goes_as, goes_both, goes_moving, goes_none, moves_both, moves_one}
 use Rattle.droid_turns.proofs.HallSteps.{FailsAndStops, IsBetween, WaitsAndFails, WaitsAndGoes, ended_all, ended_at_once, ended_stopped, failed, turned, unsettled}
 use Rattle.droid_turns.proofs.Settling.{ordered_none}
+use Rattle.droid_turns.proofs.Shares.{share_first}
 use Rattle.droid_turns.proofs.turns.serve_in_turns.Goals as goal
 
 -- no memory for the list of connections
@@ -17,7 +18,7 @@ pub loop-init : goal.loop-init
 loop-init g c = record {
   rooms = c.in-Ok.ensures.rooms;
   first = c.in-Ok.ensures.first;
-  goes = goes_none g.C.Connections.does g.H.Handler.handles g.H.Handler.settles c.args.connections.now c.args.handler.now (IsBetween c.args.rules c.in-Ok.hall 0) (record { rest = c.in-Ok.ensures.empty c.args.rules; begun = inl refl; many = omega arith; ordered = ordered_none; once = inl refl });
+  goes = goes_none g.C.Connections.does g.H.Handler.handles g.H.Handler.settles c.args.connections.now c.args.handler.now (IsBetween c.args.rules c.in-Ok.hall 0) (record { rest = c.in-Ok.ensures.empty c.args.rules; begun = inl refl; is_share = subst (λ (s : ℕ). IsShare s [] []) (sym c.in-Ok.ensures.share) share_first; many = omega arith; ordered = ordered_none; once = inl refl });
 }
 
 -- all came and left

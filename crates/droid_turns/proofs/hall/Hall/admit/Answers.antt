@@ -15,6 +15,7 @@ loop-alloc-init g c =
       rooms = c.requires.rooms;
       first = c.requires.first;
       time = refl;
+      share = refl;
       moves = moves_none g.C.Connections.does c.args.connections.now (LeadsInTurn c.args.rules IsHearing (Unheard hall.time) NoPeer (Unheard hall.time) NoPeer hall hall) (leads_none c.args.rules (Unheard hall.time) NoPeer hall, tt, tt);
     }
 
@@ -65,9 +66,10 @@ loop-alloc-preserved-in-Ok g c =
       };
       first = c.loop-alloc.invariant.first;
       time = c.loop-alloc.invariant.time;
+      share = c.loop-alloc.invariant.share;
       moves = moves_event g.C.Connections.does c.args.connections.now c.loop-alloc.connections c.accept.new.self (Opened old.opened) (LeadsInTurn rules IsHearing (Unheard now) NoPeer (Unheard now) NoPeer start old) (LeadsInTurn rules IsHearing (Unheard now) NoPeer (Unheard now) NoPeer start new)
           (λ first so. leads_in_turn rules IsHearing (Unheard now) NoPeer (Unheard now) NoPeer (Unheard now) NoPeer start old new first _ so
-          (leads_coming rules now old new peer (sym c.loop-alloc.invariant.time) seats (c.may_accept.ensures.more c.loop-alloc-test.true) c.in-Ok.ensures c.push_reserved.ensures.items refl refl refl, calm_opened old.opened, (tt, tt)))
+          (leads_coming rules now old new peer (sym c.loop-alloc.invariant.time) seats (c.may_accept.ensures.more c.loop-alloc-test.true) c.in-Ok.ensures c.push_reserved.ensures.items refl refl refl refl, calm_opened old.opened, (tt, tt)))
           c.loop-alloc.invariant.moves
           (subst (λ (b : Bool). g.C.Connections.does c.loop-alloc.connections (cond b (Opened old.opened) NoneOpened) c.accept.new.self) c.if-not-accept.false c.accept.ensures);
     }
@@ -87,10 +89,11 @@ loop-alloc-preserved g c =
       rooms = record { waiting = rooms.waiting; served = rooms.served; places = rooms.places; whole_waiting = rooms.whole_waiting; whole_served = rooms.whole_served };
       first = c.loop-alloc.invariant.first;
       time = c.loop-alloc.invariant.time;
+      share = c.loop-alloc.invariant.share;
       moves = moves_events g.C.Connections.does c.args.connections.now c.loop-alloc.connections c.accept.new.self c.close.new.self (Opened old.opened) (Closed old.opened departures.Memory)
           (LeadsInTurn rules IsHearing (Unheard now) NoPeer (Unheard now) NoPeer start old) (LeadsInTurn rules IsHearing (Unheard now) NoPeer (Unheard now) NoPeer start new)
           (λ first so. leads_in_turn rules IsHearing (Unheard now) NoPeer (Unheard now) NoPeer (Unheard now) NoPeer start old new first _ so
-          (leads_failing rules now old new (sym c.loop-alloc.invariant.time) seats (c.may_accept.ensures.more c.loop-alloc-test.true) refl refl refl refl, calm_failed old.opened, (tt, (tt, tt))))
+          (leads_failing rules now old new (sym c.loop-alloc.invariant.time) seats (c.may_accept.ensures.more c.loop-alloc-test.true) refl refl refl refl refl, calm_failed old.opened, (tt, (tt, tt))))
           c.loop-alloc.invariant.moves
           (subst (λ (b : Bool). g.C.Connections.does c.loop-alloc.connections (cond b (Opened old.opened) NoneOpened) c.accept.new.self) c.if-not-accept.false c.accept.ensures) c.close.ensures;
     }

@@ -9,6 +9,7 @@ invariant-loop-alloc g l = record {
   rooms : HasRooms l.rules.seats l.self;
   first : l.self.served.items ≡ [];
   time : l.self.time ≡ l.fn.self.time;
+  share : l.self.share ≡ l.fn.self.share;
   moves : Moves g.C.Connections.does l.fn.connections l.connections (LeadsInTurn l.rules IsHearing (Unheard l.fn.self.time) NoPeer (Unheard l.fn.self.time) NoPeer l.fn.self l.self);
 }
 

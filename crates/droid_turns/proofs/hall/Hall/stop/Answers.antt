@@ -11,5 +11,5 @@ returns g c =
     let new = record old { waiting = c.close_all.new.peers } in
     record {
       moves = λ rules. moves_as g.C.Connections.does c.args.connections.now c.close_all.new.connections (ClosesSome departures.Stopped old.waiting.items new.waiting.items) (Stops rules old new)
-          (λ steps closes. stops_all rules old new steps c.requires.first c.close_all.ensures.none refl closes) c.close_all.ensures.moves;
+          (λ steps closes. stops_all rules old new steps c.requires.first c.close_all.ensures.none refl refl closes) c.close_all.ensures.moves;
     }

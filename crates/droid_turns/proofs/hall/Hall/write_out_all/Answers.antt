@@ -19,7 +19,8 @@ loop-peer-init g c =
       rooms = c.requires.rooms;
       time = refl;
       opened = refl;
-      moves = λ rules same. moves_none g.C.Connections.does c.args.connections.now (LeadsInTurn rules IsWriting (Served rules.idle hall.time) (Heard hall.time) (Served rules.idle hall.time) (Heard hall.time) hall hall) (leads_none rules (Served rules.idle hall.time) (Heard hall.time) hall, tt, tt);
+      share = refl;
+      moves = λ rules same. moves_none g.C.Connections.does c.args.connections.now (LeadsInTurn rules IsWriting (Served hall.share rules.idle hall.time) (Heard hall.share hall.time) (Served hall.share rules.idle hall.time) (Heard hall.share hall.time) hall hall) (leads_none rules (Served hall.share rules.idle hall.time) (Heard hall.share hall.time) hall, tt, tt);
     }
 
 pub write_out-requires : goal.write_out-requires
@@ -38,6 +39,7 @@ pub loop-peer-preserved-in-None : goal.loop-peer-preserved-in-None
 loop-peer-preserved-in-None g c =
     let start = c.args.self.now in
     let now = start.time in
+    let share = start.share in
     let old = c.loop-peer.self in
     let peer = c.in-Some.peer in
     let it = c.write_out.new.self in
@@ -55,13 +57,14 @@ loop-peer-preserved-in-None g c =
       };
       time = c.loop-peer.invariant.time;
       opened = c.loop-peer.invariant.opened;
+      share = c.loop-peer.invariant.share;
       moves = λ rules same. moves_both g.C.Connections.does c.args.connections.now c.loop-peer.connections c.write_out.new.connections
-          (LeadsInTurn rules IsWriting (Served rules.idle now) (Heard now) (Served rules.idle now) (Heard now) start old) (λ (steps : List Step). Stays c.args.idle old.time peer it steps × IsQuiet peer.id steps)
-          (LeadsInTurn rules IsWriting (Served rules.idle now) (Heard now) (Served rules.idle now) (Heard now) start new)
-          (λ first later so wrote. leads_in_turn rules IsWriting (Served rules.idle now) (Heard now) (Served rules.idle now) (Heard now) (Served rules.idle now) (Heard now) start old new first later so (
-            leads_writing rules now old new peer it rest later (sym c.loop-peer.invariant.time) c.in-Some.ensures.items refl c.push_reserved.ensures.items refl refl
-                (record { id = c.write_out.ensures.id; drained = c.write_out.ensures.drained; leaving = c.write_out.ensures.leaving; room = c.write_out.ensures.room; held = c.write_out.ensures.held; frames = c.write_out.ensures.frames })
-                (subst (λ (n : ℕ). Stays n old.time peer it later) (sym same) wrote.0) wrote.1,
+          (LeadsInTurn rules IsWriting (Served share rules.idle now) (Heard share now) (Served share rules.idle now) (Heard share now) start old) (λ (steps : List Step). Stays c.args.idle old.time peer it steps × IsQuiet peer.id steps)
+          (LeadsInTurn rules IsWriting (Served share rules.idle now) (Heard share now) (Served share rules.idle now) (Heard share now) start new)
+          (λ first later so wrote. leads_in_turn rules IsWriting (Served share rules.idle now) (Heard share now) (Served share rules.idle now) (Heard share now) (Served share rules.idle now) (Heard share now) start old new first later so (
+            leads_writing rules share now old new peer it rest later (sym c.loop-peer.invariant.time) (sym c.loop-peer.invariant.share) c.in-Some.ensures.items refl c.push_reserved.ensures.items refl refl refl
+                (record { id = c.write_out.ensures.id; drained = c.write_out.ensures.drained; leaving = c.write_out.ensures.leaving; read = c.write_out.ensures.read; held = c.write_out.ensures.held; frames = c.write_out.ensures.frames })
+                (subst (λ (n : ℕ). Stays rules.idle n peer it later) c.loop-peer.invariant.time (subst (λ (n : ℕ). Stays n old.time peer it later) (sym same) wrote.0)) wrote.1,
             calm peer.id later wrote.0.goes.own,
             writing peer.id later wrote.0.goes.own wrote.1.nothing_handled,
           ))
@@ -73,6 +76,7 @@ pub loop-peer-preserved : goal.loop-peer-preserved
 loop-peer-preserved g c =
     let start = c.args.self.now in
     let now = start.time in
+    let share = start.share in
     let old = c.loop-peer.self in
     let peer = c.in-Some.peer in
     let it = c.write_out.new.self in
@@ -91,18 +95,21 @@ loop-peer-preserved g c =
       };
       time = c.loop-peer.invariant.time;
       opened = c.loop-peer.invariant.opened;
-      moves = λ rules same. closing_moves g.C.Connections.does rules now start old new peer it why rest c.args.connections.now c.loop-peer.connections c.write_out.new.connections c.close.new.self (c.loop-peer.invariant.moves rules same)
-          (subst (λ (n : ℕ). Moves g.C.Connections.does c.loop-peer.connections c.write_out.new.connections (λ (steps : List Step). Departs n old.time peer it why steps × IsQuiet peer.id steps)) (sym same) c.in-Some-write_out.ensures.writes)
-          (subst (λ (i : ℕ). g.C.Connections.does c.write_out.new.connections (Closed i why) c.close.new.self) c.write_out.ensures.id c.close.ensures) (sym c.loop-peer.invariant.time) c.in-Some.ensures.items refl refl refl refl;
+      share = c.loop-peer.invariant.share;
+      moves = λ rules same. closing_moves g.C.Connections.does rules share now start old new peer it why rest c.args.connections.now c.loop-peer.connections c.write_out.new.connections c.close.new.self (c.loop-peer.invariant.moves rules same)
+          (subst (λ (t : ℕ). Moves g.C.Connections.does c.loop-peer.connections c.write_out.new.connections (λ (steps : List Step). Departs rules.idle t peer it why steps × IsQuiet peer.id steps)) c.loop-peer.invariant.time
+          (subst (λ (n : ℕ). Moves g.C.Connections.does c.loop-peer.connections c.write_out.new.connections (λ (steps : List Step). Departs n old.time peer it why steps × IsQuiet peer.id steps)) (sym same) c.in-Some-write_out.ensures.writes))
+          (subst (λ (i : ℕ). g.C.Connections.does c.write_out.new.connections (Closed i why) c.close.new.self) c.write_out.ensures.id c.close.ensures) (sym c.loop-peer.invariant.time) (sym c.loop-peer.invariant.share) c.in-Some.ensures.items refl refl refl refl refl;
     }
 
 pub returns-clause-moves : goal.returns-clause-moves
 returns-clause-moves g c = λ rules same.
     let start = c.args.self.now in
     let now = start.time in
+    let share = start.share in
     let old = c.loop-peer.self in
     let new = record old { served = c.pop.new.self } in
     let was = nil_from_length old.served.items (omega (arith, c.in_default.ensures.cases.0, old.served.ok.0)) in
     let is = nil_from_length c.pop.new.self.items (omega (arith, c.in_default.ensures.cases.1, c.pop.new.self.ok.0)) in
-    moves_as g.C.Connections.does c.args.connections.now c.loop-peer.connections (LeadsInTurn rules IsWriting (Served rules.idle now) (Heard now) (Served rules.idle now) (Heard now) start old) (LeadsInTurn rules IsWriting (Served rules.idle now) (Heard now) (Served rules.idle now) NoPeer start new)
-    (λ steps leads. (emptied_served rules (Served rules.idle now) (Heard now) (Served rules.idle now) (Heard now) start old new steps was is refl refl refl leads.0, leads.1, leads.2)) (c.loop-peer.invariant.moves rules same)
+    moves_as g.C.Connections.does c.args.connections.now c.loop-peer.connections (LeadsInTurn rules IsWriting (Served share rules.idle now) (Heard share now) (Served share rules.idle now) (Heard share now) start old) (LeadsInTurn rules IsWriting (Served share rules.idle now) (Heard share now) (Served share rules.idle now) NoPeer start new)
+    (λ steps leads. (emptied_served rules (Served share rules.idle now) (Heard share now) (Served share rules.idle now) (Heard share now) start old new steps was is refl refl refl refl leads.0, leads.1, leads.2)) (c.loop-peer.invariant.moves rules same)

@@ -1,4 +1,4 @@
-use Rattle.std.proofs.Common.{◌++◌, [], None, Some, sym, ◌∙◌, refl}
+use Rattle.std.proofs.Common.{◌++◌, [], None, Some, sym, ◌∙◌, arith, refl}
 use Rattle.std.proofs.lemmas.Bool.{false≢true}
 use Rattle.droid_turns.specs.Events.{Read}
 use Rattle.droid_turns.specs.Peers.{ByBytes, ByLeaving}
@@ -15,6 +15,7 @@ loop-frame-init g c = record {
   awake = c.requires.awake;
   queue = refl;
   frames = refl;
+  within = λ few. few;
   moves = moves_none g.C.Connections.does c.args.connections.now (ReadsSo c.args.now c.args.self.now c.args.self.now) (reads_so_none c.args.now c.args.self.now);
 }
 
@@ -26,7 +27,7 @@ returns-in-Some-clause-moves g c =
     let new = c.take.new.self in
     moves_as g.C.Connections.does c.args.connections.now c.loop-frame.connections (ReadsSo c.args.now start old) _
     (λ steps so.
-    let took = takes_so c.args.now start old new (Some c.in-Some.frame) steps c.loop-frame.invariant.id c.take.ensures.room so (c.in-Some.ensures.takes c.args.now) in
+    let took = takes_so c.args.now start old new (Some c.in-Some.frame) steps c.loop-frame.invariant.id c.take.ensures.read so (c.in-Some.ensures.takes c.args.now) in
     (took.0, took.1, λ is. absurd (false≢true (sym (c.take.ensures.drained ∙ c.loop-frame.invariant.awake) ∙ is)))) c.loop-frame.invariant.moves
 
 -- it leaves
@@ -40,21 +41,21 @@ returns-then-is_some-clause-moves g c =
     let new = c.take.new.self in
     moves_as g.C.Connections.does c.args.connections.now c.loop-frame.connections (ReadsSo c.args.now start old) _
     (λ steps so.
-    let took = takes_so c.args.now start old new None steps c.loop-frame.invariant.id c.take.ensures.room so (c.in-None.ensures.takes c.args.now) in
+    let took = takes_so c.args.now start old new None steps c.loop-frame.invariant.id c.take.ensures.read so (c.in-None.ensures.takes c.args.now) in
     (took.0, took.1, λ is. absurd (false≢true (sym (c.take.ensures.drained ∙ c.loop-frame.invariant.awake) ∙ is)))) c.loop-frame.invariant.moves
 
 -- enough was read in this turn
-pub returns-then-self-eq0-clause-rests : goal.returns-then-self-eq0-clause-rests
-returns-then-self-eq0-clause-rests g c = λ count. ByBytes c.if-self-eq0.true
+pub returns-then-self-share-clause-rests : goal.returns-then-self-share-clause-rests
+returns-then-self-share-clause-rests g c = λ count. ByBytes (omega (arith, c.if-self-share.true))
 
-pub returns-then-self-eq0-clause-moves : goal.returns-then-self-eq0-clause-moves
-returns-then-self-eq0-clause-moves g c =
+pub returns-then-self-share-clause-moves : goal.returns-then-self-share-clause-moves
+returns-then-self-share-clause-moves g c =
     let start = c.args.self.now in
     let old = c.loop-frame.self in
     let new = c.take.new.self in
     moves_as g.C.Connections.does c.args.connections.now c.loop-frame.connections (ReadsSo c.args.now start old) _
     (λ steps so.
-    let took = takes_so c.args.now start old new None steps c.loop-frame.invariant.id c.take.ensures.room so (c.in-None.ensures.takes c.args.now) in
+    let took = takes_so c.args.now start old new None steps c.loop-frame.invariant.id c.take.ensures.read so (c.in-None.ensures.takes c.args.now) in
     (took.0, took.1, λ is. absurd (false≢true (sym (c.take.ensures.drained ∙ c.loop-frame.invariant.awake) ∙ is)))) c.loop-frame.invariant.moves
 
 -- nothing more came
@@ -66,14 +67,14 @@ returns-then-not-receive-clause-moves g c =
     let new = c.receive.new.self in
     moves_both g.C.Connections.does c.args.connections.now c.loop-frame.connections c.receive.new.connections (ReadsSo c.args.now start old) _ _
     (λ first later so more.
-    let took = takes_so c.args.now start old middle None first c.loop-frame.invariant.id c.take.ensures.room so (c.in-None.ensures.takes c.args.now) in
+    let took = takes_so c.args.now start old middle None first c.loop-frame.invariant.id c.take.ensures.read so (c.in-None.ensures.takes c.args.now) in
     let here : ReadsSo c.args.now start middle first = record { goes = took.0; turns = took.1 } in
     let all : ReadsSo c.args.now start new (first ++ later) = reads_so_more c.args.now start middle new first later (c.take.ensures.id ∙ c.loop-frame.invariant.id) here more.0 more.1 in
     (all.goes, all.turns, λ is. let dry = more.2 is in record { nothing = happened_last (Read new.id []) first later dry.nothing; no_frame = dry.no_frame }))
     c.loop-frame.invariant.moves c.receive.ensures.moves
 
 pub returns-then-not-receive-clause-rests : goal.returns-then-not-receive-clause-rests
-returns-then-not-receive-clause-rests g c = c.receive.ensures.rests c.if-not-receive.true
+returns-then-not-receive-clause-rests g c = λ count. c.receive.ensures.rests c.if-not-receive.true c.args.share count
 
 pub loop-frame-preserved : goal.loop-frame-preserved
 loop-frame-preserved g c =
@@ -89,9 +90,10 @@ loop-frame-preserved g c =
       awake = on.1;
       queue = c.receive.ensures.queue ∙ (c.take.ensures.queue ∙ c.loop-frame.invariant.queue);
       frames = c.receive.ensures.frames ∙ (c.take.ensures.frames ∙ c.loop-frame.invariant.frames);
+      within = λ few. omega (arith, c.receive.ensures.bound, c.if-self-share.false);
       moves = moves_both g.C.Connections.does c.args.connections.now c.loop-frame.connections c.receive.new.connections (ReadsSo c.args.now start old) _ (ReadsSo c.args.now start new)
           (λ first later so more.
-          let took = takes_so c.args.now start old middle None first c.loop-frame.invariant.id c.take.ensures.room so (c.in-None.ensures.takes c.args.now) in
+          let took = takes_so c.args.now start old middle None first c.loop-frame.invariant.id c.take.ensures.read so (c.in-None.ensures.takes c.args.now) in
           let here : ReadsSo c.args.now start middle first = record { goes = took.0; turns = took.1 } in
           reads_so_more c.args.now start middle new first later (c.take.ensures.id ∙ c.loop-frame.invariant.id) here more.0 more.1)
           c.loop-frame.invariant.moves c.receive.ensures.moves;

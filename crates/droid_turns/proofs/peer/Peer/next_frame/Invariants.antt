@@ -1,4 +1,4 @@
-use Rattle.std.specs.Prelude.{◌≡◌, false, None}
+use Rattle.std.specs.Prelude.{◌≡◌, ◌+◌, ◌-◌, ◌*◌, ◌<◌, false, None}
 use Rattle.droid_turns.specs.Peers.{IsWhole}
 use Rattle.droid_turns.specs.Steps.{Moves}
 use Rattle.droid_turns.proofs.ReadSteps.{ReadsSo}
@@ -12,8 +12,9 @@ invariant-loop-frame g l = record {
   awake : l.self.drained ≡ false;
   queue : l.self.queue ≡ l.fn.self.queue;
   frames : l.self.frames ≡ l.fn.self.frames;
+  within : l.fn.self.read < l.share * 65536 + 65536 → l.self.read < l.share * 65536 + 65536;
   moves : Moves g.C.Connections.does l.fn.connections l.connections (ReadsSo l.now l.fn.self l.self);
 }
 
 abbrev pub decreases-loop-frame : goal.decreases-loop-frame
-decreases-loop-frame g l = l.self.room
+decreases-loop-frame g l = l.share * 65536 - l.self.read

@@ -1,4 +1,4 @@
-use Rattle.std.proofs.Common.{◌≡◌, ◌-◌, ◌≤◌, ◌∷◌, [], ℕ, Some, length, take, sym, ap, ◌∙◌, refl, subst, arith}
+use Rattle.std.proofs.Common.{◌≡◌, ◌+◌, ◌-◌, ◌≤◌, ◌∷◌, [], ℕ, Some, length, take, sym, ap, ◌∙◌, refl, subst, arith}
 use Rattle.std.proofs.lemmas.Bool.{false≢true}
 use Rattle.std.proofs.lemmas.List.{length-take}
 use Rattle.droid_frame.specs.declared.streams.fault.FrameFault.TheVariants as faults
@@ -26,7 +26,7 @@ returns-then-count-eq0-clause-moves g c =
     (nothing_read old buffer c.args.now c.requires.whole c.requires.none)
 
 pub returns-then-count-eq0-clause-rests : goal.returns-then-count-eq0-clause-rests
-returns-then-count-eq0-clause-rests g c = λ is count. ByDrought refl
+returns-then-count-eq0-clause-rests g c = λ is share count. ByDrought refl
 
 -- some bytes came
 pub returns-else-count-eq0-clause-whole : goal.returns-else-count-eq0-clause-whole
@@ -46,19 +46,18 @@ returns-else-count-eq0-clause-moves g c =
     let count = c.in-Bytes.count in
     let bytes = take count buffer.items in
     let size : length bytes ≡ count = omega (arith, length-take count buffer.items, c.in-Bytes.ensures.bound) in
-    let new = record old { buffer = buffer; start = 0; end = count; active = c.args.now; room = c.saturating_sub-self.result } in
+    let new = record old { buffer = buffer; start = 0; end = count; active = c.args.now; read = old.read + count } in
     let whole = c.requires.whole in
-    let small : length bytes ≤ 65536 = omega (arith, size, c.in-Bytes.ensures.bound, c.read_into.ensures.size, whole.sized) in
-    let left : old.room - length bytes ≡ c.saturating_sub-self.result = omega (arith, c.saturating_sub-self.ensures, size) in
+    let all : old.read + length bytes ≡ old.read + count = omega (arith, size) in
     let unread_is : take (count - 0) buffer.items ≡ bytes = let same : count - 0 ≡ count = omega arith in ap (λ (n : ℕ). take n buffer.items) same in
     moves_one g.C.Connections.does c.args.connections.now c.read_into.new.connections (Read old.id bytes) _ c.in-Bytes.ensures.came (
       reads_some old buffer c.args.now count whole c.requires.stays c.requires.none (omega (arith, c.if-count-eq0.false)) c.in-Bytes.ensures.bound c.read_into.ensures.size new refl unread_is refl c.requires.stays refl,
-      subst (λ (r : ℕ). Turns old.id old.room r 0 (Happens (Read old.id bytes) ∷ [])) left (turns_read old.id old.room bytes c.requires.room small),
+      subst (λ (r : ℕ). Turns old.id old.read r 0 (Happens (Read old.id bytes) ∷ [])) all (turns_read old.id old.read bytes),
       λ is. absurd (false≢true (sym c.requires.awake ∙ is)),
     )
 
 pub returns-else-count-eq0-clause-goes_on : goal.returns-else-count-eq0-clause-goes_on
-returns-else-count-eq0-clause-goes_on g c = λ is. (c.requires.stays, c.requires.awake, omega (arith, c.saturating_sub-self.ensures, c.requires.room, c.if-count-eq0.false))
+returns-else-count-eq0-clause-goes_on g c = λ is. (c.requires.stays, c.requires.awake, omega (arith, c.if-count-eq0.false), omega (arith, c.if-count-eq0.false))
 
 pub returns-else-count-eq0-clause-rests : goal.returns-else-count-eq0-clause-rests
 returns-else-count-eq0-clause-rests g c = λ is. absurd (false≢true (sym is))
@@ -75,7 +74,7 @@ returns-in-Nothing-clause-moves g c =
     (nothing_read c.args.self.now c.read_into.new.buffer c.args.now c.requires.whole c.requires.none)
 
 pub returns-in-Nothing-clause-rests : goal.returns-in-Nothing-clause-rests
-returns-in-Nothing-clause-rests g c = λ is count. ByDrought refl
+returns-in-Nothing-clause-rests g c = λ is share count. ByDrought refl
 
 -- the input ended
 pub returns-in-End-clause-whole : goal.returns-in-End-clause-whole
@@ -90,12 +89,12 @@ returns-in-End-clause-moves g c =
     let new = record old { buffer = c.read_into.new.buffer; leaving = Some why } in
     moves_one g.C.Connections.does c.args.connections.now c.read_into.new.connections (Ended old.id) _ c.in-End.ensures.came (
       reads_end old new c.args.now why c.requires.stays c.requires.none c.end_of.ensures refl refl refl,
-      turns_still old.id old.room (Happens (Ended old.id)) refl refl tt,
+      turns_still old.id old.read (Happens (Ended old.id)) refl refl tt,
       λ is. absurd (false≢true (sym c.requires.awake ∙ is)),
     )
 
 pub returns-in-End-clause-rests : goal.returns-in-End-clause-rests
-returns-in-End-clause-rests g c = λ is count. ByLeaving refl
+returns-in-End-clause-rests g c = λ is share count. ByLeaving refl
 
 -- it is broken
 pub returns-in-Broken-clause-whole : goal.returns-in-Broken-clause-whole
@@ -109,9 +108,13 @@ returns-in-Broken-clause-moves g c =
     let new = record old { buffer = c.read_into.new.buffer; leaving = Some (departures.Frame faults.Read) } in
     moves_one g.C.Connections.does c.args.connections.now c.read_into.new.connections (Unread old.id) _ c.in-Broken.ensures.came (
       reads_broken old new c.args.now c.requires.stays c.requires.none refl refl refl,
-      turns_still old.id old.room (Happens (Unread old.id)) refl refl tt,
+      turns_still old.id old.read (Happens (Unread old.id)) refl refl tt,
       λ is. absurd (false≢true (sym c.requires.awake ∙ is)),
     )
 
 pub returns-in-Broken-clause-rests : goal.returns-in-Broken-clause-rests
-returns-in-Broken-clause-rests g c = λ is count. ByLeaving refl
+returns-in-Broken-clause-rests g c = λ is share count. ByLeaving refl
+
+-- no more than the buffer has
+pub returns-else-count-eq0-clause-bound : goal.returns-else-count-eq0-clause-bound
+returns-else-count-eq0-clause-bound g c = omega (arith, c.in-Bytes.ensures.bound, c.read_into.ensures.size, c.requires.whole.sized)

@@ -10,7 +10,7 @@ invariant-loop-connections g l = record {
   id : l.self.id ≡ l.fn.self.id;
   drained : l.self.drained ≡ l.fn.self.drained;
   leaving : l.self.leaving ≡ l.fn.self.leaving;
-  room : l.self.room ≡ l.fn.self.room;
+  read : l.self.read ≡ l.fn.self.read;
   frames : l.self.frames ≡ l.fn.self.frames;
   held : l.self.feed.bytes ++ unread l.self ≡ l.fn.self.feed.bytes ++ unread l.fn.self;
   moves : Moves g.C.Connections.does l.fn.connections l.connections (SendsSo l.now l.fn.self l.self);
