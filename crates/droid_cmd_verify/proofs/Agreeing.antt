@@ -5,7 +5,7 @@ use Rattle.std.specs.Prelude.{IsPermutation}
 use Rattle.std.proofs.lemmas.List.Sorted.{Contains-permutation, IsPermutation-sym}
 use Rattle.droid_lists.specs.declared.format_lists.format_change.FormatChange.{FormatChange}
 use Rattle.droid_lists.specs.Listings.{IsInventory}
-use Rattle.droid_fixity.specs.declared.item.Item.{Item}
+use Rattle.droid_frame.specs.declared.item.Item.{Item}
 use Rattle.droid_terminal.specs.declared.skipped.recorder.Recorder.{Recorder}
 use Rattle.droid_terminal.specs.declared.skipped.skipped_entry.SkippedEntry.{SkippedEntry}
 use Rattle.droid_cmd_verify.specs.Agreements.{Agree, EachFoundIsSame, EachListedIsSame}

@@ -9,8 +9,8 @@ use Rattle.droid_export.specs.Rows.{Row, header}
 use Rattle.droid_export.specs.Text.{chosen_rows, row_text, text}
 use Rattle.droid_fixity.specs.Reports.{IsReport}
 use Rattle.droid_fixity.specs.declared.difference.Difference.{Difference}
-use Rattle.droid_fixity.specs.declared.item.Item.{Item}
-use Rattle.droid_lists.specs.Profiles.{profile_of}
+use Rattle.droid_frame.specs.declared.item.Item.{Item}
+use Rattle.droid_export.specs.Profiles.{profile_of}
 use Rattle.droid_lists.specs.Listings.{IsInventory, Says, of_profile}
 use Rattle.droid_lists.specs.Exports.{Lists, item_of_record}
 use Rattle.droid_lists.specs.Exports as exports

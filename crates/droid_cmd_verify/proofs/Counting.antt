@@ -6,7 +6,7 @@ use Rattle.std.specs.Prelude.{min}
 use Rattle.std.proofs.lemmas.List.{take_more}
 use Rattle.std.proofs.lemmas.List.Elements.{filter_map-append}
 use Rattle.std.proofs.lemmas.List.Sums.{fold-append}
-use Rattle.droid_fixity.specs.declared.item.Item.{Item}
+use Rattle.droid_frame.specs.declared.item.Item.{Item}
 use Rattle.droid_cmd_verify.specs.Summaries.{bytes_from, files_from, length_at, one_more}
 
 last_given : {Y : Type 0} (y : Option Y) → cons_option y [] ≡ option_to_list y

@@ -17,10 +17,10 @@ use Rattle.droid_frame.specs.declared.hash_kind.HashKind.{HashKind}
 use Rattle.droid_frame.specs.declared.node_kind.NodeKind.{NodeKind}
 use Rattle.droid_frame.specs.declared.node_kind.NodeKind.TheVariants.{File, Folder}
 use Rattle.droid_frame.specs.declared.record.Record.{Record}
-use Rattle.droid_lists.specs.FormatRows.{HasRows, file_rows, rows_of}
+use Rattle.droid_export.specs.FormatRows.{HasRows, file_rows, rows_of}
 use Rattle.droid_lists.specs.Formats.{change_if, changes_in, differ, file_of, formats_at, has_all, is_among, joined, or_none}
 use Rattle.droid_lists.specs.declared.format_lists.format_change.FormatChange.{FormatChange}
-use Rattle.droid_lists.specs.declared.csv_items.format_row.FormatRow.{FormatRow}
+use Rattle.droid_export.specs.declared.reading.format_row.FormatRow.{FormatRow}
 use Rattle.droid_export.specs.declared.header.Header.{Header}
 use Rattle.droid_export.proofs.WholeHeaders.{header_is}
 use Rattle.droid_export.specs.Filters.{meets}

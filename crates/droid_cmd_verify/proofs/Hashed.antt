@@ -11,9 +11,9 @@ use Rattle.droid_frame.specs.declared.node_kind.NodeKind.{NodeKind}
 use Rattle.droid_frame.specs.declared.node_kind.NodeKind.TheVariants.{File, Folder}
 use Rattle.droid_frame.specs.declared.record.Record.{Record}
 use Rattle.droid_fixity.specs.FilePairs.{IsFilePair}
-use Rattle.droid_fixity.specs.Items.{both_hashed}
+use Rattle.droid_frame.specs.Items.{both_hashed}
 use Rattle.droid_frame.specs.Filters.{is_file}
-use Rattle.droid_fixity.specs.declared.item.Item.{Item}
+use Rattle.droid_frame.specs.declared.item.Item.{Item}
 use Rattle.droid_fixity.specs.declared.pair.FilePair.{FilePair}
 use Rattle.droid_lists.specs.Exports.{HasKind, IsRecordOf, item_of_record, items_of}
 use Rattle.droid_lists.specs.Nodes.{hash_of}

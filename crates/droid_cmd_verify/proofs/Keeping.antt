@@ -3,7 +3,7 @@ use Rattle.std.proofs.Common.{◌≡◌, ◌∙◌, Bool, true, List, [], ◌∷
 use Rattle.std.specs.List.{flat_map}
 use Rattle.droid_frame.specs.declared.record.Record.{Record}
 use Rattle.droid_lists.specs.declared.format_lists.file_formats.FileFormats.{FileFormats}
-use Rattle.droid_fixity.specs.declared.item.Item.{Item}
+use Rattle.droid_frame.specs.declared.item.Item.{Item}
 use Rattle.droid_tree.specs.Heard.{Heard}
 use Rattle.droid_tree.specs.Observation.{GoesOver}
 use Rattle.droid_terminal.specs.SkippedPaths.{Records}

@@ -4,7 +4,7 @@ use Rattle.std.specs.Prelude.{if◌then◌else◌}
 use Rattle.droid_lists.specs.ListForms.{form_of, names_files_alone}
 use Rattle.droid_lists.specs.Listings.{HasFormats, ListSays}
 use Rattle.droid_cmd_verify.specs.declared.measure.Measure.{Measure}
-use Rattle.droid_lists.specs.declared.csv_items.format_row.FormatRow.{FormatRow}
+use Rattle.droid_export.specs.declared.reading.format_row.FormatRow.{FormatRow}
 use Rattle.droid_lists.specs.declared.list_form.ListForm.{ListForm}
 use Rattle.droid_lists.specs.declared.list_form.ListForm.TheVariants.{Profile, Checksum}
 use Rattle.droid_lists.specs.declared.list_content.Listed.{Listed}

@@ -13,7 +13,7 @@ use Rattle.std.proofs.lemmas.List.Sorted.{IsPermutation-refl}
 use Rattle.std.proofs.lemmas.List.Sums.{sum_by-cons}
 use Rattle.std.proofs.lemmas.Slice.Eq.{bytes_eq-Decides}
 use Rattle.droid_fixity.specs.Inventories.{AreInOrder, IsBefore, IsTwice}
-use Rattle.droid_fixity.specs.declared.item.Item.{Item}
+use Rattle.droid_frame.specs.declared.item.Item.{Item}
 use Rattle.droid_lists.specs.Listings.{IsInventory}
 use Rattle.droid_terminal.specs.SkippedPaths.{ends_name, has_path, holds_front, some_below}
 use Rattle.droid_terminal.specs.declared.skipped.skipped_entry.SkippedEntry.{SkippedEntry}

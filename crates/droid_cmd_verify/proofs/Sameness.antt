@@ -9,12 +9,12 @@ use Rattle.std.proofs.lemmas.Slice.Eq.{bytes_eq-Decides}
 use Rattle.droid_frame.specs.Hashes.{hash_bytes, hash_kind_number, hash_value_kind}
 use Rattle.droid_lists.specs.declared.format_lists.format_change.FormatChange.{FormatChange}
 use Rattle.droid_fixity.specs.FilePairs.{AreFilePairs, IsFilePair}
-use Rattle.droid_fixity.specs.Items.{bears, both_hashed, changes_between, is_any, other_hash, other_length, same_truth}
+use Rattle.droid_frame.specs.Items.{bears, both_hashed, changes_between, is_any, other_hash, other_length, same_truth}
 use Rattle.droid_frame.specs.Filters.{is_file}
 use Rattle.droid_fixity.specs.Reports.{HasMoved, IsReport, alone, changed, is_absent, missing, moved, new}
 use Rattle.droid_fixity.specs.declared.difference.Difference.{Difference}
 use Rattle.droid_fixity.specs.declared.difference.Difference.TheVariants.{Changed, Missing, New, Moved}
-use Rattle.droid_fixity.specs.declared.item.Item.{Item}
+use Rattle.droid_frame.specs.declared.item.Item.{Item}
 use Rattle.droid_fixity.specs.declared.pair.FilePair.{FilePair}
 use Rattle.droid_terminal.specs.declared.skipped.skipped_entry.SkippedEntry.{SkippedEntry}
 use Rattle.droid_cmd_verify.specs.Agreements.{AreSame, EachFoundIsSame, EachListedIsSame}

@@ -13,10 +13,10 @@ use Rattle.std.proofs.lemmas.Slice.Eq.{bytes_eq-Decides}
 use Rattle.droid_frame.specs.Hashes.{hash_bytes}
 use Rattle.droid_fixity.specs.FilePairs.{IsFilePair}
 use Rattle.droid_fixity.specs.Inventories.{AreInOrder, IsBefore}
-use Rattle.droid_fixity.specs.Items.{bears, both_hashed, changes_between, is_any, other_moment}
+use Rattle.droid_frame.specs.Items.{bears, both_hashed, changes_between, is_any, other_moment}
 use Rattle.droid_fixity.specs.Reports.{IsDifference, changed, is_absent, missing, moved, new, path_at, path_of, touched}
 use Rattle.droid_fixity.specs.declared.difference.Difference.{Difference}
-use Rattle.droid_fixity.specs.declared.item.Item.{Item}
+use Rattle.droid_frame.specs.declared.item.Item.{Item}
 use Rattle.droid_fixity.specs.declared.pair.FilePair.{FilePair}
 use Rattle.droid_cmd_verify.specs.Compared.{by_hashes, by_moments, differs, hashed_by, is_hashed, is_unchecked}
 use Rattle.droid_cmd_verify.specs.Findings.{IsSilentAt, is_file_at, is_reported}

@@ -1,6 +1,6 @@
 -- A tree that was walked, and then compared.
 use Rattle.std.proofs.Common.{◌≡◌, ◌∙◌, Bool, List, [], subst}
-use Rattle.droid_fixity.specs.declared.item.Item.{Item}
+use Rattle.droid_frame.specs.declared.item.Item.{Item}
 use Rattle.droid_pronom.specs.Registry.{Contents}
 use Rattle.droid_tree.specs.Heard.{Heard}
 use Rattle.droid_tree.specs.Observation.{Observation}

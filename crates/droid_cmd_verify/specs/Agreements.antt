@@ -3,9 +3,9 @@ use Rattle.std.specs.Prelude.{◌≡◌, ◌==◌, ℕ, true, not, List, Some, s
 use Rattle.std.specs.List.{AllByRecursion}
 use Rattle.droid_frame.specs.Hashes.{hash_bytes, hash_kind_number, hash_value_kind}
 use Rattle.droid_frame.specs.declared.record.Record.{Record}
-use Rattle.droid_fixity.specs.Items.{both_hashed}
+use Rattle.droid_frame.specs.Items.{both_hashed}
 use Rattle.droid_frame.specs.Filters.{is_file}
-use Rattle.droid_fixity.specs.declared.item.Item.{Item}
+use Rattle.droid_frame.specs.declared.item.Item.{Item}
 
 -- two items of one path are the same: both are folders, or both are files of one hash, which both have
 pub record AreSame (a b : Item) : Type 0 where

@@ -5,7 +5,7 @@ use Rattle.droid_lists.specs.declared.format_lists.file_formats.FileFormats.{Fil
 use Rattle.droid_fixity.specs.FilePairs.{AreFilePairs}
 use Rattle.droid_fixity.specs.Inventories.{IsTwice}
 use Rattle.droid_fixity.specs.Reports.{IsReport}
-use Rattle.droid_fixity.specs.declared.item.Item.{Item}
+use Rattle.droid_frame.specs.declared.item.Item.{Item}
 use Rattle.droid_lists.specs.Listings.{IsInventory}
 use Rattle.droid_frame.specs.declared.hash_kind.HashKind.{HashKind}
 use Rattle.droid_frame.specs.declared.record.Record.{Record}

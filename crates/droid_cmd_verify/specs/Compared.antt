@@ -1,10 +1,10 @@
 -- Which files of both sides were compared, and how (this project's own).
 use Rattle.std.specs.Prelude.{ℕ, Bool, true, false, not, ◌&&◌, List, ◌++◌, Option, Some, None, filter_map, slice_get}
 use Rattle.std.specs.Prelude.{if◌then◌else◌}
-use Rattle.droid_fixity.specs.Items.{both_hashed, both_sized, changes_between, is_any}
+use Rattle.droid_frame.specs.Items.{both_hashed, both_sized, changes_between, is_any}
 use Rattle.droid_fixity.specs.declared.difference.Difference.{Difference}
 use Rattle.droid_fixity.specs.declared.difference.Difference.TheVariants.{Changed, Missing, New, Moved, Touched}
-use Rattle.droid_fixity.specs.declared.item.Item.{Item}
+use Rattle.droid_frame.specs.declared.item.Item.{Item}
 use Rattle.droid_fixity.specs.declared.pair.FilePair.{FilePair}
 use Rattle.droid_cmd_verify.specs.declared.measure.Measure.{Measure}
 use Rattle.droid_cmd_verify.specs.declared.measure.Measure.TheVariants.{Hashes, Sizes, Moments}

@@ -8,7 +8,7 @@ use Rattle.droid_frame.specs.Filters.{is_file}
 use Rattle.droid_fixity.specs.Reports.{path_at, path_of}
 use Rattle.droid_fixity.specs.declared.difference.Difference.{Difference}
 use Rattle.droid_fixity.specs.declared.difference.Difference.TheVariants.{Changed, Missing, New, Moved, Touched}
-use Rattle.droid_fixity.specs.declared.item.Item.{Item}
+use Rattle.droid_frame.specs.declared.item.Item.{Item}
 use Rattle.droid_fixity.specs.declared.pair.FilePair.{FilePair}
 use Rattle.droid_terminal.specs.declared.skipped.skipped_entry.SkippedEntry.{SkippedEntry}
 use Rattle.droid_cmd_verify.specs.Compared.{by_moments, is_unchecked}

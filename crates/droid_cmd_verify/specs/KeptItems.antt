@@ -4,7 +4,7 @@ use Rattle.droid_frame.specs.Filters.{is_file}
 use Rattle.droid_frame.specs.declared.record.Record.{Record}
 use Rattle.droid_lists.specs.Formats.{file_of}
 use Rattle.droid_lists.specs.declared.format_lists.file_formats.FileFormats.{FileFormats}
-use Rattle.droid_fixity.specs.declared.item.Item.{Item}
+use Rattle.droid_frame.specs.declared.item.Item.{Item}
 use Rattle.droid_lists.specs.Exports.{item_of_record}
 use Rattle.droid_profile.specs.declared.recipient.RecipientFault.{RecipientFault}
 use Rattle.droid_profile.specs.declared.recipient.RecipientFault.TheVariants as recipient_faults

@@ -1,7 +1,7 @@
 -- A tree that is listed, and whose files' sizes and moments are compared with a list (this project's own).
 use Rattle.std.specs.Prelude.{◌≡◌, Bool, List, [], ◌++◌}
 use Rattle.std.specs.List.{flat_map}
-use Rattle.droid_fixity.specs.declared.item.Item.{Item}
+use Rattle.droid_frame.specs.declared.item.Item.{Item}
 use Rattle.droid_pronom.specs.Registry.{Contents}
 use Rattle.droid_tree.specs.Heard.{Heard}
 use Rattle.droid_tree.specs.Observation.{Observation}

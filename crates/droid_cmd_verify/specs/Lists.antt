@@ -4,13 +4,13 @@ use Rattle.std.specs.Prelude.{Vec, ⊤, codes, if◌then◌else◌}
 use Rattle.std.specs.declared.alloc.Global.{Global}
 use Rattle.droid_frame.specs.declared.hash_kind.HashKind.{HashKind}
 use Rattle.droid_frame.specs.declared.hash_kind.HashKind.TheVariants as kinds
-use Rattle.droid_lists.specs.FormatRows.{HasRows}
+use Rattle.droid_export.specs.FormatRows.{HasRows}
 use Rattle.droid_arguments.specs.declared.verify.VerifyOptions.{VerifyOptions}
 use Rattle.droid_lists.specs.ListForms.{form_of, names_files_alone}
 use Rattle.droid_lists.specs.Listings.{ListSays}
 use Rattle.droid_cmd_verify.specs.declared.measure.Measure.{Measure}
 use Rattle.droid_cmd_verify.specs.declared.measure.Measure.TheVariants.{Hashes, Sizes, Moments}
-use Rattle.droid_lists.specs.declared.csv_items.format_row.FormatRow.{FormatRow}
+use Rattle.droid_export.specs.declared.reading.format_row.FormatRow.{FormatRow}
 use Rattle.droid_lists.specs.declared.list_form.ListForm.{ListForm}
 use Rattle.droid_lists.specs.declared.list_form.ListForm.TheVariants.{Profile, Checksum}
 use Rattle.droid_lists.specs.declared.list_content.Listed.{Listed}

@@ -10,7 +10,7 @@ use Rattle.droid_tree.specs.Paths.{below}
 use Rattle.droid_tree.specs.declared.folder_entry.EntryKind.{EntryKind}
 use Rattle.droid_tree.specs.declared.folder_entry.EntryKind.TheVariants as kinds
 use Rattle.droid_tree.specs.declared.folder_entry.FolderEntry.{FolderEntry}
-use Rattle.droid_fixity.specs.declared.item.Item.{Item}
+use Rattle.droid_frame.specs.declared.item.Item.{Item}
 use Rattle.droid_lists.specs.Nodes.{item_of}
 use Rattle.droid_core_spec.specs.Conditions.{is_moment}
 use Rattle.droid_cmd_verify.specs.declared.noted_files.NotedFiles.{NotedFiles}

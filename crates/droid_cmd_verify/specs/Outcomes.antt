@@ -17,7 +17,7 @@ use Rattle.droid_cmd_verify.specs.declared.summary.Summary.{Summary}
 use Rattle.droid_cmd_verify.specs.declared.tree_check.Checked.{Checked}
 use Rattle.droid_lists.specs.declared.format_lists.file_formats.FileFormats.{FileFormats}
 use Rattle.droid_lists.specs.declared.format_lists.format_change.FormatChange.{FormatChange}
-use Rattle.droid_lists.specs.declared.csv_items.format_row.FormatRow.{FormatRow}
+use Rattle.droid_export.specs.declared.reading.format_row.FormatRow.{FormatRow}
 use Rattle.droid_terminal.specs.declared.skipped.skipped_entry.SkippedEntry.{SkippedEntry}
 use Rattle.droid_cmd_verify.specs.declared.outcome.Outcome.{Outcome}
 use Rattle.droid_cmd_verify.specs.declared.verify_ending.VerifyEnding.{VerifyEnding}

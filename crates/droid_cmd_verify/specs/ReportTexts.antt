@@ -10,7 +10,7 @@ use Rattle.droid_frame.specs.declared.hash_value.HashValue.{HashValue}
 use Rattle.droid_frame.specs.declared.hash_value.HashValue.TheVariants as hashes
 use Rattle.droid_fixity.specs.declared.difference.Difference.{Difference}
 use Rattle.droid_fixity.specs.declared.difference.Difference.TheVariants.{Changed, Missing, New, Moved, Touched}
-use Rattle.droid_fixity.specs.declared.item.Item.{Item}
+use Rattle.droid_frame.specs.declared.item.Item.{Item}
 use Rattle.droid_cmd_verify.specs.declared.finding.Finding.{Finding}
 use Rattle.droid_cmd_verify.specs.declared.finding.Kind.{Kind}
 use Rattle.droid_cmd_verify.specs.declared.finding.Kind.TheVariants.{Differs, Unchecked, Unreadable, Formats}

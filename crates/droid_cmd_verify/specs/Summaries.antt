@@ -5,7 +5,7 @@ use Rattle.std.specs.Fmt.{decimal}
 use Rattle.std.specs.List.{fold}
 use Rattle.std.specs.Option.{option_map_or}
 use Rattle.droid_fixity.specs.declared.difference.Difference.TheVariants.{Changed, Missing, New, Moved, Touched}
-use Rattle.droid_fixity.specs.declared.item.Item.{Item}
+use Rattle.droid_frame.specs.declared.item.Item.{Item}
 use Rattle.droid_cmd_verify.specs.Compared.{by_hashes}
 use Rattle.droid_cmd_verify.specs.declared.finding.Finding.{Finding}
 use Rattle.droid_cmd_verify.specs.declared.finding.Kind.{Kind}

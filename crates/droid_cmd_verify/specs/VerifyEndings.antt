@@ -5,8 +5,8 @@ use Rattle.std.specs.declared.io.ErrorKind.TheVariants as kinds
 use Rattle.droid_fixity.specs.declared.checksum_lists.list_fault.ManifestFault.{ManifestFault}
 use Rattle.droid_fixity.specs.declared.checksum_lists.list_fault.ManifestFault.TheVariants as manifests
 use Rattle.droid_export.specs.Table.{name_of, names_of}
-use Rattle.droid_lists.specs.declared.csv_items.fault.ListFault.{ListFault}
-use Rattle.droid_lists.specs.declared.csv_items.fault.ListFault.TheVariants as profiles
+use Rattle.droid_export.specs.declared.reading.fault.ListFault.{ListFault}
+use Rattle.droid_export.specs.declared.reading.fault.ListFault.TheVariants as profiles
 use Rattle.droid_terminal.specs.Endings as endings
 use Rattle.droid_terminal.specs.Endings.{Said, Told, by, detailed, of_path}
 use Rattle.droid_terminal.specs.FaultTable as table

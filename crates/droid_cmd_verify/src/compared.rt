@@ -7,7 +7,8 @@ ghost use Rattle.droid_cmd_verify.specs.Summaries.{bytes_at, bytes_from, files_a
 use crate::measure::{Measure, by_hashes};
 use crate::summary::one_more;
 use crate::tree_check::Checked;
-use droid_fixity::{Difference, FilePair, Item};
+use droid_fixity::{Difference, FilePair};
+use droid_frame::Item;
 
 /// How many files were compared, and how many bytes they have together; each up to the greatest number of 64 bits.
 #[derive(Clone, Copy)]

@@ -11,8 +11,8 @@ ghost use Rattle.droid_cmd_verify.specs.Findings.{is_reported, unchecked_at, unr
 use crate::compared::is_unchecked;
 use crate::measure::{Measure, by_moments};
 use crate::tree_check::Checked;
-use droid_fixity::{Difference, FilePair, Item};
-use droid_frame::Blob;
+use droid_fixity::{Difference, FilePair};
+use droid_frame::{Blob, Item};
 use droid_lists::FormatChange;
 use droid_terminal::SkippedEntry;
 use droid_tree::Skipped;

@@ -5,8 +5,7 @@ ghost use Rattle.droid_core_spec.specs.Conditions.{is_moment};
 ghost use Rattle.droid_lists.specs.Exports.{item_of_record};
 ghost use Rattle.droid_cmd_verify.specs.KeptItems.{Keeps, KeepsNot, formats_by, items_by};
 
-use droid_fixity::Item;
-use droid_frame::Record;
+use droid_frame::{Item, Record};
 use droid_lists::{FileFormats, item_of_node};
 use droid_profile::{Recipient, RecipientFault};
 use std::alloc::{AllocError, Global};

@@ -9,8 +9,8 @@ ghost use Rattle.droid_frame.specs.declared.hash_kind.HashKind.TheVariants.{Noth
 use crate::item_keeper::ItemKeeper;
 use crate::noted_files::NotedFiles;
 use crate::tree_check::{CheckFault, Checked, compare_found, fault_of, options_for, take_items};
-use droid_fixity::{Inventory, Item};
-use droid_frame::HashKind;
+use droid_fixity::Inventory;
+use droid_frame::{HashKind, Item};
 use droid_lists::Listed;
 use droid_profile::{Options, Profiler, profile};
 use droid_pronom::Registry;

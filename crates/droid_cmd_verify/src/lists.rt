@@ -5,8 +5,9 @@ ghost use Rattle.droid_cmd_verify.specs.Lists.{GivesLists, ListsSay, may_measure
 
 use crate::measure::Measure;
 use crate::verify_ending::VerifyEnding;
+use droid_export::FormatRow;
 use droid_frame::HashKind;
-use droid_lists::{FormatRow, Listed, read_list};
+use droid_lists::{Listed, read_list};
 use std::alloc::Global;
 
 /// What a list says.

@@ -11,8 +11,7 @@ ghost use Rattle.droid_frame.specs.declared.node_kind.NodeKind.TheVariants as no
 ghost use Rattle.droid_tree.specs.Paths.{below};
 
 use droid_core_spec::is_moment;
-use droid_fixity::Item;
-use droid_frame::{Blob, HashValue, NodeKind};
+use droid_frame::{Blob, HashValue, Item, NodeKind};
 use droid_lists::item_of_node;
 use droid_tree::{EntryKind, FolderEntry, Tree, TreeFault, name_of, order_of_names};
 use std::alloc::{AllocError, Global};

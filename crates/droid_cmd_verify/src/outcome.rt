@@ -12,8 +12,9 @@ use crate::report::report_text;
 use crate::summary::{KindCounts, Summary};
 use crate::tree_check::Checked;
 use crate::verify_ending::VerifyEnding;
+use droid_export::FormatRow;
 use droid_frame::{SteadyWrite, WriteState, write_all};
-use droid_lists::{FileFormats, FormatChange, FormatRow, format_changes};
+use droid_lists::{FileFormats, FormatChange, format_changes};
 use droid_terminal::SkippedEntry;
 use std::alloc::{AllocError, Global};
 

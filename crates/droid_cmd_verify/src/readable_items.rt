@@ -7,8 +7,8 @@ ghost use Rattle.droid_cmd_verify.specs.CheckedTrees.{is_readable, readable_in};
 ghost use Rattle.droid_fixity.specs.Inventories.{AreInOrder};
 ghost use Rattle.droid_lists.specs.Listings.{IsInventory};
 
-use droid_fixity::{Inventory, Item};
-use droid_frame::Blob;
+use droid_fixity::Inventory;
+use droid_frame::{Blob, Item};
 use droid_terminal::{SkippedEntry, SkippedPaths, holds_above, paths_of};
 use std::alloc::{AllocError, Global};
 

@@ -9,8 +9,8 @@ use crate::finding::{Finding, Kind};
 use crate::tree_check::Checked;
 use csv::Writer;
 use droid_export::HashText;
-use droid_fixity::{Difference, Item};
-use droid_frame::HashValue;
+use droid_fixity::Difference;
+use droid_frame::{HashValue, Item};
 use droid_terminal::{cause, finish_csv, new_csv, write_record};
 use std::alloc::{AllocError, Global};
 

@@ -10,8 +10,8 @@ ghost use Rattle.droid_lists.specs.Listings.{IsInventory};
 
 use crate::item_keeper::ItemKeeper;
 use crate::readable_items::{keep_readable, readable_of};
-use droid_fixity::{Difference, FilePair, Inventory, Item, SamePath, compare, file_pairs};
-use droid_frame::HashKind;
+use droid_fixity::{Difference, FilePair, Inventory, SamePath, compare, file_pairs};
+use droid_frame::{HashKind, Item};
 use droid_lists::Listed;
 use droid_profile::{Options, ProfileFault, Profiler, profile};
 use droid_pronom::Registry;

@@ -6,8 +6,9 @@ ghost use Rattle.droid_cmd_verify.specs.VerifyEndings.{told_unopened, unchecked,
 ghost use Rattle.droid_terminal.specs.Endings.{told};
 
 use crate::tree_check::CheckFault;
+use droid_export::ListFault;
 use droid_fixity::ManifestFault;
-use droid_lists::{ListFault, UnreadList};
+use droid_lists::UnreadList;
 use droid_terminal::{About, Detail, Ending, faults, told_no_folder};
 use std::fs::Files;
 use std::io::ErrorKind;

@@ -3,7 +3,7 @@ use Rattle.std.proofs.Common.{◌≡◌, ◌∙◌, ℕ, ◌==◌, ◌&&◌, ◌
 use Rattle.std.specs.List.{flat_map, list_all, list_any}
 use Rattle.std.specs.Str.{bytes_eq}
 use Rattle.std.proofs.lemmas.Bool.{and_from, and_parts, eqb-true}
-use Rattle.droid_fixity.specs.Paths.{is_name, is_plain}
+use Rattle.droid_frame.specs.Paths.{is_name, is_plain}
 use Rattle.droid_fixity.specs.Spellings.{escaped, escaped_byte, onto, unescaped, unescaped_from}
 use Rattle.droid_fixity.proofs.ClearBytes.{is_clear}
 use Rattle.droid_fixity.proofs.Tests.{all_append, false_true}

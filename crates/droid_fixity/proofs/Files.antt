@@ -8,7 +8,7 @@ use Rattle.droid_fixity.specs.Inventories.{AreInOrder}
 use Rattle.droid_frame.specs.Filters.{is_file}
 use Rattle.droid_fixity.specs.Pairing.{Merges}
 use Rattle.droid_fixity.specs.Reports.{is_absent, path_at}
-use Rattle.droid_fixity.specs.declared.item.Item.{Item}
+use Rattle.droid_frame.specs.declared.item.Item.{Item}
 use Rattle.droid_fixity.specs.declared.pair.FilePair.{FilePair}
 use Rattle.droid_fixity.specs.declared.pair.Pair.{Pair}
 use Rattle.droid_fixity.proofs.Order.{absent_there, same_place}

@@ -8,7 +8,7 @@ use Rattle.std.proofs.lemmas.List.{take-append-drop}
 use Rattle.std.proofs.lemmas.Slice.Eq.{bytes_eq-Decides}
 use Rattle.droid_frame.specs.declared.hash_value.HashValue.{HashValue}
 use Rattle.droid_frame.specs.declared.hash_value.HashValue.TheVariants as values
-use Rattle.droid_fixity.specs.Paths.{is_plain}
+use Rattle.droid_frame.specs.Paths.{is_plain}
 use Rattle.droid_fixity.specs.Digests.{hash_of}
 use Rattle.droid_fixity.specs.Grammar.{AreGaps, IsBagLine, IsEscapedLine, IsEscapedTagLine, IsLine, IsMark, IsPlainLine, IsTagLine, MayStand, NamesFile}
 use Rattle.droid_fixity.specs.Lines.{bag_entry, behind_gaps, behind_mark, checksum_entry, cut, cut_at_gap, entry_of, escapes_of, file_item, is_blank, is_gap, is_no_gap, meaning, meaning_by_bytes, meaning_by_entry, meaning_by_text, plain_entry, tag_entry, without_backslash, without_star}

@@ -8,7 +8,7 @@ use Rattle.hex.specs.Hex.{decode_sized, is_hex_digit}
 use Rattle.hex.specs.declared.FromHexError.{FromHexError}
 use Rattle.hex.proofs.HexLemmas.{IsOk-decode_sized}
 use Rattle.droid_frame.specs.declared.hash_value.HashValue.{HashValue}
-use Rattle.droid_fixity.specs.Paths.{is_plain}
+use Rattle.droid_frame.specs.Paths.{is_plain}
 use Rattle.droid_fixity.specs.Digests.{hash_of, md5_by, md5_of, sha256_by, sha256_of}
 use Rattle.droid_fixity.specs.Grammar.{AreGaps, IsBagLine, IsEscapedLine, IsEscapedTagLine, IsLine, IsPlainLine, IsTagLine, MayStand, NamesFile}
 use Rattle.droid_fixity.specs.Lines.{bag_entry, behind_gaps, cut, cut_at_gap, entry_of, file_item, is_blank, is_gap, is_no_gap, meaning, meaning_by_bytes, meaning_by_entry, meaning_by_text, without_star}

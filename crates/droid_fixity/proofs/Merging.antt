@@ -7,7 +7,7 @@ use Rattle.std.specs.declared.cmp.Ordering.{Ordering}
 use Rattle.std.specs.declared.cmp.Ordering.TheVariants.{Less, Equal, Greater}
 use Rattle.std.proofs.lemmas.Option.{slice_get_within}
 use Rattle.droid_fixity.specs.Pairing.{Merges, both, ends, found, found_after, last_found, last_listed, listed, listed_after, pair_by, pair_of}
-use Rattle.droid_fixity.specs.declared.item.Item.{Item}
+use Rattle.droid_frame.specs.declared.item.Item.{Item}
 use Rattle.droid_fixity.specs.declared.pair.Pair.{Pair}
 use Rattle.droid_fixity.specs.declared.pair.Pair.TheVariants.{Both, Found, Listed}
 

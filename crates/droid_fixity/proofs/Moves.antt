@@ -9,14 +9,14 @@ use Rattle.std.proofs.lemmas.List.Elements.{filter_more}
 use Rattle.std.proofs.lemmas.Slice.Eq.{bytes_eq-Decides}
 use Rattle.droid_frame.specs.Hashes.{hash_bytes}
 use Rattle.droid_fixity.specs.Holding.{bears_at, holder_after, holder_among, holder_of, move_by, move_of}
-use Rattle.droid_fixity.specs.Items.{bears, other_length}
+use Rattle.droid_frame.specs.Items.{bears, other_length}
 use Rattle.droid_frame.specs.Filters.{is_file}
 use Rattle.droid_fixity.specs.Reports.{HasMoved, alone, is_absent}
 use Rattle.droid_fixity.specs.declared.difference.Difference.{Difference}
 use Rattle.droid_fixity.specs.declared.difference.Difference.TheVariants.{Moved}
 use Rattle.droid_fixity.specs.declared.holders.Holder.{Holder}
 use Rattle.droid_fixity.specs.declared.holders.Holder.TheVariants.{One, Many}
-use Rattle.droid_fixity.specs.declared.item.Item.{Item}
+use Rattle.droid_frame.specs.declared.item.Item.{Item}
 use Rattle.droid_fixity.proofs.Passing.{only_passes}
 
 -- the items at places with a hash are the items with it

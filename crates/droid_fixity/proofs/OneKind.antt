@@ -5,7 +5,7 @@ use Rattle.std.specs.List.{AllByRecursion}
 use Rattle.std.specs.Result.{result_unwrap_or}
 use Rattle.std.proofs.lemmas.Bool.{eq-eqb}
 use Rattle.droid_frame.specs.Hashes.{hash_kind_number, hash_value_kind}
-use Rattle.droid_fixity.specs.declared.item.Item.{Item}
+use Rattle.droid_frame.specs.declared.item.Item.{Item}
 use Rattle.droid_fixity.specs.Lines.{meaning, without_return}
 use Rattle.droid_fixity.specs.Lists.{HaveOneKind, after, is_alike, items_from, items_of, same_kind, some_items, taken}
 use Rattle.droid_fixity.specs.Texts.{lines_in}

@@ -13,7 +13,7 @@ use Rattle.std.proofs.lemmas.Option.{slice_get_within}
 use Rattle.std.proofs.lemmas.Slice.Eq.{bytes_eq-Decides}
 use Rattle.droid_fixity.specs.Inventories.{AreInOrder, IsBefore}
 use Rattle.droid_fixity.specs.Reports.{is_absent}
-use Rattle.droid_fixity.specs.declared.item.Item.{Item}
+use Rattle.droid_frame.specs.declared.item.Item.{Item}
 
 -- what the order says of two paths
 pub equal_paths : (a b : List ℕ) → slice_cmp nat_cmp a b ≡ Equal → a ≡ b

@@ -6,7 +6,7 @@ use Rattle.droid_fixity.specs.Holding.{only_found, only_listed}
 use Rattle.droid_fixity.specs.Inventories.{AreInOrder, IsBefore}
 use Rattle.droid_fixity.specs.Pairing.{Merges, ends, both, listed, found, last_listed, last_found}
 use Rattle.droid_fixity.specs.Reports.{is_absent, path_at}
-use Rattle.droid_fixity.specs.declared.item.Item.{Item}
+use Rattle.droid_frame.specs.declared.item.Item.{Item}
 use Rattle.droid_fixity.specs.declared.pair.Pair.{Pair}
 use Rattle.droid_fixity.specs.declared.pair.Pair.TheVariants.{Both, Listed, Found}
 use Rattle.droid_fixity.proofs.Order.{absent_apart, absent_before, absent_there, after_differs, after_is_before, before_all, equal_paths, first_left, none_left}

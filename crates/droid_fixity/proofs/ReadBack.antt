@@ -6,8 +6,8 @@ use Rattle.std.proofs.lemmas.Bool.{and_parts, eqb-true, not-true}
 use Rattle.hex.specs.Hex.{encode_lower}
 use Rattle.droid_frame.specs.declared.hash_value.HashValue.{HashValue}
 use Rattle.droid_frame.specs.declared.hash_value.HashValue.TheVariants as values
-use Rattle.droid_fixity.specs.Paths.{is_file_path, is_plain}
-use Rattle.droid_fixity.specs.declared.item.Item.{Item}
+use Rattle.droid_frame.specs.Paths.{is_file_path, is_plain}
+use Rattle.droid_frame.specs.declared.item.Item.{Item}
 use Rattle.droid_fixity.specs.Lines.{file_item, meaning, without_return}
 use Rattle.droid_fixity.specs.Lists.{after, is_alike, items_from, items_of, some_items, taken, taken_file}
 use Rattle.droid_fixity.specs.ReadBack.{AreListed, IsDigest, IsListed, lines_of}

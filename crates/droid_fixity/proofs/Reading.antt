@@ -1,7 +1,7 @@
 -- A list of checksums, line by line.
 use Rattle.std.proofs.Common.{◌≡◌, ◌∙◌, ◌<◌, ℕ, ◌+◌, List, [], ◌∷◌, ◌++◌, length, map, take, drop, get_or, Result, Ok, Err, refl, sym, ap, arith, append_assoc, Bor}
 use Rattle.std.proofs.lemmas.List.{drop_more, length-map, map-append, take-append-drop}
-use Rattle.droid_fixity.specs.declared.item.Item.{Item}
+use Rattle.droid_frame.specs.declared.item.Item.{Item}
 use Rattle.droid_fixity.specs.Lines.{meaning, without_return}
 use Rattle.droid_fixity.specs.Lists.{after, items_from, taken}
 use Rattle.droid_fixity.specs.declared.checksum_lists.form.ManifestForm.{ManifestForm}

@@ -6,11 +6,11 @@ use Rattle.std.proofs.lemmas.Slice.Eq.{bytes_eq-Decides}
 use Rattle.droid_frame.specs.Hashes.{hash_bytes, hash_kind_number, hash_value_kind}
 use Rattle.droid_frame.specs.declared.hash_value.HashValue.{HashValue}
 use Rattle.droid_fixity.specs.Inventories.{AreInOrder}
-use Rattle.droid_fixity.specs.Items.{changes_between, is_any, other_hash, other_length, other_moment, same_truth}
+use Rattle.droid_frame.specs.Items.{changes_between, is_any, other_hash, other_length, other_moment, same_truth}
 use Rattle.droid_frame.specs.Filters.{is_file}
 use Rattle.droid_fixity.specs.Reports.{IsDifference, IsReport, changed, missing, moved, new, touched}
 use Rattle.droid_fixity.specs.declared.difference.Difference.{Difference}
-use Rattle.droid_fixity.specs.declared.item.Item.{Item}
+use Rattle.droid_frame.specs.declared.item.Item.{Item}
 use Rattle.droid_fixity.proofs.Order.{absent_there, same_place}
 use Rattle.droid_fixity.proofs.Whole.{was_missing}
 

@@ -12,7 +12,7 @@ use Rattle.std.proofs.lemmas.List.Sums.{count_by_more_yes, sum_by-take-le}
 use Rattle.std.proofs.lemmas.Option.{slice_get-get_or}
 use Rattle.std.proofs.lemmas.Slice.Eq.{bytes_eq-Decides}
 use Rattle.droid_fixity.specs.Inventories.{AreInOrder, IsBefore, IsBeforeAt, IsTwice, is_before}
-use Rattle.droid_fixity.specs.declared.item.Item.{Item}
+use Rattle.droid_frame.specs.declared.item.Item.{Item}
 use Rattle.droid_fixity.proofs.Order.{after_is_before, before_all, equal_paths}
 
 less_is : (o : Ordering) → is_lt o ≡ true → o ≡ Less

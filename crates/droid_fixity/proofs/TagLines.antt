@@ -7,7 +7,7 @@ use Rattle.std.proofs.lemmas.Bool.{le-leb}
 use Rattle.std.proofs.lemmas.List.{drop_at, length-append, take-append-drop, take_at}
 use Rattle.std.proofs.lemmas.Slice.Eq.{bytes_eq-Decides}
 use Rattle.droid_frame.specs.declared.hash_value.HashValue.{HashValue}
-use Rattle.droid_fixity.specs.Paths.{is_plain}
+use Rattle.droid_frame.specs.Paths.{is_plain}
 use Rattle.droid_fixity.specs.Digests.{md5_of, sha256_of}
 use Rattle.droid_fixity.specs.Grammar.{IsTag}
 use Rattle.droid_fixity.specs.Lines.{before, checksum_entry, cut_at_gap, cut_last, escapes_of, file_item, front_if, is_blank, is_gap, md5_tag, meaning, plain_entry, sha256_tag, tag_entry, tag_parts, tagged, without_backslash}

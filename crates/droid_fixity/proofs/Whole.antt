@@ -6,14 +6,14 @@ use Rattle.std.specs.Prelude.{if◌then◌else◌}
 use Rattle.droid_frame.specs.Hashes.{hash_bytes}
 use Rattle.droid_fixity.specs.Holding.{both_by, difference_at, holder_among, move_of, only_found, only_listed, or_missing, or_new}
 use Rattle.droid_fixity.specs.Inventories.{AreInOrder, IsBefore}
-use Rattle.droid_fixity.specs.Items.{bears, changes_between, is_any, other_moment}
+use Rattle.droid_frame.specs.Items.{bears, changes_between, is_any, other_moment}
 use Rattle.droid_frame.specs.Filters.{is_file}
 use Rattle.droid_fixity.specs.Pairing.{Merges}
 use Rattle.droid_fixity.specs.Reports.{HasMoved, IsDifference, IsReport, alone, changed, is_absent, missing, moved, new, path_at, path_of, touched}
 use Rattle.droid_fixity.specs.declared.difference.Difference.{Difference}
 use Rattle.droid_fixity.specs.declared.difference.Difference.TheVariants.{Changed, Missing, Moved, New, Touched}
 use Rattle.droid_fixity.specs.declared.holders.Holder.{Holder}
-use Rattle.droid_fixity.specs.declared.item.Item.{Item}
+use Rattle.droid_frame.specs.declared.item.Item.{Item}
 use Rattle.droid_fixity.specs.declared.pair.Pair.{Pair}
 use Rattle.droid_fixity.proofs.Moves.{MoveOf, Says, bears_says, move_of_is, same_move, says_among, says_bears}
 use Rattle.droid_fixity.proofs.Order.{absent_there, same_place}

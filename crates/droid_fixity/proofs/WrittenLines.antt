@@ -10,7 +10,7 @@ use Rattle.hex.proofs.HexLemmas.{decode_of-encode_lower, decode_of-ok, decode_si
 use Rattle.droid_frame.specs.Fields.{IsBytes}
 use Rattle.droid_frame.specs.declared.hash_value.HashValue.{HashValue}
 use Rattle.droid_frame.specs.declared.hash_value.HashValue.TheVariants as values
-use Rattle.droid_fixity.specs.Paths.{is_plain}
+use Rattle.droid_frame.specs.Paths.{is_plain}
 use Rattle.droid_fixity.specs.Digests.{hash_of, md5_by, md5_of, sha256_by, sha256_of}
 use Rattle.droid_fixity.specs.Grammar.{IsMark}
 use Rattle.droid_fixity.specs.Lines.{behind_mark, checksum_entry, cut_at_gap, escapes_of, file_item, is_blank, is_gap, meaning, meaning_by_bytes, meaning_by_entry, entry_of, plain_entry, tag_entry, without_backslash}

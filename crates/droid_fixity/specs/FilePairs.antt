@@ -4,7 +4,7 @@ use Rattle.std.specs.List.{AllByRecursion}
 use Rattle.droid_fixity.specs.Inventories.{AreInOrder}
 use Rattle.droid_frame.specs.Filters.{is_file}
 use Rattle.droid_fixity.specs.Reports.{path_at}
-use Rattle.droid_fixity.specs.declared.item.Item.{Item}
+use Rattle.droid_frame.specs.declared.item.Item.{Item}
 use Rattle.droid_fixity.specs.declared.pair.FilePair.{FilePair}
 
 -- a file of both: one path, and both are files

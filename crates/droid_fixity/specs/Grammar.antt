@@ -2,7 +2,7 @@
 use Rattle.std.specs.Prelude.{◌≡◌, ℕ, List, [], ◌∷◌, ◌++◌, Option, Some, codes, IsTrue, ◌⊎◌}
 use Rattle.std.specs.List.{list_all}
 use Rattle.droid_frame.specs.declared.hash_value.HashValue.{HashValue}
-use Rattle.droid_fixity.specs.Paths.{is_plain}
+use Rattle.droid_frame.specs.Paths.{is_plain}
 use Rattle.droid_fixity.specs.Digests.{hash_of, md5_of, sha256_of}
 use Rattle.droid_fixity.specs.Lines.{is_gap}
 use Rattle.droid_fixity.specs.Spellings.{decoded, unescaped}

@@ -6,11 +6,11 @@ use Rattle.std.specs.Ordering.{nat_cmp}
 use Rattle.std.specs.Borrow.{Bor}
 use Rattle.std.specs.Cmp.Lexicographic.{slice_cmp}
 use Rattle.droid_frame.specs.Hashes.{hash_bytes}
-use Rattle.droid_fixity.specs.Items.{bears, changes_between, is_any, other_length, other_moment}
+use Rattle.droid_frame.specs.Items.{bears, changes_between, is_any, other_length, other_moment}
 use Rattle.droid_frame.specs.Filters.{is_file}
 use Rattle.droid_fixity.specs.declared.difference.Difference.{Difference}
 use Rattle.droid_fixity.specs.declared.difference.Difference.TheVariants.{Changed, Missing, New, Moved, Touched}
-use Rattle.droid_fixity.specs.declared.item.Item.{Item}
+use Rattle.droid_frame.specs.declared.item.Item.{Item}
 use Rattle.droid_fixity.specs.declared.holders.Holder.{Holder}
 use Rattle.droid_fixity.specs.declared.holders.Holder.TheVariants.{One, Many}
 use Rattle.droid_fixity.specs.declared.pair.FilePair.{FilePair}

@@ -4,11 +4,9 @@ pub mod FilePaths
 pub mod Grammar
 pub mod Holding
 pub mod Inventories
-pub mod Items
 pub mod Lines
 pub mod Lists
 pub mod Pairing
-pub mod Paths
 pub mod ReadBack
 pub mod Reports
 pub mod Spellings

@@ -6,8 +6,8 @@ use Rattle.std.specs.Option.{option_map, option_or}
 use Rattle.std.specs.Str.{bytes_eq}
 use Rattle.droid_frame.specs.declared.hash_value.HashValue.{HashValue}
 use Rattle.droid_frame.specs.declared.node_kind.NodeKind.TheVariants.{File}
-use Rattle.droid_fixity.specs.Paths.{is_file_path}
-use Rattle.droid_fixity.specs.declared.item.Item.{Item}
+use Rattle.droid_frame.specs.Paths.{is_file_path}
+use Rattle.droid_frame.specs.declared.item.Item.{Item}
 use Rattle.droid_fixity.specs.Digests.{hash_of, md5_of, sha256_of}
 use Rattle.droid_fixity.specs.FilePaths.{behind, below}
 use Rattle.droid_fixity.specs.Spellings.{◌>>=◌, spelled}

@@ -7,7 +7,7 @@ use Rattle.droid_frame.specs.Hashes.{hash_kind_number, hash_value_kind}
 use Rattle.droid_frame.specs.declared.hash_kind.HashKind.{HashKind}
 use Rattle.droid_frame.specs.declared.hash_kind.HashKind.TheVariants as kinds
 use Rattle.droid_frame.specs.declared.hash_value.HashValue.{HashValue}
-use Rattle.droid_fixity.specs.declared.item.Item.{Item}
+use Rattle.droid_frame.specs.declared.item.Item.{Item}
 use Rattle.droid_fixity.specs.Lines.{meaning, without_return}
 use Rattle.droid_fixity.specs.Texts.{lines_in}
 use Rattle.droid_fixity.specs.declared.checksum_lists.form.ManifestForm.{ManifestForm}

@@ -4,8 +4,8 @@ use Rattle.std.specs.List.{AllByRecursion, flat_map}
 use Rattle.droid_frame.specs.Fields.{IsBytes}
 use Rattle.droid_frame.specs.declared.hash_value.HashValue.{HashValue}
 use Rattle.droid_frame.specs.declared.hash_value.HashValue.TheVariants.{Nothing, Md5, Sha256}
-use Rattle.droid_fixity.specs.Paths.{is_file_path}
-use Rattle.droid_fixity.specs.declared.item.Item.{Item}
+use Rattle.droid_frame.specs.Paths.{is_file_path}
+use Rattle.droid_frame.specs.declared.item.Item.{Item}
 use Rattle.droid_fixity.specs.Lines.{file_item}
 use Rattle.droid_fixity.specs.Lists.{HaveOneKind}
 use Rattle.droid_fixity.specs.Writing.{line}

@@ -5,10 +5,10 @@ use Rattle.std.specs.Option.{option_map_or}
 use Rattle.std.specs.Str.{bytes_eq}
 use Rattle.droid_frame.specs.Hashes.{hash_bytes}
 use Rattle.droid_fixity.specs.Inventories.{AreInOrder}
-use Rattle.droid_fixity.specs.Items.{bears, changes_between, is_any, other_length, other_moment}
+use Rattle.droid_frame.specs.Items.{bears, changes_between, is_any, other_length, other_moment}
 use Rattle.droid_fixity.specs.declared.difference.Difference.{Difference}
 use Rattle.droid_fixity.specs.declared.difference.Difference.TheVariants.{Changed, Missing, New, Moved, Touched}
-use Rattle.droid_fixity.specs.declared.item.Item.{Item}
+use Rattle.droid_frame.specs.declared.item.Item.{Item}
 
 -- whether no item has this path
 abbrev pub is_absent : List ℕ → List Item → Bool

@@ -1,6 +1,6 @@
 //! Differences between a list and what was found.
 
-use crate::item::Changes;
+use droid_frame::Changes;
 
 /// A difference between the items of a list and those that were found. Items are named by their places in the two
 /// inventories.

@@ -2,9 +2,9 @@
 
 ghost use Rattle.std.specs.Prelude.{◌≡◌, ℕ, List, IfOk, OnOk, if◌then◌else◌, option_copied, slice_get, Some};
 ghost use Rattle.droid_fixity.specs.Holding.{held, holder_after, holder_among};
-ghost use Rattle.droid_fixity.specs.Items.{bears};
+ghost use Rattle.droid_frame.specs.Items.{bears};
 
-use crate::item::Item;
+use droid_frame::Item;
 use std::alloc::{AllocError, Global};
 use std::collections::BTreeMap;
 

@@ -6,8 +6,7 @@ ghost use Rattle.std.specs.Ordering.{nat_cmp};
 ghost use Rattle.std.specs.Cmp.Lexicographic.{slice_cmp};
 ghost use Rattle.droid_fixity.specs.Inventories.{AreInOrder, IsBeforeAt, IsTwice, is_before};
 
-use crate::item::Item;
-use droid_frame::Blob;
+use droid_frame::{Blob, Item};
 use std::cmp::Ordering;
 use std::marker::Model;
 
@@ -19,7 +18,7 @@ pub struct Inventory {
 
 impl Model for Inventory {
     ghost use Rattle.std.specs.Prelude.{List, map};
-    ghost use Rattle.droid_fixity.specs.declared.item.Item.{Item};
+    ghost use Rattle.droid_frame.specs.declared.item.Item.{Item};
 
     ghost Value = { List Item };
 

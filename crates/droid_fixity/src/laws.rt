@@ -4,7 +4,7 @@ ghost use Rattle.std.specs.Prelude.{◌≡◌, List, [], map};
 ghost use Rattle.droid_fixity.specs.Inventories.{AreInOrder};
 ghost use Rattle.droid_fixity.specs.Reports.{IsReport};
 ghost use Rattle.droid_fixity.specs.declared.difference.Difference.{Difference};
-ghost use Rattle.droid_fixity.specs.declared.item.Item.{Item};
+ghost use Rattle.droid_frame.specs.declared.item.Item.{Item};
 
 /// States that the report is empty if the same items were found that the list has.
 pub fn same_items_have_no_difference()

@@ -8,10 +8,8 @@ mod checksum_lists;
 mod difference;
 mod holders;
 mod inventory;
-mod item;
 mod laws;
 mod pair;
-mod path;
 mod report;
 
 pub use checksum_lists::checksum_line::add_line;
@@ -24,8 +22,6 @@ pub use checksum_lists::manifest_law::{
 pub use checksum_lists::text::without_mark;
 pub use difference::Difference;
 pub use inventory::{Inventory, SamePath};
-pub use item::{Changes, Item};
 pub use laws::same_items_have_no_difference;
 pub use pair::{FilePair, file_pairs};
-pub use path::is_file_path;
 pub use report::compare;

@@ -8,7 +8,7 @@ ghost use Rattle.droid_fixity.specs.Holding.{file_pair, only_found, only_listed,
 ghost use Rattle.droid_fixity.specs.Pairing.{Merges, found_after, listed_after, pair_by, pair_of};
 
 use crate::inventory::Inventory;
-use crate::item::Item;
+use droid_frame::Item;
 use std::alloc::{AllocError, Global};
 use std::cmp::Ordering;
 

@@ -8,8 +8,8 @@ ghost use Rattle.droid_fixity.specs.Reports.{IsReport};
 use crate::difference::Difference;
 use crate::holders::{Holder, Holders, holders_of};
 use crate::inventory::Inventory;
-use crate::item::Item;
 use crate::pair::{Pair, pairs_of};
+use droid_frame::Item;
 use std::alloc::{AllocError, Global};
 
 /// Compares a list with what was found, and returns all differences in the order of their paths.

@@ -8,9 +8,11 @@ pub mod HashFields
 pub mod Hashes
 pub mod Headers
 pub mod InTurn
+pub mod Items
 pub mod Limits
 pub mod NodeHeads
 pub mod Outcomes
+pub mod Paths
 pub mod Reading
 pub mod Reads
 pub mod Refusals

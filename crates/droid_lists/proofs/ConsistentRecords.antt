@@ -4,11 +4,11 @@ use Rattle.std.specs.List.{AllByRecursion, Contains, IsDistinct, list_any}
 use Rattle.std.specs.Prelude.{⊤}
 use Rattle.droid_frame.specs.declared.hash_kind.HashKind.{HashKind}
 use Rattle.droid_frame.specs.declared.record.Record.{Record}
-use Rattle.droid_lists.specs.FolderMaps.{IsSaid}
-use Rattle.droid_lists.specs.Numbers.{Saying, above_sayings, agree, column_against, contradiction, contradiction_from, fit, own_sayings}
-use Rattle.droid_lists.specs.Profiles.{tag_of}
-use Rattle.droid_lists.proofs.Sayings.{all_pass, said_more}
-use Rattle.droid_lists.proofs.RowTypes.{Entry, Spot, Tag}
+use Rattle.droid_export.specs.FolderMaps.{IsSaid}
+use Rattle.droid_export.specs.FolderNumbers.{Saying, above_sayings, agree, column_against, contradiction, contradiction_from, fit, own_sayings}
+use Rattle.droid_export.specs.Profiles.{tag_of}
+use Rattle.droid_export.proofs.Sayings.{all_pass, said_more}
+use Rattle.droid_export.proofs.RowTypes.{Entry, Spot, Tag}
 use Rattle.droid_lists.specs.Exports.{AreRecordsOf, item_of_record, items_of, sayings_of, sayings_of_record}
 
 -- ---- what the rows of a record say

@@ -31,21 +31,21 @@ use Rattle.droid_export.specs.Headers.{whole}
 use Rattle.droid_export.specs.Moments.{IsMoment, moment_text}
 use Rattle.droid_export.specs.Rows.{Shown, fields, header, kind_name, no_format, row, rows, rows_by, shown}
 use Rattle.droid_export.specs.Text.{chosen_rows, shown_rows}
-use Rattle.droid_fixity.specs.Items.{same_truth}
-use Rattle.droid_fixity.specs.Paths.{is_file_path}
-use Rattle.droid_fixity.specs.declared.item.Item.{Item}
-use Rattle.droid_lists.specs.Fields.{above_of, digest_of, has_no_slash, id_by, id_of, md5_of, moment_of, parent_of, path_of, rows_of, rows_of_count, sha256_of}
-use Rattle.droid_lists.specs.Fields as read
-use Rattle.droid_lists.specs.Moments.{is_moment}
-use Rattle.droid_lists.specs.Numbers.{contradiction}
+use Rattle.droid_frame.specs.Items.{same_truth}
+use Rattle.droid_frame.specs.Paths.{is_file_path}
+use Rattle.droid_frame.specs.declared.item.Item.{Item}
+use Rattle.droid_export.specs.ReadFields.{above_of, digest_of, has_no_slash, id_by, id_of, md5_of, moment_of, parent_of, path_of, rows_of, rows_of_count, sha256_of}
+use Rattle.droid_export.specs.ReadFields as read
+use Rattle.droid_export.specs.ReadMoments.{is_moment}
+use Rattle.droid_export.specs.FolderNumbers.{contradiction}
 use Rattle.droid_export.specs.Table.{field_or}
-use Rattle.droid_lists.specs.Profiles.{Behind, Draft, Rows, after, after_rows, entry_of, items_from, no_rows, nothing_read, parts_of, profile_of, repeats, same_column, shared_columns, spot_of, tag_of, taken, unless_found, with_entry, with_row}
-use Rattle.droid_lists.specs.declared.csv_items.fault.ListFault.{ListFault}
+use Rattle.droid_export.specs.Profiles.{Behind, Draft, Rows, after, after_rows, entry_of, items_from, no_rows, nothing_read, parts_of, profile_of, repeats, same_column, shared_columns, spot_of, tag_of, taken, unless_found, with_entry, with_row}
+use Rattle.droid_export.specs.declared.reading.fault.ListFault.{ListFault}
 use Rattle.droid_export.specs.Fields.{kind_of}
 use Rattle.droid_export.proofs.Numbers.{decimal_read}
 use Rattle.droid_lists.proofs.ConsistentRecords.{AreTags, entry_at, no_contradiction, one_tag_more, spot_at, tag_at}
 use Rattle.droid_lists.proofs.MomentTexts.{moment_passes}
-use Rattle.droid_lists.proofs.RowTypes.{Entry, RowFault, Spot, Tag}
+use Rattle.droid_export.proofs.RowTypes.{Entry, RowFault, Spot, Tag}
 use Rattle.droid_lists.specs.Exports.{AreRecordsOf, HasKind, IsRecordOf, item_of_record, items_of}
 use Rattle.droid_lists.specs.Nodes.{hash_of, length_of}
 

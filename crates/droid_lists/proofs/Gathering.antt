@@ -14,7 +14,7 @@ use Rattle.droid_lists.specs.Formats.{change_if, change_of, changes_in, formats_
 use Rattle.droid_lists.specs.ListedFormats.{changes_by, formats_in}
 use Rattle.droid_lists.specs.declared.format_lists.file_formats.FileFormats.{FileFormats}
 use Rattle.droid_lists.specs.declared.format_lists.format_change.FormatChange.{FormatChange}
-use Rattle.droid_lists.specs.declared.csv_items.format_row.FormatRow.{FormatRow}
+use Rattle.droid_export.specs.declared.reading.format_row.FormatRow.{FormatRow}
 
 abbrev Held : Type 0
 Held = BTreeMap (Bor (List ℕ)) (Vec (List ℕ) Global)

@@ -1,7 +1,5 @@
 mod Compared
-mod Consistency
 mod ConsistentRecords
-mod Digits
 mod EntrySteps
 mod EntryTaken
 mod ExportedItems
@@ -15,17 +13,12 @@ mod MapSteps
 mod MomentTexts
 mod NamesRead
 mod PlainFields
-mod PlainLists
-mod PlainRows
-mod Reading
 mod RowReadings
 mod RowSpelling
-mod RowTypes
 mod RowUnique
 mod RowsRead
 mod RowsTaken
 mod SameInventories
-pub mod Sayings
 mod SharedColumns
 mod TextSteps
 mod TextUnique

@@ -4,14 +4,14 @@ use Rattle.std.proofs.lemmas.List.{at_drop_all, drop_more}
 use Rattle.droid_frame.specs.Hashes.{hash_value_kind}
 use Rattle.droid_frame.specs.declared.hash_kind.HashKind.{HashKind}
 use Rattle.droid_frame.specs.declared.hash_kind.HashKind.TheVariants as kinds
-use Rattle.droid_fixity.specs.declared.item.Item.{Item}
+use Rattle.droid_frame.specs.declared.item.Item.{Item}
 use Rattle.csv.specs.Reading.{AreRecords, default_config, strip_bom}
 use Rattle.csv.specs.declared.parser.State.TheVariants as st
 use Rattle.droid_fixity.specs.declared.checksum_lists.form.ManifestForm.{ManifestForm}
-use Rattle.droid_lists.specs.FormatRows.{format_rows, rows_if}
-use Rattle.droid_lists.specs.declared.csv_items.format_row.FormatRow.{FormatRow}
-use Rattle.droid_lists.specs.declared.csv_items.fault.ListFault.{ListFault}
-use Rattle.droid_lists.specs.declared.csv_items.fault.ListFault.TheVariants as list
+use Rattle.droid_export.specs.FormatRows.{format_rows, rows_if}
+use Rattle.droid_export.specs.declared.reading.format_row.FormatRow.{FormatRow}
+use Rattle.droid_export.specs.declared.reading.fault.ListFault.{ListFault}
+use Rattle.droid_export.specs.declared.reading.fault.ListFault.TheVariants as list
 use Rattle.droid_fixity.specs.declared.checksum_lists.list_fault.ManifestFault.{ManifestFault}
 use Rattle.droid_fixity.specs.declared.checksum_lists.list_fault.ManifestFault.TheVariants as manifest
 use Rattle.droid_lists.specs.Listings.{Comes, HasFormats, Says, hash_in, manifest_fault, of_manifest, of_profile, or_later, profile_fault}

@@ -11,7 +11,7 @@ use Rattle.jiff_core.proofs.MarchLemmas.{day_count-early}
 use Rattle.jiff_core.proofs.DateLemmas.{days_from_civil-day, days_from_civil-max, days_from_civil-next_month, days_from_civil-next_year}
 use Rattle.droid_export.specs.Civil.{Civil, civil, day_after, day_before, days_after, days_before, epoch}
 use Rattle.droid_export.specs.Moments.{IsMoment, date_text, moment_text, second_of_day, time_text}
-use Rattle.droid_lists.specs.Moments.{is_date, is_moment, two_of}
+use Rattle.droid_export.specs.ReadMoments.{is_date, is_moment, two_of}
 
 -- ---- dates
 

@@ -2,7 +2,7 @@
 use Rattle.std.proofs.Common.{◌≡◌, ◌∙◌, ◌<◌, ◌+◌, ℕ, zero, suc, Bool, true, false, List, [], ◌∷◌, drop, map, Some, refl, ap, arith}
 use Rattle.std.specs.Prelude.{if◌then◌else◌, not}
 use Rattle.std.specs.Str.{bytes_eq}
-use Rattle.droid_lists.specs.Profiles.{shared_columns}
+use Rattle.droid_export.specs.Profiles.{shared_columns}
 use Rattle.droid_lists.specs.RowTests.{Row, Test, at, first_wrong, shared_tests}
 
 -- so many numbers from this one on

@@ -12,13 +12,13 @@ use Rattle.droid_frame.specs.declared.hash_value.HashValue.{HashValue}
 use Rattle.droid_frame.specs.declared.hash_value.HashValue.TheVariants as values
 use Rattle.droid_frame.specs.declared.record.Record.{Record}
 use Rattle.droid_export.specs.Moments.{IsMoment}
-use Rattle.droid_fixity.specs.Items.{same_truth}
+use Rattle.droid_frame.specs.Items.{same_truth}
 use Rattle.droid_frame.specs.Filters.{is_file}
-use Rattle.droid_fixity.specs.Paths.{is_file_path}
-use Rattle.droid_fixity.specs.declared.item.Item.{Item}
-use Rattle.droid_lists.specs.Fields.{has_no_slash}
-use Rattle.droid_lists.specs.Numbers.{Saying, agree}
-use Rattle.droid_lists.specs.Profiles.{profile_of}
+use Rattle.droid_frame.specs.Paths.{is_file_path}
+use Rattle.droid_frame.specs.declared.item.Item.{Item}
+use Rattle.droid_export.specs.ReadFields.{has_no_slash}
+use Rattle.droid_export.specs.FolderNumbers.{Saying, agree}
+use Rattle.droid_export.specs.Profiles.{profile_of}
 use Rattle.droid_lists.specs.Nodes.{item_of}
 
 -- a hash of this kind, or none

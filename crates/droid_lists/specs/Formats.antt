@@ -5,7 +5,7 @@ use Rattle.std.specs.List.{flat_map, list_all, list_any}
 use Rattle.std.specs.Str.{bytes_eq}
 use Rattle.droid_lists.specs.declared.format_lists.file_formats.FileFormats.{FileFormats}
 use Rattle.droid_lists.specs.declared.format_lists.format_change.FormatChange.{FormatChange}
-use Rattle.droid_lists.specs.declared.csv_items.format_row.FormatRow.{FormatRow}
+use Rattle.droid_export.specs.declared.reading.format_row.FormatRow.{FormatRow}
 
 -- ---- rows
 

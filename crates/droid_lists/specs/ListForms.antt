@@ -3,7 +3,7 @@ use Rattle.std.specs.Prelude.{ℕ, ◌==◌, ◌||◌, Bool, true, false, not, L
 use Rattle.std.specs.Prelude.{Err, codes, if◌then◌else◌}
 use Rattle.std.specs.List.{position}
 use Rattle.std.specs.Option.{is_some}
-use Rattle.droid_fixity.specs.declared.item.Item.{Item}
+use Rattle.droid_frame.specs.declared.item.Item.{Item}
 use Rattle.droid_fixity.specs.Lists.{items_of}
 use Rattle.droid_fixity.specs.FilePaths.{behind}
 use Rattle.droid_fixity.specs.Texts.{without_mark}

@@ -6,12 +6,12 @@ use Rattle.droid_frame.specs.Hashes.{hash_value_kind}
 use Rattle.droid_frame.specs.declared.hash_kind.HashKind.{HashKind}
 use Rattle.droid_frame.specs.declared.hash_kind.HashKind.TheVariants as kinds
 use Rattle.droid_fixity.specs.Inventories.{AreInOrder, IsTwice}
-use Rattle.droid_fixity.specs.declared.item.Item.{Item}
-use Rattle.droid_lists.specs.FormatRows.{HasRows}
-use Rattle.droid_lists.specs.Profiles.{profile_of}
-use Rattle.droid_lists.specs.declared.csv_items.format_row.FormatRow.{FormatRow}
-use Rattle.droid_lists.specs.declared.csv_items.fault.ListFault.{ListFault}
-use Rattle.droid_lists.specs.declared.csv_items.fault.ListFault.TheVariants as list
+use Rattle.droid_frame.specs.declared.item.Item.{Item}
+use Rattle.droid_export.specs.FormatRows.{HasRows}
+use Rattle.droid_export.specs.Profiles.{profile_of}
+use Rattle.droid_export.specs.declared.reading.format_row.FormatRow.{FormatRow}
+use Rattle.droid_export.specs.declared.reading.fault.ListFault.{ListFault}
+use Rattle.droid_export.specs.declared.reading.fault.ListFault.TheVariants as list
 use Rattle.droid_fixity.specs.Lists.{items_of}
 use Rattle.droid_fixity.specs.declared.checksum_lists.list_fault.ManifestFault.{ManifestFault}
 use Rattle.droid_fixity.specs.declared.checksum_lists.list_fault.ManifestFault.TheVariants as manifest

@@ -5,7 +5,7 @@ use Rattle.droid_frame.specs.declared.hash_value.HashValue.TheVariants as values
 use Rattle.droid_frame.specs.declared.node_kind.NodeKind.{NodeKind}
 use Rattle.droid_frame.specs.declared.node_kind.NodeKind.TheVariants.{File, Folder}
 use Rattle.droid_export.specs.Moments.{IsMoment, moment_text}
-use Rattle.droid_fixity.specs.declared.item.Item.{Item}
+use Rattle.droid_frame.specs.declared.item.Item.{Item}
 
 -- a file has a length, a folder has none
 abbrev pub length_of : NodeKind → ℕ → Option ℕ

@@ -14,11 +14,11 @@ use Rattle.droid_pronom.specs.Found.{extension_of}
 use Rattle.droid_pronom.specs.RegistryFields.{is_puid}
 use Rattle.droid_export.specs.Rows.{parent_text}
 use Rattle.droid_export.specs.Uris.{uri}
-use Rattle.droid_fixity.specs.Paths.{is_file_path}
+use Rattle.droid_frame.specs.Paths.{is_file_path}
 use Rattle.droid_export.specs.Fields.{number_of as digits_of}
-use Rattle.droid_lists.specs.Fields.{has_no_slash}
-use Rattle.droid_lists.specs.Moments.{is_moment}
-use Rattle.droid_lists.specs.Profiles.{shared_columns}
+use Rattle.droid_export.specs.ReadFields.{has_no_slash}
+use Rattle.droid_export.specs.ReadMoments.{is_moment}
+use Rattle.droid_export.specs.Profiles.{shared_columns}
 pub use Rattle.droid_lists.specs.RowReading.{at}
 use Rattle.droid_lists.specs.declared.spelling.row_formats.Texts.{Texts}
 

@@ -3,7 +3,7 @@
 ghost use Rattle.std.specs.Prelude.{◌≡◌, List, []};
 ghost use Rattle.droid_fixity.specs.Reports.{IsReport};
 ghost use Rattle.droid_fixity.specs.declared.difference.Difference.{Difference};
-ghost use Rattle.droid_fixity.specs.declared.item.Item.{Item};
+ghost use Rattle.droid_frame.specs.declared.item.Item.{Item};
 ghost use Rattle.droid_lists.specs.Inventories.{IsInventory};
 
 use droid_fixity::same_items_have_no_difference;

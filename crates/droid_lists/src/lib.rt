@@ -7,7 +7,6 @@
 
 mod agreement_law;
 mod comparison;
-mod csv_items;
 mod entries;
 mod export_law;
 mod format_lists;
@@ -18,10 +17,6 @@ mod node;
 mod spelling;
 
 pub use agreement_law::the_items_of_the_list_agree;
-pub use csv_items::consistency_law::rows_agree;
-pub use csv_items::fault::ListFault;
-pub use csv_items::format_row::FormatRow;
-pub use csv_items::profile::{Profile, read_profile};
 pub use export_law::export_lists_its_records;
 pub use format_lists::file_formats::{FileFormats, Puids};
 pub use format_lists::format_change::{FormatChange, format_changes};

@@ -7,12 +7,10 @@ ghost use Rattle.droid_lists.specs.Listings.{Comes, HasFormats, ListSays, ListSa
 ghost use Rattle.droid_lists.specs.Listings.{manifest_fault, of_manifest, profile_fault};
 ghost use Rattle.droid_lists.specs.declared.list_form.ListForm.TheVariants as forms;
 
-use crate::csv_items::fault::ListFault;
-use crate::csv_items::format_row::FormatRow;
-use crate::csv_items::profile::read_profile;
 use crate::list_form::ListForm;
-use droid_fixity::{Inventory, Item, ManifestFault, ManifestForm, SamePath, read_manifest};
-use droid_frame::HashKind;
+use droid_export::{FormatRow, ListFault, read_profile};
+use droid_fixity::{Inventory, ManifestFault, ManifestForm, SamePath, read_manifest};
+use droid_frame::{HashKind, Item};
 use std::alloc::{AllocError, Global};
 
 /// Why a list cannot be read.

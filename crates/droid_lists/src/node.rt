@@ -6,8 +6,7 @@ ghost use Rattle.droid_lists.specs.Nodes.{IsItemOf};
 ghost use Rattle.droid_lists.specs.Nodes as nodes;
 
 use droid_export::moment_bytes;
-use droid_fixity::Item;
-use droid_frame::{Blob, HashValue, NodeKind};
+use droid_frame::{Blob, HashValue, Item, NodeKind};
 use std::alloc::{AllocError, Global};
 
 /// Makes the item of a folder or file, as an export of its profile shows it: a folder has neither length nor hash.

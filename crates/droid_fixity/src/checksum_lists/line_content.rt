@@ -8,9 +8,7 @@ use crate::checksum_lists::entry::entry_of;
 use crate::checksum_lists::form::{Escapes, ManifestForm};
 use crate::checksum_lists::path::below;
 use crate::checksum_lists::path_text::add_spelled;
-use crate::item::Item;
-use crate::path::is_file_path;
-use droid_frame::{Blob, HashValue, NodeKind};
+use droid_frame::{Blob, HashValue, Item, NodeKind, is_file_path};
 use std::alloc::{AllocError, Global};
 
 /// What a line says.

@@ -11,8 +11,7 @@ use crate::checksum_lists::form::ManifestForm;
 use crate::checksum_lists::line_content::{Meaning, meaning_of};
 use crate::checksum_lists::list_fault::ManifestFault;
 use crate::checksum_lists::text::{ends_line, has_returns, unpaired, without_mark};
-use crate::item::Item;
-use droid_frame::HashValue;
+use droid_frame::{HashValue, Item};
 use std::alloc::{AllocError, Global};
 
 /// Reads a list of checksums. Each line that names a file gives an item with its path and its hash.

@@ -2,7 +2,7 @@
 
 ghost use Rattle.std.specs.Prelude.{◌≡◌, ◌≢◌, ◌↔◌, ℕ, List, [], Ok};
 ghost use Rattle.droid_frame.specs.declared.hash_value.HashValue.{HashValue};
-ghost use Rattle.droid_fixity.specs.declared.item.Item.{Item};
+ghost use Rattle.droid_frame.specs.declared.item.Item.{Item};
 ghost use Rattle.droid_fixity.specs.Grammar.{NamesFile};
 ghost use Rattle.droid_fixity.specs.Lines.{file_item, meaning};
 ghost use Rattle.droid_fixity.specs.Lists.{HaveOneKind, items_of};

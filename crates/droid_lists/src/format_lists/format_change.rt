@@ -6,9 +6,9 @@ ghost use Rattle.std.specs.List.{flat_map};
 ghost use Rattle.droid_lists.specs.Formats as formats;
 ghost use Rattle.droid_lists.specs.ListedFormats as gathered;
 
-use crate::csv_items::format_row::FormatRow;
 use crate::format_lists::file_formats::FileFormats;
 use crate::format_lists::listed_formats::{ListedFormats, formats_in, gathered};
+use droid_export::FormatRow;
 use droid_frame::Blob;
 use std::alloc::{AllocError, Global};
 

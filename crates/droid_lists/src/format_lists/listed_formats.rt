@@ -5,8 +5,8 @@ ghost use Rattle.std.specs.Str.{bytes_eq};
 ghost use Rattle.droid_lists.specs.Formats.{formats_at};
 ghost use Rattle.droid_lists.specs.ListedFormats.{formats_in};
 
-use crate::csv_items::format_row::FormatRow;
 use crate::format_lists::file_formats::add_copy;
+use droid_export::FormatRow;
 use droid_frame::Blob;
 use std::alloc::{AllocError, Global};
 use std::collections::BTreeMap;

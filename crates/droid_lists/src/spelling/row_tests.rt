@@ -5,11 +5,11 @@ ghost use Rattle.std.specs.List.{list_all};
 ghost use Rattle.csv.specs.Records.{fields_of};
 ghost use Rattle.droid_lists.specs.RowTests as tests;
 
-use crate::csv_items::moment::is_moment;
 use crate::spelling::text_number::{is_count, is_size, plain_number};
 use crate::spelling::text_path::text_of;
 use crate::spelling::text_row::field;
 use csv::ByteRecord;
+use droid_export::is_moment;
 use droid_frame::{HashKind, NodeKind};
 
 /// Returns whether a row is that of a file.

@@ -5,10 +5,10 @@ ghost use Rattle.std.specs.Option.{option_map};
 ghost use Rattle.csv.specs.Records.{fields_of};
 ghost use Rattle.droid_lists.specs.RowTests as tests;
 
-use crate::csv_items::fields::{has_no_slash, is_last};
 use crate::spelling::text_row::field;
 use csv::ByteRecord;
-use droid_fixity::is_file_path;
+use droid_export::{has_no_slash, is_last};
+use droid_frame::is_file_path;
 use std::str;
 
 /// Returns the bytes as text, if they are UTF-8.

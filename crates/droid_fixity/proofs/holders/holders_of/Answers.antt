@@ -1,7 +1,7 @@
 use Rattle.std.proofs.Common.{◌∙◌, Some, Option, ap, sym, get_or, arith}
 use Rattle.std.specs.Prelude.{if◌then◌else◌}
 use Rattle.droid_fixity.specs.Holding.{holder_after}
-use Rattle.droid_fixity.specs.Items.{bears}
+use Rattle.droid_frame.specs.Items.{bears}
 use Rattle.droid_fixity.specs.declared.holders.Holder.{Holder}
 use Rattle.droid_fixity.proofs.Moves.{more_held, none_held}
 use Rattle.droid_fixity.proofs.holders.holders_of.Goals as goal

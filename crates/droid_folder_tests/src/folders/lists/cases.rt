@@ -2,8 +2,8 @@
 //! reports of the first cases are written by hand; those of the last sixty, which are random, were computed from the
 //! definition by brute force, in Python.
 
-use droid_fixity::{Changes, Difference, Inventory, Item, compare, same_items_have_no_difference};
-use droid_frame::{Blob, HashValue, NodeKind};
+use droid_fixity::{Difference, Inventory, compare, same_items_have_no_difference};
+use droid_frame::{Blob, Changes, HashValue, Item, NodeKind};
 use std::alloc::{AllocError, Global};
 use std::test::Fail;
 

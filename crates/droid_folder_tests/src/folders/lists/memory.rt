@@ -2,8 +2,8 @@
 //! Out of memory: a call that fails for it works when it is called again.
 
 use crate::folders::lists::cases::{is_reported, items};
+use droid_export::{ListFault, read_profile};
 use droid_fixity::{FilePair, Inventory, file_pairs};
-use droid_lists::{ListFault, read_profile};
 use std::alloc::{AllocError, Global};
 use std::test::Fail;
 

@@ -1,8 +1,8 @@
 //! The examples of the pages README.md of droid_fixity and droid_lists.
 
-use droid_fixity::{Difference, Inventory, Item, compare};
-use droid_frame::{Blob, HashValue, NodeKind};
-use droid_lists::{Profile, read_profile};
+use droid_fixity::{Difference, Inventory, compare};
+use droid_frame::{Blob, HashValue, Item, NodeKind};
+use droid_lists::read_list;
 use std::test::Fail;
 
 /// The names of the columns of a profile with MD5 hashes.
@@ -39,7 +39,8 @@ fn example_of_lists(rt: HostRuntime) -> Result<(), Fail> {
     let csv = format!(in alloc;
         "{NAMES}1,,u,/letter.txt,letter.txt,,Done,5,File,txt,,false,,0,,,,\n"
     )?;
-    if let Ok(Profile { items, .. }) = read_profile(alloc, false, csv.as_bytes()) {
+    if let Ok((listed, _)) = read_list(alloc, false, false, csv.as_bytes()) {
+        let items = listed.items.as_slice();
         assert!(rt; items.len() == 1 && items[0].length == Some(5));
     }
     Ok(())

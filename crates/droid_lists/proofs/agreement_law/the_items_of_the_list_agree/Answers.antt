@@ -1,6 +1,6 @@
 use Rattle.std.proofs.Common.{List, subst}
 use Rattle.droid_fixity.specs.Reports.{IsReport}
-use Rattle.droid_fixity.specs.declared.item.Item.{Item}
+use Rattle.droid_frame.specs.declared.item.Item.{Item}
 use Rattle.droid_lists.proofs.SameInventories.{same_inventory}
 use Rattle.droid_lists.proofs.agreement_law.the_items_of_the_list_agree.Goals as goal
 

@@ -1,0 +1,37 @@
+//! Paths of folders and files.
+
+ghost use Rattle.std.specs.Prelude.{◌≡◌, ◌==◌, not};
+ghost use Rattle.std.specs.List.{list_all};
+ghost use Rattle.droid_frame.specs.Paths as paths;
+
+/// Returns whether this is the path of a folder or a file: `/` and names, `/` between them. A name is neither empty nor
+/// `.` nor `..`, and has no zero byte.
+pub fn is_file_path(path: &[u8]) -> bool
+    ensures { result ≡ paths.is_file_path path.now }
+{
+    match path.split_first() {
+        Some((first, names)) => *first == b'/' && is_plain(names),
+        None => false,
+    }
+}
+
+/// Returns whether a path consists of names with `/` between them.
+fn is_plain(path: &[u8]) -> bool
+    ensures { result ≡ paths.is_plain path.now }
+{
+    path.split(|byte| *byte == b'/').all(|name| is_name(name))
+}
+
+/// Returns whether this is the name of a folder or a file: neither empty nor `.` nor `..`, and without a zero byte.
+fn is_name(name: &[u8]) -> bool
+    ensures { result ≡ paths.is_name name.now }
+{
+    !name.is_empty() && name != b".".as_slice() && name != b"..".as_slice() && has_no_zero(name)
+}
+
+/// Returns whether a name has no zero byte.
+fn has_no_zero(name: &[u8]) -> bool
+    ensures { result ≡ list_all (λ b. not (b == 0)) name.now }
+{
+    name.iter().all(|byte| *byte != 0)
+}

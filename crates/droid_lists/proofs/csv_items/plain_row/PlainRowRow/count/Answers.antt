@@ -1,6 +1,0 @@
-use Rattle.std.proofs.Common.{◌∙◌, length, sym, ap}
-use Rattle.droid_lists.proofs.PlainRows.{count_is}
-use Rattle.droid_lists.proofs.csv_items.plain_row.PlainRowRow.count.Goals as goal
-
-pub returns : goal.returns
-returns c = ap length c.as_slice.ensures ∙ sym (count_is c.args.self.now.fields)

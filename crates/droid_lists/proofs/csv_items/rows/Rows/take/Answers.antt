@@ -1,4 +1,0 @@
-use Rattle.droid_lists.proofs.csv_items.rows.Rows.take.Goals as goal
-
-pub returns-then-repeated : goal.returns-then-repeated
-returns-then-repeated c = rw c.if-repeated.true (c.repeat.ensures c.args.entry)
