@@ -17,7 +17,7 @@ use Rattle.droid_remote.specs.Events as connections
 use Rattle.droid_remote.specs.Events.{Event, Fact, Joined, Alone, Came, Lost, Paused, Expired, Started, facts_after, facts_behind}
 use Rattle.droid_remote.specs.Moves.{Goes}
 use Rattle.droid_remote.specs.Stages.{StandsOn}
-use Rattle.droid_remote.specs.Vouching.{IsKnown, MayAllHappen, MayHappen, MayWrite, adds_node, nothing_known, remember}
+use Rattle.droid_remote.specs.Vouching.{IsKnown, MayAllHappen, MayHappen, MayWrite, adds_newest, nothing_known, remember}
 use Rattle.droid_remote.specs.declared.transfer.in_flight.InFlight.{InFlight}
 use Rattle.droid_remote.specs.declared.transfer.known_requests.Known.{Known}
 use Rattle.droid_remote.specs.declared.transfer.known_requests.KnownRequests.{KnownRequests}
@@ -90,22 +90,22 @@ module _ (known : KnownRequests) (frame : Frame) where
   abbrev IsOld : Known → Type 0
   IsOld one = IsKnown known one ⊎ (one.request ≡ frame)
 
-  known_profile : (reply : Frame) (is : Bool) (one : Known) → IsKnown (cond is (record { profile = Some (record { request = frame; reply = reply }); change = known.change }) known) one → IsOld one
+  known_profile : (reply : Frame) (is : Bool) (one : Known) → IsKnown (cond is (record { profile = Some (record { request = frame; reply = reply }); change = known.change; newest = known.newest }) known) one → IsOld one
   known_profile reply false one known_it = inl known_it
   known_profile reply true one (inl is) = inr cc
   known_profile reply true one (inr is) = inl (inr is)
 
-  known_change : (reply : Frame) (is : Bool) (one : Known) → IsKnown (cond is (record { profile = known.profile; change = Some (record { request = frame; reply = reply }) }) known) one → IsOld one
-  known_change reply false one known_it = inl known_it
-  known_change reply true one (inl is) = inl (inl is)
-  known_change reply true one (inr is) = inr cc
+  known_change : (reply : Frame) (newest : ℕ) (is : Bool) (one : Known) → IsKnown (cond is (record { profile = known.profile; change = Some (record { request = frame; reply = reply }); newest = newest }) known) one → IsOld one
+  known_change reply newest false one known_it = inl known_it
+  known_change reply newest true one (inl is) = inl (inl is)
+  known_change reply newest true one (inr is) = inr cc
 
   known_before : (reply : Reply) (one : Known) → IsKnown (remember known frame reply) one → IsOld one
   known_before (replies.Made profile) one is = known_profile _ _ one is
-  known_before (replies.Node number) one is = known_change _ (adds_node frame.kind) one is
+  known_before (replies.Node number) one is = known_change _ number (adds_newest frame.kind number known.newest) one is
   known_before (replies.Taken held) one is = inl is
-  known_before (replies.Finished method mismatch hash puids) one is = known_change _ (frame.kind == 5) one is
-  known_before replies.Abandoned one is = known_change _ (frame.kind == 6) one is
+  known_before (replies.Finished method mismatch hash puids) one is = known_change _ known.newest (frame.kind == 5) one is
+  known_before replies.Abandoned one is = known_change _ known.newest (frame.kind == 6) one is
   known_before (replies.Progress held missing) one is = inl is
   known_before (replies.Part as_of total bytes) one is = inl is
   known_before (replies.Refused refusal) one is = inl is

@@ -7,7 +7,7 @@ use Rattle.droid_frame.specs.declared.reply.Reply.{Reply}
 use Rattle.droid_frame.specs.declared.reply.Reply.TheVariants.{Made, Node, Taken, Finished, Abandoned, Progress, Part, Refused}
 use Rattle.droid_remote.specs.Events.{Fact, Written, Received}
 use Rattle.droid_remote.specs.Stages.{AreIn, CountsOn, HasFirst, counted}
-use Rattle.droid_remote.specs.Vouching.{IsRepeated, IsVouched, adds_node, remember_as}
+use Rattle.droid_remote.specs.Vouching.{IsRepeated, IsVouched, adds_newest, remember_as}
 use Rattle.droid_remote.specs.declared.transfer.connection_steps.Stage.TheVariants.{Nowhere, First, Answered, All}
 use Rattle.droid_remote.specs.declared.transfer.known_requests.Known.{Known}
 use Rattle.droid_remote.specs.declared.transfer.known_requests.KnownRequests.{KnownRequests}
@@ -101,23 +101,23 @@ module _ (known : KnownRequests) where
   -- ---- what becomes known
 
   vouched_profile : (facts : List Fact) (answer : Known) (is : Bool) → IsVouched known facts → IsRepeated facts answer
-      → IsVouched (cond is (record { profile = Some answer; change = known.change }) known) facts
+      → IsVouched (cond is (record { profile = Some answer; change = known.change; newest = known.newest }) known) facts
   vouched_profile facts answer false vouched repeated one is = vouched one is
   vouched_profile facts answer true vouched repeated one (inl is) = subst (λ (k : Known). IsRepeated facts k) (cc) repeated
   vouched_profile facts answer true vouched repeated one (inr is) = vouched one (inr is)
 
-  vouched_change : (facts : List Fact) (answer : Known) (is : Bool) → IsVouched known facts → IsRepeated facts answer
-      → IsVouched (cond is (record { profile = known.profile; change = Some answer }) known) facts
-  vouched_change facts answer false vouched repeated one is = vouched one is
-  vouched_change facts answer true vouched repeated one (inl is) = vouched one (inl is)
-  vouched_change facts answer true vouched repeated one (inr is) = subst (λ (k : Known). IsRepeated facts k) (cc) repeated
+  vouched_change : (facts : List Fact) (answer : Known) (newest : ℕ) (is : Bool) → IsVouched known facts → IsRepeated facts answer
+      → IsVouched (cond is (record { profile = known.profile; change = Some answer; newest = newest }) known) facts
+  vouched_change facts answer newest false vouched repeated one is = vouched one is
+  vouched_change facts answer newest true vouched repeated one (inl is) = vouched one (inl is)
+  vouched_change facts answer newest true vouched repeated one (inr is) = subst (λ (k : Known). IsRepeated facts k) (cc) repeated
 
   pub vouched_known : (facts : List Fact) (answer : Known) (reply : Reply) → IsVouched known facts → IsRepeated facts answer → IsVouched (remember_as known answer reply) facts
   vouched_known facts answer (Made profile) vouched repeated = vouched_profile facts answer _ vouched repeated
-  vouched_known facts answer (Node number) vouched repeated = vouched_change facts answer (adds_node answer.request.kind) vouched repeated
+  vouched_known facts answer (Node number) vouched repeated = vouched_change facts answer number (adds_newest answer.request.kind number known.newest) vouched repeated
   vouched_known facts answer (Taken held) vouched repeated = vouched
-  vouched_known facts answer (Finished method mismatch hash puids) vouched repeated = vouched_change facts answer (answer.request.kind == 5) vouched repeated
-  vouched_known facts answer Abandoned vouched repeated = vouched_change facts answer (answer.request.kind == 6) vouched repeated
+  vouched_known facts answer (Finished method mismatch hash puids) vouched repeated = vouched_change facts answer known.newest (answer.request.kind == 5) vouched repeated
+  vouched_known facts answer Abandoned vouched repeated = vouched_change facts answer known.newest (answer.request.kind == 6) vouched repeated
   vouched_known facts answer (Progress held missing) vouched repeated = vouched
   vouched_known facts answer (Part as_of total bytes) vouched repeated = vouched
   vouched_known facts answer (Refused refusal) vouched repeated = vouched

@@ -1,5 +1,6 @@
 -- How a new connection is vouched for: the service repeats its replies to the known requests (this project's own).
-use Rattle.std.specs.Prelude.{◌≡◌, ◌⊎◌, ℕ, ◌==◌, ◌||◌, Bool, if◌then◌else◌, List, [], ◌∷◌, Contains, Option, Some, None}
+use Rattle.std.specs.Prelude.{◌≡◌, ◌⊎◌, ℕ, ◌==◌, ◌&&◌, ◌||◌, nat_le, Bool, if◌then◌else◌}
+use Rattle.std.specs.Prelude.{List, [], ◌∷◌, Contains, Option, Some, None}
 use Rattle.droid_frame.specs.declared.frame.Frame.{Frame}
 use Rattle.droid_frame.specs.declared.reply.Reply.{Reply}
 use Rattle.droid_frame.specs.declared.reply.Reply.TheVariants.{Made, Node, Finished, Abandoned}
@@ -10,7 +11,7 @@ use Rattle.droid_remote.specs.declared.transfer.known_requests.KnownRequests.{Kn
 
 -- nothing is known yet
 abbrev pub nothing_known : KnownRequests
-nothing_known = record { profile = None; change = None }
+nothing_known = record { profile = None; change = None; newest = 0 }
 
 -- this is a known request
 abbrev pub IsKnown : KnownRequests → Known → Type 0
@@ -52,16 +53,25 @@ MayAllHappen all Is facts (event ∷ events) =
 abbrev pub adds_node : ℕ → Bool
 adds_node kind = (kind == 2) || (kind == 3)
 
+-- it adds a node, and the node's number is not lower than the greatest so far
+abbrev pub adds_newest : ℕ → ℕ → ℕ → Bool
+adds_newest kind number newest = adds_node kind && nat_le newest number
+
+-- an answer is the last change
+abbrev pub changed_by : KnownRequests → Known → KnownRequests
+changed_by all answer = record { profile = all.profile; change = Some answer; newest = all.newest }
+
 -- what is known after an answer
 abbrev pub remember_as : KnownRequests → Known → Reply → KnownRequests
 remember_as all answer (Made profile) =
-    if answer.request.kind == 1 then record { profile = Some answer; change = all.change } else all
+    if answer.request.kind == 1 then record { profile = Some answer; change = all.change; newest = all.newest } else all
 remember_as all answer (Node number) =
-    if adds_node answer.request.kind then record { profile = all.profile; change = Some answer } else all
+    if adds_newest answer.request.kind number all.newest
+    then record { profile = all.profile; change = Some answer; newest = number } else all
 remember_as all answer (Finished method mismatch hash puids) =
-    if answer.request.kind == 5 then record { profile = all.profile; change = Some answer } else all
+    if answer.request.kind == 5 then changed_by all answer else all
 remember_as all answer Abandoned =
-    if answer.request.kind == 6 then record { profile = all.profile; change = Some answer } else all
+    if answer.request.kind == 6 then changed_by all answer else all
 remember_as all answer _ = all
 
 -- the frame of a reply to this request
@@ -70,6 +80,8 @@ reply_to frame reply = frame_of_reply frame.version frame.client frame.number re
 
 -- What is known after a request and its reply. A CreateProfile (kind 1) that is answered by Made takes the place of the
 -- last one. So does a change of its nodes: an AddFolder or AddFile (2 and 3) that is answered by Node, a Finish (5) by
--- Finished, and an Abandon (6) by Abandoned.
+-- Finished, and an Abandon (6) by Abandoned. A node with a lower number than one before is no change: it was there
+-- before that one. A service numbers the nodes of a profile in order: if it has forgotten all of them, the request of
+-- the greatest number gets it only where there is no other.
 abbrev pub remember : KnownRequests → Frame → Reply → KnownRequests
 remember all frame reply = remember_as all (record { request = frame; reply = reply_to frame reply }) reply

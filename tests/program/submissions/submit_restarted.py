@@ -6,7 +6,7 @@ import unittest
 from concurrent.futures import ThreadPoolExecutor
 
 from lib.connections import connect, read_frame
-from lib.frames import MADE, NODE, PART, create, cut, export
+from lib.frames import ADD_FILE, ADD_FOLDER, MADE, NODE, PART, create, cut, export
 from lib.lying import Lying, at, restart, restart_for_another, truth
 from lib.program import Serve
 from lib.rows import COLUMNS
@@ -67,6 +67,30 @@ class Restarted(WithSmallTree):
             self.assertEqual(os.path.exists(self.export_of(place)), ended[0] != 4, place)
             service.lie = truth
             self.ends_whole(service.port, place)
+
+    def test_a_lower_number(self):
+        """A file of an earlier run has a lower number than what came before it in this one. The new service would give it
+        that number again, so another request has to show that it is new."""
+        with Lying() as service:
+            self.ends_whole(service.port, 0)
+            frames = list(service.frames)
+        folder = next(one for one in frames if one.kind == ADD_FOLDER)
+        last = next(one for one in frames if one.kind == ADD_FILE and one.body.endswith(b"z.bin"))
+
+        def behind_the_last(service, request):
+            """Restarts at the request behind that for the file of the earlier run."""
+            if service.frames[-2:-1] != [last]:
+                return truth(service, request)
+            service.lie = truth
+            return restart(service, request)
+
+        with Lying(behind_the_last) as service:
+            for one in (frames[0], last):
+                truth(service, one)
+            ended = submit(self.top, service.port, 7)
+            self.assertEqual(ended, (4, fault("Restarted", RESTARTED % service.port)))
+            self.assertEqual(service.frames[-2:], [frames[0], folder])
+            self.ends_whole(service.port, 1)
 
     def test_for_another_client(self):
         """Meanwhile another client made a profile, which has the number that this client's profile had."""

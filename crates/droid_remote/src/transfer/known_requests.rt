@@ -2,7 +2,7 @@
 
 ghost use Rattle.std.specs.Prelude.{◌≡◌, None, IfErr, IfOk, OnErr};
 ghost use Rattle.droid_frame.specs.Replies.{SpellsReply};
-ghost use Rattle.droid_remote.specs.Vouching.{adds_node, remember_as};
+ghost use Rattle.droid_remote.specs.Vouching.{adds_newest, adds_node, remember_as};
 ghost use Rattle.droid_remote.specs.TransferFaults.{ExplainsBody};
 
 use crate::transfer::reply_checks::{copy_of, read_reply};
@@ -26,9 +26,11 @@ pub struct Known {
 pub struct KnownRequests {
     /// The last CreateProfile that was answered by Made.
     pub profile: Option<Known>,
-    /// The last change of the profile's nodes: an AddFolder or AddFile that was answered by Node, a Finish by Finished,
-    /// or an Abandon by Abandoned.
+    /// The last change of the profile's nodes: an AddFolder or AddFile that was answered by Node with the greatest
+    /// number so far, a Finish by Finished, or an Abandon by Abandoned.
     pub change: Option<Known>,
+    /// The greatest number of a node so far, or 0.
+    pub newest: u32,
 }
 
 impl KnownRequests {
@@ -36,10 +38,12 @@ impl KnownRequests {
     pub(crate) fn new() -> KnownRequests
         ensures profile { result.profile ≡ None }
         ensures change { result.change ≡ None }
+        ensures newest { result.newest ≡ 0 }
     {
         KnownRequests {
             profile: None,
             change: None,
+            newest: 0,
         }
     }
 
@@ -66,6 +70,9 @@ impl KnownRequests {
     }
 
     /// Remembers an answer if a profile was made or a node was made, finished or abandoned.
+    ///
+    /// A node with a lower number than another one was there before that one. A service that was restarted and has
+    /// forgotten both may number its first node so, whatever it is: its reply would vouch for nothing.
     fn remember(&mut self, answer: Known, reply: &Reply)
         ensures { self.new ≡ remember_as self.old answer reply.now }
     {
@@ -75,9 +82,10 @@ impl KnownRequests {
                     self.profile = Some(answer);
                 }
             }
-            Reply::Node { .. } => {
-                if adds_node(answer.request.kind) {
+            Reply::Node { id } => {
+                if adds_newest(answer.request.kind, *id, self.newest) {
                     self.change = Some(answer);
+                    self.newest = *id;
                 }
             }
             Reply::Finished { .. } => {
@@ -93,6 +101,13 @@ impl KnownRequests {
             _ => {}
         }
     }
+}
+
+/// Returns whether a request of this kind adds a node, and its number is not lower than the greatest so far.
+fn adds_newest(kind: u8, number: u32, newest: u32) -> bool
+    ensures { result ≡ adds_newest kind number newest }
+{
+    adds_node(kind) && newest <= number
 }
 
 /// Returns whether this is the kind of AddFolder or AddFile.
