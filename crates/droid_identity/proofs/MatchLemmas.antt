@@ -1,12 +1,13 @@
 -- The match that the two searches find, and the matches of a signature.
-use Rattle.std.proofs.Common.{◌≡◌, ℕ, zero, suc, ◌-◌, ◌≤◌, ◌<◌, List, [], ◌∷◌, ◌++◌, length, Some, refl, inl, inr, append_assoc, arith}
+use Rattle.std.proofs.Common.{◌≡◌, ℕ, zero, suc, ◌+◌, ◌-◌, ◌≤◌, ◌<◌, List, [], ◌∷◌, ◌++◌, length, Some, refl, inl, inr, append_assoc, arith}
 use Rattle.std.specs.List.{slice_get, AllByRecursion}
 use Rattle.droid_pronom.specs.Registry.{AnyOf}
 use Rattle.droid_pronom.specs.declared.rows.ByteSequence.{ByteSequence}
 use Rattle.droid_identity.specs.declared.found_match.Match.{Match}
 use Rattle.droid_identity.specs.Matches.{IsMatch, HitsIn, IsNearest}
 use Rattle.droid_identity.specs.Bases.{AreMatches}
-use Rattle.droid_identity.specs.Spans.{IsAt, Between, IsLeast, IsReach}
+use Rattle.droid_identity.specs.Spans.{IsAt, Between, IsFirst, IsReach, beyond}
+use Rattle.droid_identity.proofs.SpanLemmas.{at_beyond, beyond_at}
 
 -- ---- one byte sequence
 
@@ -17,14 +18,18 @@ module _ (bytes : List ℕ) (q : ByteSequence) where
   pub hit_between : HitsIn bytes (length bytes) q → Between q.offsets.anchor q.pattern bytes q.offsets.min q.offsets.max
   hit_between h = record { offset = h.offset; count = h.count; from_low = h.is.from_min; to_high = h.is.to_max; there = match_at h.offset h.count h.is }
 
-  pub nearest_found : (o r : ℕ) → q.offsets.min ≤ o → o ≤ q.offsets.max → IsLeast q.offsets.anchor q.pattern bytes q.offsets.min o → IsReach q.offsets.anchor q.pattern bytes o r
-      → IsNearest bytes (length bytes) q (record { anchor = q.offsets.anchor; offset = o; count = r - o })
-  nearest_found o r from to least reach = record {
-    anchor = refl;
-    is = record { from_min = from; to_max = to; inside = omega (arith, reach.there.inside); matched = reach.there.matched };
-    nearest = λ offset count is. least offset count is.from_min (match_at offset count is);
-    shortest = λ count is. let far = reach.least count (match_at o count is) in omega (arith, far);
-  }
+  -- the first match, and the shortest one where it begins
+  pub nearest_found : (o c : ℕ) → o ≤ length bytes → IsFirst q.offsets.anchor q.pattern bytes q.offsets.min q.offsets.max o → IsReach q.offsets.anchor q.pattern (beyond q.offsets.anchor bytes o) 0 c
+      → IsNearest bytes (length bytes) q (record { anchor = q.offsets.anchor; offset = o; count = c })
+  nearest_found o c fits first reach =
+      let same : o + 0 ≡ o = omega arith in
+      let all : c - 0 ≡ c = omega arith in
+      let here : IsAt q.offsets.anchor q.pattern bytes o c = rw same at (at_beyond q.offsets.anchor q.pattern bytes o fits 0 c (rw all at reach.there)) in record {
+        anchor = refl;
+        is = record { from_min = first.from_low; to_max = first.to_high; inside = omega (arith, here.inside); matched = here.matched };
+        nearest = λ offset count is. first.least offset count is.from_min (match_at offset count is);
+        shortest = λ count is. let far = reach.least count (beyond_at q.offsets.anchor q.pattern bytes o fits 0 count (rw same (match_at o count is))) in omega (arith, far);
+      }
 
 -- ---- the byte sequences of a signature
 

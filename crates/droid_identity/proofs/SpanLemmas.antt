@@ -1,12 +1,12 @@
 -- Bytes at one end of others, and the steps of the two searches.
-use Rattle.std.proofs.Common.{◌≡◌, ◌↔◌, ℕ, ◌+◌, ◌-◌, ◌≤◌, List, length, take, drop, ap, ◌∙◌, inl, inr, arith}
+use Rattle.std.proofs.Common.{◌≡◌, ◌↔◌, ℕ, ◌+◌, ◌-◌, ◌≤◌, ◌<◌, min, List, length, take, drop, ap, sym, ◌∙◌, inl, inr, arith}
 use Rattle.std.proofs.lemmas.Bool.{cases_lt}
 use Rattle.std.proofs.lemmas.List.{drop-drop, take-take, drop-take, length-take-le, length-drop}
 use Rattle.droid_pattern.specs.Patterns.{Element}
 use Rattle.droid_pronom.specs.Finding.{part}
 use Rattle.droid_pronom.specs.declared.rows.Anchor.{Anchor}
 use Rattle.droid_pronom.specs.declared.rows.Anchor.TheVariants.{Bof, Eof}
-use Rattle.droid_identity.specs.Spans.{IsAt, Between, IsLeast, Reaches, IsLeastReach, IsReach, near}
+use Rattle.droid_identity.specs.Spans.{IsAt, Between, IsFirst, IsLeast, Reaches, IsLeastReach, IsReach, beyond, near}
 
 -- ---- a part of the bytes at one end is a part of all
 
@@ -81,3 +81,84 @@ module _ (anchor : Anchor) (es : List Element) (bytes : List ℕ) where
       let far = least r.count r.there in
       let e : r.count ≡ reach - offset = omega (arith, far, r.within) in
       record { beyond = omega (arith, far, r.within); there = rw e at r.there; least = least }
+
+-- ---- a part of the bytes behind an offset is a part of all
+
+length_beyond : (anchor : Anchor) (bytes : List ℕ) (low : ℕ) → length (beyond anchor bytes low) ≡ length bytes - low
+length_beyond Bof bytes low = length-drop low bytes
+length_beyond Eof bytes low = length-take-le (length bytes - low) bytes (omega arith)
+
+part_beyond : (anchor : Anchor) (bytes : List ℕ) (low o c : ℕ) → low + (o + c) ≤ length bytes → part anchor (beyond anchor bytes low) o c ≡ part anchor bytes (low + o) c
+part_beyond Bof bytes low o c inside = ap (λ (xs : List ℕ). take c xs) (drop-drop o low bytes)
+part_beyond Eof bytes low o c inside =
+    let before : ℕ = length bytes - ((low + o) + c) in
+    let same : (length bytes - low) - (o + c) ≡ before = omega arith in
+    let whole : length bytes - low ≡ before + (o + c) = omega (arith, inside) in
+    ap (λ (n : ℕ). take c (drop (n - (o + c)) (take (length bytes - low) bytes))) (length_beyond Eof bytes low)
+    ∙ ap (λ (n : ℕ). take c (drop n (take (length bytes - low) bytes))) same
+    ∙ ap (λ (n : ℕ). take c (drop before (take n bytes))) whole
+    ∙ ap (λ (xs : List ℕ). take c xs) (drop-take before (o + c) bytes)
+    ∙ take-take c (o + c) (drop before bytes) (omega arith)
+
+module _ (anchor : Anchor) (es : List Element) (bytes : List ℕ) (low : ℕ) (fits : low ≤ length bytes) where
+  pub at_beyond : (o c : ℕ) → IsAt anchor es (beyond anchor bytes low) o c → IsAt anchor es bytes (low + o) c
+  at_beyond o c h =
+      let inside : low + (o + c) ≤ length bytes = omega (arith, h.inside, length_beyond anchor bytes low, fits) in
+      record { inside = omega (arith, inside); matched = rw (part_beyond anchor bytes low o c inside) at h.matched }
+
+  pub beyond_at : (o c : ℕ) → IsAt anchor es bytes (low + o) c → IsAt anchor es (beyond anchor bytes low) o c
+  beyond_at o c h =
+      let inside : low + (o + c) ≤ length bytes = omega (arith, h.inside) in
+      record { inside = omega (arith, inside, length_beyond anchor bytes low, fits); matched = rw (part_beyond anchor bytes low o c inside) h.matched }
+
+  -- the same, for an offset that is not below the first one
+  beyond_from : (o c : ℕ) → low ≤ o → IsAt anchor es bytes o c → IsAt anchor es (beyond anchor bytes low) (o - low) c
+  beyond_from o c from h = let e : o ≡ low + (o - low) = omega (arith, from) in beyond_at (o - low) c (rw (sym e) h)
+
+  -- no match begins at the offset or at one of the next ones
+  pub none_beyond : (most : ℕ) → (Between anchor es (beyond anchor bytes low) 0 most → ⊥) → Between anchor es bytes low (low + most) → ⊥
+  none_beyond most none b = none (record {
+    offset = b.offset - low;
+    count = b.count;
+    from_low = omega arith;
+    to_high = omega (arith, b.from_low, b.to_high);
+    there = beyond_from b.offset b.count b.from_low b.there;
+  })
+
+  pub between_beyond : (k : ℕ) → Between anchor es (beyond anchor bytes low) k k → Between anchor es bytes (low + k) (low + k)
+  between_beyond k b = record {
+    offset = low + b.offset;
+    count = b.count;
+    from_low = omega (arith, b.from_low);
+    to_high = omega (arith, b.to_high);
+    there = at_beyond b.offset b.count b.there;
+  }
+
+  -- a match at the offset is one at the beginning of the bytes behind it
+  pub begins_beyond : Between anchor es bytes low low → Between anchor es (beyond anchor bytes low) 0 0
+  begins_beyond b = record {
+    offset = b.offset - low;
+    count = b.count;
+    from_low = omega arith;
+    to_high = omega (arith, b.to_high);
+    there = beyond_from b.offset b.count b.from_low b.there;
+  }
+
+  -- the first match from the offset on is the first of all, if no match is before that
+  pub first_beyond : (from high k most : ℕ) → from ≤ low → low + most ≤ high → IsLeast anchor es bytes from low → IsFirst anchor es (beyond anchor bytes low) 0 most k
+      → IsFirst anchor es bytes from high (low + k)
+  first_beyond from high k most begun under least f = record {
+    from_low = omega (arith, begun);
+    to_high = omega (arith, under, f.to_high);
+    there = between_beyond k f.there;
+    least = λ other count after is.
+        let behind = least other count after is in
+        let far = f.least (other - low) count (omega arith) (beyond_from other count behind is) in
+        omega (arith, behind, far);
+  }
+
+-- no match at an offset that may be: none from the first on, or the first one lies behind the last
+pub none_up_to : (anchor : Anchor) (es : List Element) (bytes : List ℕ) (low high first : ℕ) → IsLeast anchor es bytes low first → min high (length bytes) < first → Between anchor es bytes low high → ⊥
+none_up_to anchor es bytes low high first least over b =
+    let far = least b.offset b.count b.from_low b.there in
+    omega (arith, far, over, b.to_high, b.there.inside)

@@ -38,7 +38,19 @@ pub record IsReach (anchor : Anchor) (es : List Element) (bytes : List ℕ) (off
   pub there : IsAt anchor es bytes offset (reach - offset)
   pub least : IsLeastReach anchor es bytes offset reach
 
+-- the match with the least offset from low to high has this offset
+pub record IsFirst (anchor : Anchor) (es : List Element) (bytes : List ℕ) (low high offset : ℕ) : Type 0 where
+  pub from_low : low ≤ offset
+  pub to_high : offset ≤ high
+  pub there : Between anchor es bytes offset offset
+  pub least : IsLeast anchor es bytes low offset
+
 -- the bytes at that end
 abbrev pub near : Anchor → List ℕ → ℕ → List ℕ
 near Bof bytes reach = take reach bytes
 near Eof bytes reach = drop (length bytes - reach) bytes
+
+-- all bytes but so many at that end
+abbrev pub beyond : Anchor → List ℕ → ℕ → List ℕ
+beyond Bof bytes count = drop count bytes
+beyond Eof bytes count = take (length bytes - count) bytes

@@ -5,8 +5,7 @@ ghost use Rattle.droid_identity.specs.Matches.{HitsIn, IsNearest, window_of};
 
 use crate::found_match::Match;
 use crate::reach::least_reach;
-use crate::search::{is_between, least_offset};
-use droid_pattern::ClassCache;
+use crate::search::{beyond, first_offset};
 use droid_pronom::{Anchor, ByteSequence};
 use std::alloc::{AllocError, Global};
 
@@ -33,17 +32,16 @@ pub fn nearest_match(
     ensures { IfOk result (λ found. MatchOption found (¬ (HitsIn window.now (length window.now) sequence.now))
         (IsNearest window.now (length window.now) sequence.now)) }
 {
+    let anchor = sequence.offsets.anchor;
     let min = sequence.offsets.min as usize;
     let max = sequence.offsets.max as usize;
-    let mut classes = ClassCache::new(alloc);
-    if !is_between(alloc, sequence, window, min, max, &mut classes)? {
+    let Some(offset) = first_offset(alloc, sequence, window, min, max)? else {
         return Ok(None);
-    }
-    let offset = least_offset(alloc, sequence, window, min, max, &mut classes)?;
-    let reach = least_reach(alloc, sequence, window, offset)?;
+    };
+    let count = least_reach(alloc, sequence, beyond(anchor, window, offset))?;
     Ok(Some(Match {
-        anchor: sequence.offsets.anchor,
+        anchor,
         offset: offset as u32,
-        count: (reach - offset) as u32,
+        count: count as u32,
     }))
 }

@@ -1,4 +1,4 @@
-//! Finds the shortest match of a byte sequence at one offset.
+//! Finds the shortest match of a byte sequence at the beginning or the end of some bytes.
 
 ghost use Rattle.std.specs.Prelude.{◌≡◌, ◌≤◌, ◌↔◌, IfOk, IsTrue, length};
 ghost use Rattle.droid_identity.specs.Spans.{Between, Reaches, IsReach, near};
@@ -8,8 +8,8 @@ use droid_pattern::ClassCache;
 use droid_pronom::{Anchor, ByteSequence};
 use std::alloc::{AllocError, Global};
 
-/// How many bytes behind the offset are searched first. Most matches are shorter.
-const FIRST_TRY: usize = 256;
+/// How many bytes are searched first. Twice as many are searched after them, and so on.
+const FIRST_TRY: usize = 32;
 
 /// Returns the bytes at one end: at the beginning for `Bof`, at the end for `Eof`.
 fn near(anchor: Anchor, bytes: &[u8], reach: usize) -> &[u8]
@@ -22,57 +22,52 @@ fn near(anchor: Anchor, bytes: &[u8], reach: usize) -> &[u8]
     }
 }
 
-/// Returns whether a match of the byte sequence at this offset lies within `reach` bytes of its end of the bytes.
+/// Returns whether a match of the byte sequence at its end of the bytes lies within `reach` bytes.
 fn reaches(
     alloc: Global,
     sequence: &ByteSequence,
     bytes: &[u8],
-    offset: usize,
     reach: usize,
 ) -> Result<bool, AllocError>
     requires { reach ≤ length bytes.now }
     ensures { IfOk result (λ found. IsTrue found
-        ↔ Reaches sequence.now.offsets.anchor sequence.now.pattern bytes.now offset reach) }
+        ↔ Reaches sequence.now.offsets.anchor sequence.now.pattern bytes.now 0 reach) }
 {
     let mut classes = ClassCache::new(alloc);
     let cut = near(sequence.offsets.anchor, bytes, reach);
-    is_between(alloc, sequence, cut, offset, offset, &mut classes)
+    is_between(alloc, sequence, cut, 0, 0, &mut classes)
 }
 
-/// Returns a reach within which the byte sequence matches at this offset. It matches there.
-fn some_reach(
-    alloc: Global,
-    sequence: &ByteSequence,
-    bytes: &[u8],
-    offset: usize,
-) -> Result<usize, AllocError>
-    requires { Between sequence.now.offsets.anchor sequence.now.pattern bytes.now offset offset }
+/// Returns a number of bytes within which the byte sequence matches at its end of the bytes. It matches there.
+fn some_reach(alloc: Global, sequence: &ByteSequence, bytes: &[u8]) -> Result<usize, AllocError>
+    requires { Between sequence.now.offsets.anchor sequence.now.pattern bytes.now 0 0 }
     ensures inside { IfOk result (λ reach. reach ≤ length bytes.now) }
-    ensures there { IfOk result (Reaches sequence.now.offsets.anchor sequence.now.pattern bytes.now offset) }
+    ensures there { IfOk result (Reaches sequence.now.offsets.anchor sequence.now.pattern bytes.now 0) }
 {
-    let reach = offset.saturating_add(FIRST_TRY).min(bytes.len());
-    if reaches(alloc, sequence, bytes, offset, reach)? {
-        return Ok(reach);
+    let mut reach = FIRST_TRY;
+    while reach < bytes.len() {
+        if reaches(alloc, sequence, bytes, reach)? {
+            return Ok(reach);
+        }
+        reach = reach.saturating_mul(2);
     }
     Ok(bytes.len())
 }
 
-/// Returns how far the shortest match at this offset reaches: the number of bytes between its far end and its end of
-/// the bytes. The byte sequence matches at this offset.
+/// Returns how many bytes the shortest match at its end of the bytes has. The byte sequence matches there.
 pub(crate) fn least_reach(
     alloc: Global,
     sequence: &ByteSequence,
     bytes: &[u8],
-    offset: usize,
 ) -> Result<usize, AllocError>
-    requires { Between sequence.now.offsets.anchor sequence.now.pattern bytes.now offset offset }
-    ensures { IfOk result (IsReach sequence.now.offsets.anchor sequence.now.pattern bytes.now offset) }
+    requires { Between sequence.now.offsets.anchor sequence.now.pattern bytes.now 0 0 }
+    ensures { IfOk result (IsReach sequence.now.offsets.anchor sequence.now.pattern bytes.now 0) }
 {
-    let mut least = offset;
-    let mut most = some_reach(alloc, sequence, bytes, offset)?;
+    let mut least = 0;
+    let mut most = some_reach(alloc, sequence, bytes)?;
     while least < most {
         let middle = least + (most - least) / 2;
-        if reaches(alloc, sequence, bytes, offset, middle)? {
+        if reaches(alloc, sequence, bytes, middle)? {
             most = middle;
         } else {
             least = middle + 1;

@@ -7,8 +7,8 @@ abbrev pub invariant-loop-least : goal.invariant-loop-least
 invariant-loop-least l =
     (l.least ≤ l.most)
     × (l.most ≤ length l.bytes)
-    × Reaches l.sequence.offsets.anchor l.sequence.pattern l.bytes l.offset l.most
-    × IsLeastReach l.sequence.offsets.anchor l.sequence.pattern l.bytes l.offset l.least
+    × Reaches l.sequence.offsets.anchor l.sequence.pattern l.bytes 0 l.most
+    × IsLeastReach l.sequence.offsets.anchor l.sequence.pattern l.bytes 0 l.least
 
 abbrev pub decreases-loop-least : goal.decreases-loop-least
 decreases-loop-least l = l.most - l.least
