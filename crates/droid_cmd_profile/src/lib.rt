@@ -23,6 +23,7 @@ pub use other_files::OtherFiles;
 pub use output_told::told_output;
 pub use pages::csv_page::{PageTexts, page_of_csv};
 pub use pages::csv_report::{page_now, put_page, title_of};
+pub use pages::csv_told::told_no_csv;
 pub use pages::page_fault::PageFault;
 pub use pages::page_writer::write_page;
 pub use pages::profile_report::report_profile;

@@ -1,14 +1,12 @@
 -- How the comparison of a folder ends (this project's own).
-use Rattle.std.specs.Prelude.{◌≡◌, ℕ, List, [], ◌++◌, Some, None, codes, decimal}
+use Rattle.std.specs.Prelude.{◌≡◌, ℕ, List, [], Some, None, codes}
 use Rattle.std.specs.declared.io.ErrorKind.{ErrorKind}
 use Rattle.std.specs.declared.io.ErrorKind.TheVariants as kinds
 use Rattle.droid_fixity.specs.declared.checksum_lists.list_fault.ManifestFault.{ManifestFault}
 use Rattle.droid_fixity.specs.declared.checksum_lists.list_fault.ManifestFault.TheVariants as manifests
-use Rattle.droid_export.specs.Table.{name_of, names_of}
-use Rattle.droid_export.specs.declared.reading.fault.ListFault.{ListFault}
-use Rattle.droid_export.specs.declared.reading.fault.ListFault.TheVariants as profiles
+use Rattle.droid_cmd_profile.specs.Endings.{at_number, told_no_csv}
 use Rattle.droid_terminal.specs.Endings as endings
-use Rattle.droid_terminal.specs.Endings.{Said, Told, by, detailed, of_path}
+use Rattle.droid_terminal.specs.Endings.{Told, by, detailed, of_path}
 use Rattle.droid_terminal.specs.FaultTable as table
 use Rattle.droid_terminal.specs.Paths.{shown_text}
 use Rattle.droid_terminal.specs.SeenAgain.{IsNoFolder}
@@ -34,42 +32,23 @@ unchecked faults.Memory = NoMemory
 unchecked faults.Numbers = Numbers
 unchecked (faults.Twice same) = Twice
 
--- a row whose sentence names a line or a record
-abbrev pub at_line : Said → List ℕ → ℕ → Told
-at_line row list line = detailed row (of_path list) (Some (decimal line))
-
--- one that also names a column of the record
-abbrev pub at_column : Said → List ℕ → ℕ → List ℕ → Told
-at_column row list line name = detailed row (of_path list) (Some (decimal line ++ (codes ": " ++ name)))
-
 -- of a list that could not be opened or read
 abbrev pub told_unopened : ErrorKind → List ℕ → Told
 told_unopened kinds.NotFound list = by table.list_missing (of_path list)
 told_unopened kind list = detailed table.list_unopened (of_path list) None
 
--- of a profile's CSV that is malformed
-abbrev pub told_no_profile : ListFault → List ℕ → Told
-told_no_profile profiles.Memory list = by table.memory []
-told_no_profile profiles.Header list = by table.list_other (of_path list)
-told_no_profile (profiles.Missing column) list = detailed table.list_lacks (of_path list) (Some (names_of column))
-told_no_profile (profiles.Fields number) list = at_line table.list_fields list number
-told_no_profile (profiles.Column number column hash) list =
-    at_column table.list_wrong list number (name_of hash column)
-told_no_profile (profiles.Contradiction number column) list =
-    at_column table.list_contradicts list number (names_of column)
-
 -- of a list of checksums that is malformed or names no file
 abbrev pub told_no_manifest : ManifestFault → List ℕ → Told
 told_no_manifest manifests.Memory list = by table.memory []
 told_no_manifest manifests.Empty list = by table.list_of_nothing (of_path list)
-told_no_manifest (manifests.Line line) list = at_line table.list_line list line
-told_no_manifest (manifests.Path line) list = at_line table.list_outside list line
-told_no_manifest (manifests.Digest line) list = at_line table.list_digest list line
+told_no_manifest (manifests.Line line) list = at_number table.list_line list line
+told_no_manifest (manifests.Path line) list = at_number table.list_outside list line
+told_no_manifest (manifests.Digest line) list = at_number table.list_digest list line
 
 -- of a list that can't be read, for any of these reasons
 abbrev pub told_no_list : UnreadList → List ℕ → Told
 told_no_list lists.Memory list = by table.memory []
-told_no_list (lists.Profile fault) list = told_no_profile fault list
+told_no_list (lists.Profile fault) list = told_no_csv fault list
 told_no_list (lists.Manifest fault) list = told_no_manifest fault list
 told_no_list (lists.Twice same) list = detailed table.list_twice (of_path list) (Some (shown_text same.path))
 

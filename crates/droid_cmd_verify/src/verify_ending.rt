@@ -1,12 +1,12 @@
 //! How the comparison of a folder ends.
 
 ghost use Rattle.std.specs.Prelude.{◌≡◌};
-ghost use Rattle.droid_cmd_verify.specs.VerifyEndings.{Tells, told_no_list, told_no_manifest, told_no_profile};
-ghost use Rattle.droid_cmd_verify.specs.VerifyEndings.{told_unopened, unchecked, unlisted};
+ghost use Rattle.droid_cmd_verify.specs.VerifyEndings.{Tells, told_no_list, told_no_manifest, told_unopened};
+ghost use Rattle.droid_cmd_verify.specs.VerifyEndings.{unchecked, unlisted};
 ghost use Rattle.droid_terminal.specs.Endings.{told};
 
 use crate::tree_check::CheckFault;
-use droid_export::ListFault;
+use droid_cmd_profile::told_no_csv;
 use droid_fixity::ManifestFault;
 use droid_lists::UnreadList;
 use droid_terminal::{About, Detail, Ending, faults, told_no_folder};
@@ -110,45 +110,12 @@ fn told_no_list<'a>(fault: &'a UnreadList, list: &'a str) -> Ending<'a>
 {
     match fault {
         UnreadList::Memory => Ending::by(faults::MEMORY, About::Nothing),
-        UnreadList::Profile(fault) => told_no_profile(*fault, list),
+        UnreadList::Profile(fault) => told_no_csv(*fault, list),
         UnreadList::Manifest(fault) => told_no_manifest(*fault, list),
         UnreadList::Twice(same) => Ending::detailed(
             faults::LIST_TWICE,
             About::Path(list),
             Detail::Path(same.path.as_slice()),
-        ),
-    }
-}
-
-/// Returns the ending where a list is a profile's CSV, and a malformed one.
-fn told_no_profile<'a>(fault: ListFault, list: &'a str) -> Ending<'a>
-    ensures { told result ≡ told_no_profile fault list.now }
-{
-    let about = About::Path(list);
-    match fault {
-        ListFault::Memory => Ending::by(faults::MEMORY, About::Nothing),
-        ListFault::Header => Ending::by(faults::LIST_OTHER, about),
-        ListFault::Missing { column } => Ending::detailed(
-            faults::LIST_LACKS,
-            about,
-            Detail::Words(column.names()),
-        ),
-        ListFault::Fields { record } => {
-            Ending::detailed(faults::LIST_FIELDS, about, Detail::Number(record))
-        }
-        ListFault::Column {
-            record,
-            column,
-            hash,
-        } => Ending::detailed(
-            faults::LIST_WRONG,
-            about,
-            Detail::Numbered(record, ": ", column.name(hash)),
-        ),
-        ListFault::Contradiction { record, column } => Ending::detailed(
-            faults::LIST_CONTRADICTS,
-            about,
-            Detail::Numbered(record, ": ", column.names()),
         ),
     }
 }

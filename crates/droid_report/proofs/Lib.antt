@@ -12,3 +12,4 @@ mod RowSteps
 mod TableTexts
 mod TextBytes
 mod Totalling
+mod Verifying

@@ -1,20 +1,16 @@
--- What the fields of a profile's rows say (docs/CSV.md).
+-- What the fields of a profile's rows say (docs/CSV.md). TYPE, SIZE, FORMAT_COUNT and LAST_MODIFIED are those of rows
+-- that `read_profile` takes.
 use Rattle.std.specs.Prelude.{ℕ, ◌==◌, ◌&&◌, ◌^◌, ◌+◌, ◌-◌, ◌*◌, min, nat_lt, Bool, true, false, List, [], ◌∷◌, length}
 use Rattle.std.specs.Prelude.{take, count_by, Option, Some, None, codes, if◌then◌else◌}
 use Rattle.std.specs.Char.{is_ascii_digit}
-use Rattle.std.specs.List.{fold, list_all}
-use Rattle.std.specs.Option.{option_map}
+use Rattle.std.specs.List.{fold}
+use Rattle.std.specs.Option.{unwrap_or}
 use Rattle.std.specs.Str.{bytes_eq}
-use Rattle.droid_export.specs.Fields.{number_of}
+use Rattle.droid_export.specs.Fields.{kind_of, number_of}
 use Rattle.droid_frame.specs.declared.method.Method.{Method}
 use Rattle.droid_frame.specs.declared.method.Method.TheVariants.{Unidentified, Signature, Extension}
 use Rattle.droid_frame.specs.declared.node_kind.NodeKind.{NodeKind}
-use Rattle.droid_frame.specs.declared.node_kind.NodeKind.TheVariants.{File, Folder}
-
--- whether a field is a path: it begins with `/`
-abbrev pub is_path : List ℕ → Bool
-is_path [] = false
-is_path (b ∷ bytes) = b == 47
+use Rattle.droid_frame.specs.declared.node_kind.NodeKind.TheVariants.{Folder}
 
 -- METHOD
 abbrev pub method_of : List ℕ → Option Method
@@ -29,16 +25,17 @@ truth_of text =
     if bytes_eq text (codes "true") then Some true
     else if bytes_eq text (codes "false") then Some false else None
 
+-- TYPE
+abbrev pub kind_in : List ℕ → NodeKind
+kind_in text = unwrap_or (kind_of text) Folder
+
 -- SIZE and FORMAT_COUNT: a folder has neither, which counts as 0
-abbrev pub number_for : NodeKind → List ℕ → Option ℕ
-number_for File text = number_of text
-number_for Folder text = if length text == 0 then Some 0 else None
+abbrev pub number_in : List ℕ → ℕ
+number_in text = unwrap_or (number_of text) 0
 
 -- the year of LAST_MODIFIED, which may be empty
-abbrev pub year_of : List ℕ → Option (Option ℕ)
-year_of text =
-    if length text == 0 then Some None
-    else if length text == 19 then option_map Some (number_of (take 4 text)) else None
+abbrev pub year_of : List ℕ → Option ℕ
+year_of text = if nat_lt (length text) 4 then None else number_of (take 4 text)
 
 -- a number with a digit behind it, as far as 64 bits hold it; another byte changes nothing
 abbrev pub with_digit : ℕ → ℕ → ℕ

@@ -7,24 +7,17 @@ ghost use Rattle.droid_report.specs.Lines.{line_of};
 ghost use Rattle.droid_report.specs.Rows as profiles;
 
 use crate::counts::Counts;
-use crate::fault::ProfileFault;
 use crate::report::Report;
-use crate::row::{Row, facts_in};
+use crate::row::{Row, facts_of};
 use csv::ByteRecord;
-use droid_export::{Column, Header, said};
+use droid_export::{Column, Header, ListFault, said};
+use droid_frame::HashKind;
 use std::alloc::{AllocError, Global};
 
-/// The columns that a report is made of.
-const NEEDED: [Column; 12] = [
-    Column::Id,
-    Column::FilePath,
+/// The columns that a report is made of beside those that [`droid_export::read_profile`] needs.
+const NEEDED: [Column; 5] = [
     Column::Method,
-    Column::Size,
-    Column::Kind,
-    Column::LastModified,
     Column::ExtensionMismatch,
-    Column::Hash,
-    Column::FormatCount,
     Column::Puid,
     Column::FormatName,
     Column::FormatVersion,
@@ -53,7 +46,7 @@ impl Drop for Draft {
 impl Draft {
     ghost use Rattle.droid_export.specs.Headers.{header_of, whole_row};
     ghost use Rattle.droid_report.specs.Calls.{Gives, IsDraft, Leaves};
-    ghost use Rattle.droid_report.specs.Rows.{Draft as Read, facts_in, finished, nothing_read, taken};
+    ghost use Rattle.droid_report.specs.Rows.{Draft as Read, facts_of, finished, nothing_read, taken};
     ghost use Rattle.droid_report.specs.Rows.{with_header, with_row};
 
     /// Makes a draft before the first record.
@@ -70,7 +63,7 @@ impl Draft {
     }
 
     /// Adds a record: the header first, then the rows.
-    pub(crate) fn take(&mut self, alloc: Global, row: ByteRecord) -> Result<(), ProfileFault>
+    pub(crate) fn take(&mut self, alloc: Global, row: ByteRecord) -> Result<(), ListFault>
         ensures { (old : Read) → IsDraft self.old old → Leaves result self.new (taken old (fields_of row)) }
     {
         match self.header {
@@ -80,23 +73,23 @@ impl Draft {
     }
 
     /// Takes the first record, which has to be the header of a profile's CSV.
-    fn take_header(&mut self, row: &ByteRecord) -> Result<(), ProfileFault>
+    fn take_header(&mut self, row: &ByteRecord) -> Result<(), ListFault>
         ensures { (old : Read) → IsDraft self.old old → old.header ≡ None
             → Leaves result self.new (with_header (header_of (fields_of row.now))) }
     {
         match Header::of(row) {
             Some(header) => self.begin(header),
-            None => Err(ProfileFault::Header),
+            None => Err(ListFault::Header),
         }
     }
 
     /// Begins the rows behind a header, if it has the columns that are needed.
-    fn begin(&mut self, header: Header) -> Result<(), ProfileFault>
+    fn begin(&mut self, header: Header) -> Result<(), ListFault>
         ensures { (old : Read) → IsDraft self.old old → old.header ≡ None
             → Leaves result self.new (with_header (Some header)) }
     {
         match header.missing(&NEEDED) {
-            Some(column) => Err(ProfileFault::Missing { column }),
+            Some(column) => Err(ListFault::Missing { column }),
             None => {
                 self.header = Some(header);
                 self.records = 1;
@@ -111,45 +104,52 @@ impl Draft {
         alloc: Global,
         header: Header,
         row: ByteRecord,
-    ) -> Result<(), ProfileFault>
+    ) -> Result<(), ListFault>
         ensures { (old : Read) → IsDraft self.old old → old.header ≢ None
             → Leaves result self.new
-            (with_row old (whole_row header (fields_of row)) (facts_in (whole_row header (fields_of row)))) }
+            (with_row old header.hash (whole_row header (fields_of row))
+            (facts_of (whole_row header (fields_of row)))) }
     {
         if header.is_whole() {
-            return self.take_row(alloc, row);
+            return self.take_row(alloc, header.hash, row);
         }
         let mut wide = ByteRecord::new(alloc);
         header.widen(&row, &mut wide)?;
-        self.take_row(alloc, wide)
+        self.take_row(alloc, header.hash, wide)
     }
 
     /// Takes a record behind the header: it counts as a row and is kept till the next, which may be of the same file.
-    fn take_row(&mut self, alloc: Global, row: ByteRecord) -> Result<(), ProfileFault>
+    fn take_row(&mut self, alloc: Global, hash: HashKind, row: ByteRecord) -> Result<(), ListFault>
         ensures { (old : Read) → IsDraft self.old old → old.header ≢ None
-            → Leaves result self.new (with_row old (fields_of row) (facts_in (fields_of row))) }
+            → Leaves result self.new (with_row old hash (fields_of row) (facts_of (fields_of row))) }
     {
         // No memory holds that many records.
         let Some(record) = self.records.checked_add(1) else {
-            return Err(ProfileFault::Memory);
+            return Err(ListFault::Memory);
         };
-        let Some(facts) = facts_in(&row) else {
-            return Err(ProfileFault::Record { record });
-        };
-        let is_first = !has_id(self.last.as_ref(), &row);
-        let row = Row {
-            fields: row,
-            facts,
-            is_first,
-        };
-        self.counts.add(alloc, &row)?;
-        self.last = Some(row);
-        self.records = record;
-        Ok(())
+        match facts_of(&row) {
+            Ok(facts) => {
+                let is_first = !has_id(self.last.as_ref(), &row);
+                let row = Row {
+                    fields: row,
+                    facts,
+                    is_first,
+                };
+                self.counts.add(alloc, &row)?;
+                self.last = Some(row);
+                self.records = record;
+                Ok(())
+            }
+            Err(column) => Err(ListFault::Column {
+                record,
+                column,
+                hash,
+            }),
+        }
     }
 
     /// Returns the report.
-    pub(crate) fn finish(self) -> Result<Report, ProfileFault>
+    pub(crate) fn finish(self) -> Result<Report, ListFault>
         ensures { (old : Read) → IsDraft self old → Gives result (finished old.header old.lines) }
     {
         let Draft {
@@ -163,7 +163,7 @@ impl Draft {
                 hash: header.hash,
                 counts,
             }),
-            None => Err(ProfileFault::Header),
+            None => Err(ListFault::Header),
         }
     }
 }

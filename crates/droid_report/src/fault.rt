@@ -2,34 +2,26 @@
 
 ghost use Rattle.std.specs.Prelude.{◌≡◌};
 
-use droid_export::Column;
+use droid_export::ListFault;
+use droid_fixity::SamePath;
 use std::alloc::AllocError;
 
 /// Why a profile cannot be read.
-#[derive(Clone, Copy, Debug)]
+#[derive(Drop)]
 pub enum ProfileFault {
-    /// Out of memory.
-    Memory,
-    /// The CSV does not begin with the names of a profile's columns.
-    Header,
-    /// The CSV lacks a column that is needed.
-    Missing {
-        /// The first such column.
-        column: Column,
-    },
-    /// A record is malformed.
-    Record {
-        /// Its number. The record with the names of the columns has number 1.
-        record: u64,
-    },
+    /// Its CSV is malformed or contradicts itself, or memory ran out.
+    Csv(ListFault),
+    /// Two of its folders and files have this path.
+    Twice(SamePath),
 }
 
 impl From<AllocError> for ProfileFault {
-    ghost use Rattle.droid_report.specs.declared.fault.ProfileFault.TheVariants.{Memory};
+    ghost use Rattle.droid_export.specs.declared.reading.fault.ListFault.TheVariants.{Memory};
+    ghost use Rattle.droid_report.specs.declared.fault.ProfileFault.TheVariants.{Csv};
 
-    ghost from_gives = { λ _ fault. fault ≡ Memory };
+    ghost from_gives = { λ _ fault. fault ≡ Csv Memory };
 
     fn from(_error: AllocError) -> ProfileFault {
-        ProfileFault::Memory
+        ProfileFault::Csv(ListFault::Memory)
     }
 }

@@ -1,20 +1,10 @@
-//! The fields of a row.
+//! The fields of a row. What [`droid_export::read_profile`] judges is read without a fault here.
 
 ghost use Rattle.std.specs.Prelude.{◌≡◌, ◌==◌, IsTrue, length};
 ghost use Rattle.droid_report.specs.Fields as fields;
 
-use droid_export::number_of;
+use droid_export::{kind_of, number_of};
 use droid_frame::{Method, NodeKind};
-
-/// Returns whether a field is a path: it begins with `/`.
-pub(crate) fn is_path(text: &[u8]) -> bool
-    ensures { result ≡ fields.is_path text.now }
-{
-    match text.first() {
-        Some(first) => *first == b'/',
-        None => false,
-    }
-}
 
 /// Reads METHOD.
 pub(crate) fn method_of(text: &[u8]) -> Option<Method>
@@ -49,29 +39,28 @@ pub(crate) fn truth_of(text: &[u8]) -> Option<bool>
     }
 }
 
-/// Reads SIZE or FORMAT_COUNT: a number for a file, nothing for a folder, which counts as 0.
-pub(crate) fn number_for(kind: NodeKind, text: &[u8]) -> Option<u64>
-    ensures { result ≡ fields.number_for kind text.now }
+/// Reads TYPE of a row that was judged.
+pub(crate) fn kind_in(text: &[u8]) -> NodeKind
+    ensures { result ≡ fields.kind_in text.now }
 {
-    match kind {
-        NodeKind::File => number_of(text),
-        NodeKind::Folder => { if text.is_empty() { Some(0) } else { None } }
-    }
+    kind_of(text).unwrap_or(NodeKind::Folder)
 }
 
-/// Reads the year of LAST_MODIFIED, which may be empty.
-pub(crate) fn year_of(text: &[u8]) -> Option<Option<u64>>
+/// Reads SIZE or FORMAT_COUNT of a row that was judged: a folder has neither, which counts as 0.
+pub(crate) fn number_in(text: &[u8]) -> u64
+    ensures { result ≡ fields.number_in text.now }
+{
+    number_of(text).unwrap_or(0)
+}
+
+/// Reads the year of LAST_MODIFIED, which may be empty, of a row that was judged.
+pub(crate) fn year_of(text: &[u8]) -> Option<u64>
     ensures { result ≡ fields.year_of text.now }
 {
-    if text.is_empty() {
-        return Some(None);
-    }
-    if text.len() != 19 {
-        return None;
-    }
-    match number_of(&text[..4]) {
-        Some(year) => Some(Some(year)),
-        None => None,
+    if text.len() < 4 {
+        None
+    } else {
+        number_of(&text[..4])
     }
 }
 

@@ -3,14 +3,15 @@
 ghost use Rattle.std.specs.Prelude.{◌≡◌, ℕ, List};
 ghost use Rattle.csv.specs.Reading.{AreRecords, default_config, strip_bom};
 ghost use Rattle.csv.specs.declared.parser.State.TheVariants as st;
-ghost use Rattle.droid_report.specs.Calls.{Gives, IsDraft};
-ghost use Rattle.droid_report.specs.Rows.{nothing_read, profile_of};
+ghost use Rattle.droid_report.specs.Calls.{Gives, GivesReport, IsDraft, Verifies};
+ghost use Rattle.droid_report.specs.Rows.{lines_of, nothing_read};
 
 use crate::counts::Counts;
 use crate::draft::Draft;
 use crate::fault::ProfileFault;
 use csv::ReaderBuilder;
-use droid_export::no_memory;
+use droid_export::{ListFault, no_memory, read_profile};
+use droid_fixity::Inventory;
 use droid_frame::HashKind;
 use std::alloc::Global;
 
@@ -26,23 +27,56 @@ pub struct Report {
 /// Reads the CSV of a profile or of an export, with any of the three hash columns, and counts its rows. docs/CSV.md
 /// describes it.
 ///
-/// An error names the first malformed record. The text of the columns that a report prints has to be UTF-8.
+/// What [`read_profile`] refuses is refused with the same fault, and then a path that stands twice. Only a CSV without
+/// such a fault is looked at for the columns that a report alone reads, of which the first wrong one is named.
 pub fn read_report(alloc: Global, text: &[u8]) -> Result<Report, ProfileFault>
     // The result is that of the records that `csv` reads, unless memory runs out.
     ensures { (records : List (List (List ℕ))) → AreRecords default_config st.StartRecord (strip_bom text.now) records
-        → Gives result (profile_of records) }
+        → GivesReport records result }
+{
+    match verify_items(alloc, text) {
+        Ok(()) => match count_rows(alloc, text) {
+            Ok(report) => Ok(report),
+            Err(fault) => Err(ProfileFault::Csv(fault)),
+        },
+        Err(fault) => Err(fault),
+    }
+}
+
+/// Reads the folders and files of the CSV as the command `verify` does, and keeps nothing.
+fn verify_items(alloc: Global, text: &[u8]) -> Result<(), ProfileFault>
+    ensures { (records : List (List (List ℕ))) → AreRecords default_config st.StartRecord (strip_bom text.now) records
+        → Verifies records result }
+{
+    match read_profile(alloc, false, text) {
+        Ok(profile) => match Inventory::of(profile.items) {
+            Ok(inventory) => {
+                // The prover learns from this call that the paths are in order.
+                let _items = inventory.as_slice();
+                Ok(())
+            }
+            Err(same) => Err(ProfileFault::Twice(same)),
+        },
+        Err(fault) => Err(ProfileFault::Csv(fault)),
+    }
+}
+
+/// Counts the rows.
+fn count_rows(alloc: Global, text: &[u8]) -> Result<Report, ListFault>
+    ensures { (records : List (List (List ℕ))) → AreRecords default_config st.StartRecord (strip_bom text.now) records
+        → Gives result (lines_of records) }
 {
     match Draft::new(alloc) {
         Ok(draft) => read_rows(alloc, text, draft),
-        Err(_) => Err(ProfileFault::Memory),
+        Err(_) => Err(ListFault::Memory),
     }
 }
 
 /// Reads the records.
-fn read_rows(alloc: Global, text: &[u8], draft: Draft) -> Result<Report, ProfileFault>
+fn read_rows(alloc: Global, text: &[u8], draft: Draft) -> Result<Report, ListFault>
     requires { IsDraft draft nothing_read }
     ensures { (records : List (List (List ℕ))) → AreRecords default_config st.StartRecord (strip_bom text.now) records
-        → Gives result (profile_of records) }
+        → Gives result (lines_of records) }
 {
     // `Draft::take` judges the number of fields, so the reader accepts any number.
     let reader = ReaderBuilder::new()
@@ -52,7 +86,7 @@ fn read_rows(alloc: Global, text: &[u8], draft: Draft) -> Result<Report, Profile
     let mut draft = draft;
     for row in reader.into_byte_records() {
         match row {
-            Err(error) => return Err(ProfileFault::from(no_memory(error))),
+            Err(error) => return Err(ListFault::from(no_memory(error))),
             Ok(row) => {
                 if let Err(fault) = draft.take(alloc, row) {
                     return Err(fault);

@@ -1,7 +1,6 @@
 //! A row of a profile.
 
 ghost use Rattle.std.specs.Prelude.{◌≡◌, IfOk, MatchOption, false, true};
-ghost use Rattle.std.specs.List.{list_all};
 ghost use Rattle.std.specs.Str.{is_utf8};
 ghost use Rattle.csv.specs.Records.{fields_of};
 ghost use Rattle.droid_export.specs.Table.{place_of};
@@ -9,9 +8,10 @@ ghost use Rattle.droid_report.specs.Lines.{line_of};
 ghost use Rattle.droid_report.specs.Rows as rows;
 
 use crate::facts::Facts;
-use crate::fields::{depth_of, digits_of, is_path, method_of, number_for, truth_of, year_of};
+use crate::fields::{depth_of, digits_of, kind_in, method_of, number_in, truth_of, year_of};
 use csv::ByteRecord;
-use droid_export::{COLUMNS, Column, kind_of, said};
+use droid_export::{Column, said};
+use droid_frame::Method;
 use std::alloc::AllocError;
 
 /// A row of a profile: a folder, or a file with one of its formats.
@@ -49,36 +49,34 @@ impl Row {
     }
 }
 
-/// The columns that a report prints.
-const PRINTED: [Column; 6] = [
+/// The texts that a report alone reads. [`droid_export::read_profile`] takes them as bytes, or not at all.
+const TEXTS: [Column; 4] = [
     Column::FilePath,
-    Column::LastModified,
-    Column::Hash,
     Column::Puid,
     Column::FormatName,
     Column::FormatVersion,
 ];
 
-/// Reads what a row says beside its texts. Returns `None` for a malformed row.
-#[tactic(auto, unfolding(crate::specs::Rows::facts_in))]
-pub(crate) fn facts_in(row: &ByteRecord) -> Option<Facts>
-    ensures { result ≡ rows.facts_in (fields_of row.now) }
+/// Reads what a row says beside its texts. Returns the first wrong column of those that a report alone reads.
+#[tactic(auto, unfolding(crate::specs::Rows::facts_of))]
+pub(crate) fn facts_of(row: &ByteRecord) -> Result<Facts, Column>
+    ensures { result ≡ rows.facts_of (fields_of row.now) }
 {
-    if is_whole(row) { facts_of(row) } else { None }
+    let method = method_of(said(row, Column::Method)).ok_or(Column::Method)?;
+    let is_mismatch = truth_of(said(row, Column::ExtensionMismatch)).ok_or(
+        Column::ExtensionMismatch,
+    )?;
+    match no_text(row) {
+        Some(column) => Err(column),
+        None => Ok(facts_by(row, method, is_mismatch)),
+    }
 }
 
-/// Returns whether a row has a field for each column, a path, and text in the columns that are printed.
-fn is_whole(row: &ByteRecord) -> bool
-    ensures { result ≡ rows.is_whole (fields_of row.now) }
+/// Returns the first column of [`TEXTS`] that is not UTF-8.
+fn no_text(row: &ByteRecord) -> Option<Column>
+    ensures { result ≡ rows.no_text (fields_of row.now) }
 {
-    row.len() == COLUMNS.len() && is_path(said(row, Column::FilePath)) && are_texts(row)
-}
-
-/// Returns whether the columns that a report prints are UTF-8.
-fn are_texts(row: &ByteRecord) -> bool
-    ensures { result ≡ list_all (rows.is_printable (fields_of row.now)) rows.printed }
-{
-    PRINTED.iter().all(|column| is_text(row, *column))
+    TEXTS.iter().copied().find(|column| !is_text(row, *column))
 }
 
 /// Returns whether a column is UTF-8.
@@ -102,27 +100,18 @@ fn text_in(bytes: &[u8]) -> Option<&str>
     }
 }
 
-/// Reads each field that has facts. Returns `None` if one of them is malformed.
-#[tactic(auto, unfolding(crate::specs::Rows::facts_of))]
-fn facts_of(row: &ByteRecord) -> Option<Facts>
-    ensures { result ≡ rows.facts_of (fields_of row.now) }
+/// Returns what a row says that has this method, and is a mismatch or not.
+fn facts_by(row: &ByteRecord, method: Method, is_mismatch: bool) -> Facts
+    ensures { result ≡ rows.facts_by (fields_of row.now) method is_mismatch }
 {
-    let kind = kind_of(said(row, Column::Kind))?;
-    let size = number_for(kind, said(row, Column::Size))?;
-    let method = method_of(said(row, Column::Method))?;
-    let is_mismatch = truth_of(said(row, Column::ExtensionMismatch))?;
-    let formats = number_for(kind, said(row, Column::FormatCount))?;
-    let year = year_of(said(row, Column::LastModified))?;
-    let moment = digits_of(said(row, Column::LastModified));
-    let depth = depth_of(said(row, Column::FilePath));
-    Some(Facts {
-        kind,
-        size,
+    Facts {
+        kind: kind_in(said(row, Column::Kind)),
+        size: number_in(said(row, Column::Size)),
         method,
         is_mismatch,
-        formats,
-        year,
-        moment,
-        depth,
-    })
+        formats: number_in(said(row, Column::FormatCount)),
+        year: year_of(said(row, Column::LastModified)),
+        moment: digits_of(said(row, Column::LastModified)),
+        depth: depth_of(said(row, Column::FilePath)),
+    }
 }

@@ -85,15 +85,29 @@ output_refused =
 abbrev pub too_many : Said
 too_many = row Failed (codes "Numbers") (codes "too large: take its subfolders one by one")
 
-abbrev pub own_csv_no_profile : Said
-own_csv_no_profile =
-    row Failed (codes "Profile")
+abbrev pub own_csv_refused : Said
+own_csv_refused =
+    row Failed (codes "Profile") (codes "no page can be made of it: this is a mistake in droid_desk")
+
+abbrev pub list_other : Said
+list_other =
+    row Unread (codes "List")
     (codes "does not begin with the column names of a profile: name a CSV of `profile` or of an export")
 
-abbrev pub own_csv_malformed : Said
-own_csv_malformed =
-    gapped Failed (codes "Profile") (codes "record ")
-    (codes " is malformed (the column names are record 1): was the file changed?")
+abbrev pub list_lacks : Said
+list_lacks = row Unread (codes "List") (codes "there is no column ")
+
+abbrev pub list_fields : Said
+list_fields = gapped Unread (codes "List") (codes "record ") (codes " does not have a field for each column")
+
+abbrev pub list_wrong : Said
+list_wrong = gapped Unread (codes "List") (codes "record ") (codes " is wrong")
+
+abbrev pub list_contradicts : Said
+list_contradicts = gapped Unread (codes "List") (codes "record ") (codes " contradicts another record")
+
+abbrev pub list_twice : Said
+list_twice = row Unread (codes "List") (codes "has a path twice: ")
 
 abbrev pub reading_failed : Said
 reading_failed = row Unread (codes "Read") (codes "reading failed: try again with a copy of the file")
@@ -108,19 +122,6 @@ profile_unread = row Unread (codes "Profile") []
 
 abbrev pub csv_itself : Said
 csv_itself = row Failed (codes "Output") (codes "this is the CSV itself: choose another place")
-
-abbrev pub no_profile : Said
-no_profile =
-    row Unread (codes "Profile")
-    (codes "does not begin with the column names of a profile: name a CSV of `profile` or of an export")
-
-abbrev pub profile_lacks : Said
-profile_lacks = row Unread (codes "Profile") (codes "there is no column ")
-
-abbrev pub profile_malformed : Said
-profile_malformed =
-    gapped Unread (codes "Profile") (codes "record ")
-    (codes " is malformed (the column names are record 1): was the file changed?")
 
 -- ---- faults of registry
 
@@ -189,21 +190,6 @@ list_missing = row Unread (codes "Open") (codes "no such file: check the path af
 abbrev pub list_unopened : Said
 list_unopened = row Unread (codes "Open") []
 
-abbrev pub list_other : Said
-list_other = row Unread (codes "List") (codes "the first record is not that of a profile")
-
-abbrev pub list_lacks : Said
-list_lacks = row Unread (codes "List") (codes "there is no column ")
-
-abbrev pub list_fields : Said
-list_fields = gapped Unread (codes "List") (codes "record ") (codes " does not have a field for each column")
-
-abbrev pub list_wrong : Said
-list_wrong = gapped Unread (codes "List") (codes "record ") (codes " is wrong")
-
-abbrev pub list_contradicts : Said
-list_contradicts = gapped Unread (codes "List") (codes "record ") (codes " contradicts another record")
-
 abbrev pub list_of_nothing : Said
 list_of_nothing =
     row Unread (codes "List") (codes "it names no file: name the CSV of a profile, or a list of checksums")
@@ -222,9 +208,6 @@ abbrev pub list_digest : Said
 list_digest =
     gapped Unread (codes "List") (codes "line ")
     (codes " has a digest of another kind than the lines before it: name the CSV of a profile, or a list of checksums")
-
-abbrev pub list_twice : Said
-list_twice = row Unread (codes "List") (codes "has a path twice: ")
 
 abbrev pub has_hashes : Said
 has_hashes = row Unread (codes "Hashes") (codes "has hashes: leave out --sizes-only, and they are compared")

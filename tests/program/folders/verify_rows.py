@@ -124,7 +124,7 @@ TWO_FORMATS = (
 def sentence(fault):
     """What is said of a list with this fault."""
     what, _, of = fault.partition(" ")
-    return {"header": "the first record is not that of a profile", "twice": f"has a path twice: {of}"}.get(what, fault).encode()
+    return {"header": "does not begin with the column names of a profile: name a CSV of `profile` or of an export", "twice": f"has a path twice: {of}"}.get(what, fault).encode()
 
 
 def items_of(text):

@@ -93,8 +93,10 @@ def random_profiles():
     print("200 random profiles: passed")
 
 
-# the columns that a report is made of, in the order in which a missing one is named
-NEEDED = "ID FILE_PATH METHOD SIZE TYPE LAST_MODIFIED EXTENSION_MISMATCH MD5_HASH FORMAT_COUNT PUID FORMAT_NAME FORMAT_VERSION".split()
+# the columns that a report is made of: those that `verify` reads, and its own, in the order in which a missing one is named
+READ = "ID PARENT_ID FILE_PATH NAME SIZE TYPE LAST_MODIFIED MD5_HASH FORMAT_COUNT".split()
+OWN = "METHOD EXTENSION_MISMATCH PUID FORMAT_NAME FORMAT_VERSION".split()
+NEEDED = READ + OWN
 
 
 def part(text, names):
@@ -126,15 +128,15 @@ def odd_profiles():
     whose formats' names fill a page."""
     see(written([]), "empty")
     see(written([["1", "", "file:/a/", "/a", "a", "", "Done", "", "Folder", "", "", "false", "", "", "", "", "", ""]]), "a folder")
-    see(written(row(n, "/" + '"' * 3000 + str(n)) for n in range(300)), "long names")
-    see(written(row(n, "/" + "x" * 150 + str(n), digest=f"{n // 2:032}") for n in range(900)), "many names")
-    see(written(row(n, f"/{n}", moment=f"{n:04}-01-01T00:00:00") for n in range(10000)), "ten thousand years")
-    see(written(row(n, f"/{n}", size=2**63) for n in range(5)), "large files")
-    see(written(row(n, f"/{n}", method="Extension", puid=f"fmt/{n}") for n in range(1000)), "many formats")
+    see(written(row(n, "/" + '"' * 3000 + str(n)) for n in range(1, 301)), "long names")
+    see(written(row(n, "/" + "x" * 150 + str(n), digest=f"{n // 2:032}") for n in range(1, 901)), "many names")
+    see(written(row(n, f"/{n}", moment=f"{n:04}-01-01T00:00:00") for n in range(1, 10000)), "ten thousand years")
+    see(written(row(n, f"/{n}", size=2**63) for n in range(1, 6)), "large files")
+    see(written(row(n, f"/{n}", method="Extension", puid=f"fmt/{n}") for n in range(1, 1001)), "many formats")
     for size in (500, 5_000, 50_000):
         see(written(named_rows(20, '"' * size)), "long names of formats")
     # the largest page without a format's name: each size and depth, and numbers of twenty digits
-    see(written(row(n, "/" * (n % 70 + 1) + "a", size=min(4 ** (n % 35), 2**64 - 1)) for n in range(700)) + "\n".join(lines_of(named_rows(20, "&" * 50_000))), "x" * 10_000)
+    see(written(row(n, "/a" * (n % 70) + f"/{n}", size=min(4 ** (n % 35), 2**64 - 1)) for n in range(1, 701)) + "\n".join(lines_of(named_rows(20, "&" * 50_000))), "x" * 10_000)
     print("odd profiles: passed")
 
 
@@ -160,9 +162,11 @@ ITS_BODY = (
 def pages_by_hand():
     """Texts that are no markup, as they stand in pages, and what stands around the body of a page."""
     for text, shown in ODD_TEXTS:
-        page = page_by(written([row(1, f"/{text}.")]).encode(), text.replace("\0", ""))
-        assert f"<bdi>/{shown}.</bdi>" in page, (text, page)
+        # a path has no zero byte, which a format's name may have
+        file = row(1, f"/{text}x.".replace("\0", ""), method="Extension", puid="fmt/1")
+        page = page_by(written([[*file[:16], text, "1"]]).encode(), text.replace("\0", ""))
         title = shown.replace("\u2400", "")
+        assert f"<bdi>/{title}x.</bdi>" in page and f"<bdi>{shown} 1</bdi>" in page, (text, page)
         assert f"<title>{title}</title>" in page and f"<main><h1>{title}</h1>" in page, (text, page)
     page = page_by(written([]).encode(), "<t>")
     assert page.startswith('<!DOCTYPE html><html lang="en"><head>') and "<title>&lt;t&gt;</title>" in page, page
@@ -183,6 +187,13 @@ def lines_of(rows):
     return written(rows).split("\n")[1:]
 
 
+# what is said of a CSV that is none
+FAULT = (
+    rb"fault: List\n.*: (does not begin with the column names of a profile: .*|there is no column [A-Z_0-9, or]+|record \d+ does not have a field for each column"
+    rb"|record \d+: [A-Z_0-9]+ is wrong|record \d+: [A-Z_0-9, or]+ contradicts another record|has a path twice: .*)\n"
+)
+
+
 def each_byte_changed():
     """A CSV with a byte changed makes a page of the same elements, or a fault that names the record."""
     chance = random.Random(1)
@@ -199,7 +210,7 @@ def each_byte_changed():
                     pages += 1
                 else:
                     assert done.returncode == 3 and done.stdout == b"", (done.returncode, at, other)
-                    assert re.match(rb"fault: Profile\n.*: (record \d+ is malformed|does not begin with|there is no column)", done.stderr), (done.stderr, at, other)
+                    assert re.fullmatch(FAULT, done.stderr), (done.stderr, at, other)
     print(f"each of {len(whole)} bytes changed: passed ({pages} pages)")
 
 
@@ -213,7 +224,7 @@ def faults():
             done = run(place.csv, "--output", place.page)
             assert done.returncode == 3, done.returncode
             said = done.stderr.decode()
-            assert said.startswith("fault: Profile\n") and sentence in said, said
+            assert said.startswith("fault: List\n") and sentence in said, said
             assert place.names() == ["p.csv"], place.names()
 
     fails(b"", "does not begin with")
@@ -222,13 +233,15 @@ def faults():
     for name in NEEDED:
         named = name.replace("MD5_HASH", "MD5_HASH, SHA256_HASH or HASH")
         fails(part(good, [other for other in NAMES if other != name]).encode(), f"there is no column {named}\n")
-    fails(part(good, NEEDED[:3]).encode(), "there is no column SIZE\n")
-    fails((part(good, NEEDED) + "1\n").encode(), "is malformed")
+    fails(part(good, NEEDED[:3]).encode(), "there is no column NAME\n")
+    fails(part(good, READ).encode(), "there is no column METHOD\n")
+    fails((part(good, NEEDED) + "1\n").encode(), " does not have a field for each column\n")
     for place in (1, 3, 7):
         bad = written([row(n, f"/{n}") for n in range(1, place)] + [row(place, f"/{place}", size="x")] + [row(place + 1, "/z")])
-        fails(bad.encode(), f"record {place + 1} is malformed")
-    fails(written([row(1, "a/b")]).encode(), "record 2 is malformed")
-    fails(written([row(1, "/\udcff")]).encode("utf-8", "surrogateescape"), "record 2 is malformed")
+        fails(bad.encode(), f"record {place + 1}: SIZE is wrong\n")
+    fails(written([row(1, "a/b")]).encode(), "record 2: FILE_PATH is wrong\n")
+    fails(written([row(1, "/\udcff")]).encode("utf-8", "surrogateescape"), "record 2: FILE_PATH is wrong\n")
+    fails(written([row(1, "/a"), row(2, "/b"), row(3, "/a")]).encode(), "has a path twice: /a\n")
     with Place(good.encode()) as place:
         done = run(place.csv, "--output", place.csv)
         assert done.returncode == 4 and done.stderr.startswith(b"fault: Output\n"), done.stderr
@@ -255,6 +268,44 @@ def faults():
         assert full.returncode == 4 and full.stderr.startswith(b"fault: Write\n"), full.stderr
     assert lines[0].startswith('"ID"')
     print("faults: passed")
+
+
+# what stands in the place of a field
+OTHER_FIELDS = ["", "0", "1", "2", "31", "01", "x", "/", "/a", "a/b", "File", "Folder", "Signature", "true", "2023-02-31T23:59:59", "0" * 32, "F" * 64, "18446744073709551616", "\udcff"]
+
+
+def as_verify():
+    """What `verify` refuses is refused with the same words. Beside that, only columns that `verify` does not read are wrong."""
+    refused = own = 0
+    with tempfile.TemporaryDirectory() as folder:
+        at = os.path.join(folder, "p.csv")
+        empty = os.path.join(folder, "empty")
+        os.mkdir(empty)
+        for seed in range(400):
+            chance = random.Random(seed)
+            rows = [*csv.reader(io.StringIO(profile(chance, chance.randrange(1, 8)), newline=""), strict=True)]
+            for _ in range(chance.choice([1, 1, 2])):
+                one = chance.choice(rows[chance.randrange(2) :])
+                place = chance.randrange(one is rows[0], 18)
+                one[place] = chance.choice([*OTHER_FIELDS, chance.choice(rows)[place]])
+            if chance.random() < 0.2:
+                rows.append(chance.choice(rows[1:]))
+            if chance.random() < 0.1:
+                chance.choice(rows).pop()
+            with open(at, "wb") as file:
+                file.write(written(rows[1:], rows[0]).encode("utf-8", "surrogateescape"))
+            verified = subprocess.run([PROGRAM, "verify", empty, "--against", at, "--quick"], capture_output=True, timeout=120)
+            done = run(at)
+            if verified.returncode == 3:
+                assert (done.returncode, done.stderr) == (3, verified.stderr), (seed, done.stderr, verified.stderr)
+                refused += 1
+            elif done.returncode != 0:
+                found = re.fullmatch(rb"fault: List\n.*: record \d+: ([A-Z_]+) is wrong\n", done.stderr)
+                assert done.returncode == 3 and found, (seed, done.stderr)
+                assert found[1].decode() in ["FILE_PATH", *OWN], (seed, done.stderr)
+                own += 1
+    assert refused > 50 and own > 10, (refused, own)
+    print(f"{refused} CSVs that verify refuses, {own} that a report alone refuses: passed")
 
 
 def many_rows():
@@ -297,6 +348,7 @@ def main():
     pages_by_hand()
     each_byte_changed()
     faults()
+    as_verify()
     many_rows()
     pictures(see(profile(random.Random(4), 300), "pictures"))
 

@@ -1,5 +1,6 @@
-"""Profiles to try `report` on: random ones, odd ones, and one with 100,000 rows."""
+"""Profiles to try `report` on: random ones, odd ones, and one with 100,000 rows. `verify` takes each of them."""
 
+import calendar
 import csv
 import io
 
@@ -9,6 +10,10 @@ ODD = [
     "<script>alert(1)</script>", "\"><img src=x onerror=alert(1)>", "&amp;&lt;&#60;", "'", "a\nb\tc\r", "\x01\x1f\x7f", "\u202egpj.exe", "é\u0301", "x" * 255,
     "</title><script>", "</style>", "<!--", "-->", "]]>", "\U0001f4c4", " ", "%3Cscript%3E", "javascript:alert(1)",
 ]
+# the digits of hashes of files, by the name of their column
+DIGITS = {"HASH": 0, "MD5_HASH": 1, "SHA256_HASH": 2}
+# the numbers of folders that have no row
+FOLDERS = {}
 HASHES = ["0" * 32, "1" * 32, "b59a94e604faec0d5849fb2179502bac", "d41d8cd98f00b204e9800998ecf8427e", ""]
 
 
@@ -21,38 +26,47 @@ def written(rows, names=NAMES):
     return out.getvalue()
 
 
-def rows_by(chance, count):
+def place_of(path):
+    """Returns PARENT_ID and NAME of a path."""
+    above, name = path.rsplit("/", 1)
+    return FOLDERS.setdefault(above, 2**31 + len(FOLDERS)) if above else "", name
+
+
+def rows_by(chance, count, hash_name="MD5_HASH"):
     """Yields the rows of a random profile."""
     for number in range(1, count + 1):
-        name = chance.choice(ODD) + str(chance.randrange(10))
-        path = "/" + "/".join(chance.choice(["a", "b<", "&"]) for _ in range(chance.choice([0, 1, 2, 3, 70]))) + "/" + name
+        name = chance.choice(ODD) + str(number)
+        path = "".join("/" + chance.choice(["a", "b<", "&"]) for _ in range(chance.choice([0, 1, 2, 3, 70]))) + "/" + name
         is_file = chance.random() < 0.8
         formats = chance.choice([0, 1, 1, 1, 2, 3]) if is_file else 0
         method = chance.choice(["Signature", "Extension"]) if formats else ""
         size = chance.choice([0, 1, 3, 4, 1023, 1024, 7, 7, 7, chance.randrange(2**30), chance.randrange(2**40), 2**64 - 1])
-        moment = f"{chance.choice([1, 1970, 1999, 2024, 9999]):04}-{chance.randrange(1, 13):02}-31T23:59:{chance.randrange(60):02}" if chance.random() < 0.9 else ""
-        digest = chance.choice(HASHES) if is_file else ""
+        year, month = chance.choice([1, 1970, 1999, 2024, 9999]), chance.randrange(1, 13)
+        moment = f"{year:04}-{month:02}-{calendar.monthrange(year, month)[1]}T23:59:{chance.randrange(60):02}" if chance.random() < 0.9 else ""
+        digest = chance.choice(HASHES) * DIGITS[hash_name] if is_file else ""
         for _ in range(max(formats, 1)):
             puid = chance.choice(["fmt/", "x-fmt/", "movkrin/", "<b>"]) + str(chance.randrange(20)) if formats else ""
+            parent, last = place_of(path)
             yield [
-                number, "", "file:" + path, path, name, method, "Done", size if is_file else "", "File" if is_file else "Folder", "",
+                number, parent, "file:" + path, path, last, method, "Done", size if is_file else "", "File" if is_file else "Folder", "",
                 moment, "true" if is_file and number % 7 == 0 else "false",
                 digest, formats if is_file else "", puid, "", chance.choice(ODD) if puid else "", "1.0" if puid else "",
             ]
 
 
 def profile(chance, count, hash_name="MD5_HASH"):
-    return written(rows_by(chance, count), [hash_name if name == "MD5_HASH" else name for name in NAMES])
+    return written(rows_by(chance, count, hash_name), [hash_name if name == "MD5_HASH" else name for name in NAMES])
 
 
 def row(number, path, size=1, method="", puid="", moment="2024-01-31T23:59:59", digest="0" * 32):
-    return [number, "", "file:" + path, path, path.rsplit("/", 1)[1], method, "Done", size, "File", "", moment, "false", digest, 1 if puid else 0, puid, "", "", ""]
+    parent, name = place_of(path)
+    return [number, parent, "file:" + path, path, name, method, "Done", size, "File", "", moment, "false", digest, 1 if puid else 0, puid, "", "", ""]
 
 
 def many(chance):
     """Returns a profile of 100,000 rows."""
     return written(
-        [n, "", f"file:/box-{n // 500}/letter-{n}.txt", f"/box-{n // 500}/letter-{n}.txt", f"letter-{n}.txt", "Extension", "Done", chance.randrange(10**7), "File", "txt",
+        [n, 200_000 + n // 500, f"file:/box-{n // 500}/letter-{n}.txt", f"/box-{n // 500}/letter-{n}.txt", f"letter-{n}.txt", "Extension", "Done", chance.randrange(10**7), "File", "txt",
          f"{chance.randrange(1980, 2027)}-01-31T23:59:59", "false", f"{chance.randrange(90_000):032x}", 1, f"fmt/{chance.randrange(300)}", "text/plain", "Plain Text", "1"]
         for n in range(1, 100_001)
     )

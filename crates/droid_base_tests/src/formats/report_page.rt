@@ -16,7 +16,9 @@ x-fmt/111,text/plain,Plain Text File,\n";
 fn counts_of_equal_files(rt: HostRuntime) -> Result<(), Fail> {
     let alloc = rt.alloc();
     // the profile of two equal text files of three bytes each
-    let report = read_report(alloc, CSV.as_bytes())?;
+    let Ok(report) = read_report(alloc, CSV.as_bytes()) else {
+        return Err(Fail::from("no profile"));
+    };
     let files = report.counts.totals.files;
     let formats = rank_by_count(list_groups(alloc, &report.counts.formats, 1)?)?;
     let copies = rank_by_saved(list_groups(alloc, &report.counts.contents, 2)?)?;
@@ -29,7 +31,9 @@ fn counts_of_equal_files(rt: HostRuntime) -> Result<(), Fail> {
 fn example_of_report_pages(rt: HostRuntime) -> Result<(), Fail> {
     let alloc = rt.alloc();
     // the profile of two equal text files of three bytes each
-    let report = read_report(alloc, CSV.as_bytes())?;
+    let Ok(report) = read_report(alloc, CSV.as_bytes()) else {
+        return Err(Fail::from("no profile"));
+    };
     let page = report_page(alloc, "letters", "made by hand", &report.counts)?;
     assert!(rt; page.as_str().contains("<title>letters</title>"));
     Ok(())

@@ -3,12 +3,12 @@
 ghost use Rattle.std.specs.Prelude.{◌≡◌, ℕ, List, IfOk, option_map, string_bytes};
 ghost use Rattle.csv.specs.Reading.{AreRecords, default_config, strip_bom};
 ghost use Rattle.csv.specs.declared.parser.State.TheVariants as st;
-ghost use Rattle.droid_report.specs.Rows.{profile_of};
 ghost use Rattle.droid_report.specs.ShownReports.{IsPage};
 ghost use Rattle.droid_cmd_profile.specs.Abouts.{about_text};
 ghost use Rattle.droid_cmd_profile.specs.PagesOfCsv.{Gives};
 
 use crate::pages::about::About;
+use droid_export::ListFault;
 use droid_frame::HashKind;
 use droid_report::{ProfileFault, Report, read_report, report_page};
 use std::alloc::{AllocError, Global};
@@ -26,7 +26,7 @@ pub struct PageTexts<'a> {
     pub registry: Option<&'a str>,
 }
 
-/// Makes the page of a profile's CSV. An error names the first malformed record.
+/// Makes the page of a profile's CSV. It refuses what [`droid_report::read_report`] refuses.
 ///
 /// Records are what the kit's `csv` reads by its default rules, behind a byte order mark if there is one: `AreRecords`
 /// and `strip_bom` are its definitions.
@@ -34,7 +34,7 @@ pub fn page_of_csv(alloc: Global, csv: &[u8], texts: PageTexts<'_>) -> Result<St
     // The page is that of the records that `csv` reads, unless memory runs out.
     ensures { (records : List (List (List ℕ))) → AreRecords default_config st.StartRecord (strip_bom csv.now) records
         → Gives texts.entry.title.now texts.entry.moment.now texts.entry.name.now
-        (option_map (λ text. text.now) texts.entry.registry) result (profile_of records) }
+        (option_map (λ text. text.now) texts.entry.registry) records result }
 {
     let report = match read_report(alloc, csv) {
         Ok(report) => report,
@@ -42,7 +42,7 @@ pub fn page_of_csv(alloc: Global, csv: &[u8], texts: PageTexts<'_>) -> Result<St
     };
     match page_of(alloc, &report, texts) {
         Ok(page) => Ok(page),
-        Err(_) => Err(ProfileFault::Memory),
+        Err(_) => Err(ProfileFault::Csv(ListFault::Memory)),
     }
 }
 

@@ -6,7 +6,6 @@
 ghost use Rattle.std.specs.Prelude.{◌≡◌, ℕ, List, option_map};
 ghost use Rattle.csv.specs.Reading.{AreRecords, default_config, strip_bom};
 ghost use Rattle.csv.specs.declared.parser.State.TheVariants as st;
-ghost use Rattle.droid_report.specs.Rows.{profile_of};
 ghost use Rattle.droid_cmd_profile.specs.Abouts.{title_of};
 ghost use Rattle.droid_cmd_profile.specs.PagesOfCsv.{GivesNow};
 
@@ -14,7 +13,7 @@ use crate::pages::csv_page::{PageTexts, page_of_csv};
 use crate::pages::page_fault::PageFault;
 use crate::pages::page_writer::write_page;
 use droid_disk::Output;
-use droid_export::moment_text;
+use droid_export::{ListFault, moment_text};
 use droid_frame::Text;
 use droid_report::{ProfileFault, texts};
 use droid_terminal::name_of;
@@ -32,13 +31,13 @@ pub fn page_now<R: Clock + AllocGlobal>(
     title: &str,
     name: &str,
     registry: Option<&str>,
-) -> Result<String, PageFault>
+) -> Result<String, ProfileFault>
     // The page is that of the records that `csv` reads, at some moment, unless memory runs out.
     ensures { (records : List (List (List ℕ))) → AreRecords default_config st.StartRecord (strip_bom csv.now) records
-        → GivesNow title.now name.now (option_map (λ text. text.now) registry.entry) result (profile_of records) }
+        → GivesNow title.now name.now (option_map (λ text. text.now) registry.entry) records result }
 {
     let Ok(moment) = moment_now(rt) else {
-        return Err(PageFault::Unmade(ProfileFault::Memory));
+        return Err(ProfileFault::Csv(ListFault::Memory));
     };
     let texts = PageTexts {
         title,
@@ -46,10 +45,7 @@ pub fn page_now<R: Clock + AllocGlobal>(
         name,
         registry,
     };
-    match page_of_csv(rt.alloc(), csv, texts) {
-        Ok(page) => Ok(page),
-        Err(fault) => Err(PageFault::Unmade(fault)),
-    }
+    page_of_csv(rt.alloc(), csv, texts)
 }
 
 /// Returns the title of the page of a folder with this absolute path: its last name, or `/`.

@@ -3,6 +3,7 @@
 pub mod about;
 pub mod csv_page;
 pub mod csv_report;
+pub mod csv_told;
 pub mod page_fault;
 pub mod page_writer;
 pub mod profile_report;

@@ -7,7 +7,6 @@ use crate::pages::page_writer::write_page;
 use crate::pages::report_ending::ReportEnding;
 use droid_disk::Output;
 use droid_frame::Noted;
-use droid_report::ProfileFault;
 use droid_terminal::{is_same_place, name_of};
 use std::fs::{File, Files};
 use std::io::ErrorKind;
@@ -41,7 +40,7 @@ where
     match is_same_place(rt, profile, place) {
         Ok(false) => {}
         Ok(true) => return ReportEnding::SameFile,
-        Err(_) => return no_page(PageFault::Unmade(ProfileFault::Memory)),
+        Err(_) => return no_page(PageFault::Memory),
     }
     let output = match Output::create(rt.alloc(), rt, place) {
         Ok(output) => output,
@@ -90,11 +89,11 @@ where
     };
     match page_now(rt, csv.as_slice(), title, name_of(profile), None) {
         Ok(page) => Ok(page),
-        Err(fault) => Err(no_page(fault)),
+        Err(fault) => Err(ReportEnding::NoProfile(fault)),
     }
 }
 
-/// Ends a report whose page could not be made or not be written.
+/// Ends a report whose page was not written.
 fn no_page(fault: PageFault) -> ReportEnding {
     ReportEnding::NoPage(fault)
 }
@@ -102,7 +101,7 @@ fn no_page(fault: PageFault) -> ReportEnding {
 /// Ends a report whose CSV could not be read.
 fn unread(kind: ErrorKind) -> ReportEnding {
     match kind {
-        ErrorKind::OutOfMemory => no_page(PageFault::Unmade(ProfileFault::Memory)),
+        ErrorKind::OutOfMemory => no_page(PageFault::Memory),
         kind => ReportEnding::Unread(kind),
     }
 }

@@ -4,7 +4,7 @@ ghost use Rattle.std.specs.Prelude.{◌≡◌, option_map};
 ghost use Rattle.droid_cmd_profile.specs.Endings.{told_no_profile, told_unread};
 ghost use Rattle.droid_terminal.specs.Endings.{output_name, told};
 
-use crate::output_told::told_output;
+use crate::pages::csv_told::told_no_csv;
 use crate::pages::page_fault::PageFault;
 use droid_report::ProfileFault;
 use droid_terminal::{About, Detail, Ending, faults};
@@ -12,7 +12,7 @@ use std::fs::Files;
 use std::io::ErrorKind;
 
 /// How a report ended.
-#[derive(Clone, Copy)]
+#[derive(Drop)]
 pub enum ReportEnding {
     /// The page was written.
     Whole,
@@ -20,6 +20,8 @@ pub enum ReportEnding {
     Unread(ErrorKind),
     /// The page would replace the CSV.
     SameFile,
+    /// The CSV is none of a profile, for this reason, or memory ran out.
+    NoProfile(ProfileFault),
     /// The page was not written, for this reason.
     NoPage(PageFault),
 }
@@ -28,19 +30,21 @@ impl ReportEnding {
     ghost use Rattle.droid_cmd_profile.specs.Endings.{Tells};
 
     /// Returns the ending by the table, given the paths of the CSV and of the page.
-    pub fn told<'a, R: Files>(self, rt: &R, profile: &'a str, output: Option<&'a str>) -> Ending<'a>
-        ensures { Tells self profile.now (output_name (option_map (λ text. text.now) output.entry)) (told result) }
+    pub fn told<'a, R: Files>(
+        &'a self,
+        rt: &R,
+        profile: &'a str,
+        output: Option<&'a str>,
+    ) -> Ending<'a>
+        ensures { Tells self.now profile.now (output_name (option_map (λ text. text.now) output.entry)) (told result) }
     {
         let output = output.unwrap_or("standard output");
         match self {
             ReportEnding::Whole => Ending::Whole,
-            ReportEnding::Unread(kind) => told_unread(kind, profile),
+            ReportEnding::Unread(kind) => told_unread(*kind, profile),
             ReportEnding::SameFile => Ending::by(faults::CSV_ITSELF, About::Path(output)),
-            ReportEnding::NoPage(PageFault::NoOutput(fault)) => told_output(rt, fault, output),
-            ReportEnding::NoPage(PageFault::Unmade(fault)) => told_no_profile(fault, profile),
-            ReportEnding::NoPage(PageFault::Unwritten(_)) => {
-                Ending::by(faults::UNWRITTEN, About::Path(output))
-            }
+            ReportEnding::NoProfile(fault) => told_no_profile(fault, profile),
+            ReportEnding::NoPage(fault) => fault.told(rt, profile, output),
         }
     }
 }
@@ -56,19 +60,16 @@ fn told_unread<'a>(kind: ErrorKind, profile: &'a str) -> Ending<'a>
     }
 }
 
-/// Returns the ending where no page could be made of the CSV.
-fn told_no_profile<'a>(fault: ProfileFault, profile: &'a str) -> Ending<'a>
-    ensures { told result ≡ told_no_profile fault profile.now }
+/// Returns the ending where the CSV is none of a profile.
+fn told_no_profile<'a>(fault: &'a ProfileFault, profile: &'a str) -> Ending<'a>
+    ensures { told result ≡ told_no_profile fault.now profile.now }
 {
-    let about = About::Path(profile);
     match fault {
-        ProfileFault::Memory => Ending::by(faults::MEMORY, About::Nothing),
-        ProfileFault::Header => Ending::by(faults::NO_PROFILE, about),
-        ProfileFault::Missing { column } => {
-            Ending::detailed(faults::PROFILE_LACKS, about, Detail::Words(column.names()))
-        }
-        ProfileFault::Record { record } => {
-            Ending::detailed(faults::PROFILE_MALFORMED, about, Detail::Number(record))
-        }
+        ProfileFault::Csv(fault) => told_no_csv(*fault, profile),
+        ProfileFault::Twice(same) => Ending::detailed(
+            faults::LIST_TWICE,
+            About::Path(profile),
+            Detail::Path(same.path.as_slice()),
+        ),
     }
 }

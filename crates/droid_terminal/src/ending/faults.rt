@@ -80,12 +80,24 @@ pub const OUTPUT_REFUSED: Row = fault_row!(Failed "Output"
     "cannot be created: is its folder yours to write, and the disk not full?");
 /// There are too many folders and files.
 pub const TOO_MANY: Row = fault_row!(Failed "Numbers" "too large: take its subfolders one by one");
-/// The CSV that the command itself made is no profile's.
-pub const OWN_CSV_NO_PROFILE: Row = fault_row!(Failed "Profile"
+/// No page can be made of the CSV that the command itself made.
+pub const OWN_CSV_REFUSED: Row = fault_row!(Failed "Profile"
+    "no page can be made of it: this is a mistake in droid_desk");
+/// A list, or the CSV for a page, is no profile's CSV.
+pub const LIST_OTHER: Row = fault_row!(Unread "List"
     "does not begin with the column names of a profile: name a CSV of `profile` or of an export");
-/// A record of that CSV, which is named, is malformed.
-pub const OWN_CSV_MALFORMED: Row = fault_row!(Failed "Profile"
-    "record " .. " is malformed (the column names are record 1): was the file changed?");
+/// A profile's CSV lacks a column that is needed, which is named.
+pub const LIST_LACKS: Row = fault_row!(Unread "List" "there is no column " ..);
+/// A record, which is named, has another number of fields.
+pub const LIST_FIELDS: Row =
+    fault_row!(Unread "List" "record " .. " does not have a field for each column");
+/// A field is wrong: the record and the column are named.
+pub const LIST_WRONG: Row = fault_row!(Unread "List" "record " .. " is wrong");
+/// A record contradicts another: it and the column are named.
+pub const LIST_CONTRADICTS: Row =
+    fault_row!(Unread "List" "record " .. " contradicts another record");
+/// A list has a path twice, which is named.
+pub const LIST_TWICE: Row = fault_row!(Unread "List" "has a path twice: " ..);
 /// A read failed.
 pub const READING_FAILED: Row =
     fault_row!(Unread "Read" "reading failed: try again with a copy of the file");
@@ -99,14 +111,6 @@ pub const PROFILE_UNREAD: Row = fault_row!(Unread "Profile" "" ..);
 /// The page would replace its CSV.
 pub const CSV_ITSELF: Row =
     fault_row!(Failed "Output" "this is the CSV itself: choose another place");
-/// The CSV for a page is no profile's.
-pub const NO_PROFILE: Row = fault_row!(Unread "Profile"
-    "does not begin with the column names of a profile: name a CSV of `profile` or of an export");
-/// It lacks a column that is needed, which is named.
-pub const PROFILE_LACKS: Row = fault_row!(Unread "Profile" "there is no column " ..);
-/// A record of it, which is named, is malformed.
-pub const PROFILE_MALFORMED: Row = fault_row!(Unread "Profile"
-    "record " .. " is malformed (the column names are record 1): was the file changed?");
 
 // Faults of registry.
 
@@ -161,18 +165,6 @@ pub const LIST_MISSING: Row =
     fault_row!(Unread "Open" "no such file: check the path after --against");
 /// A list could not be opened or read, for the system's reason.
 pub const LIST_UNOPENED: Row = fault_row!(Unread "Open" "" ..);
-/// A list is no profile's CSV.
-pub const LIST_OTHER: Row = fault_row!(Unread "List" "the first record is not that of a profile");
-/// A profile's CSV lacks a column that is needed, which is named.
-pub const LIST_LACKS: Row = fault_row!(Unread "List" "there is no column " ..);
-/// A record, which is named, has another number of fields.
-pub const LIST_FIELDS: Row =
-    fault_row!(Unread "List" "record " .. " does not have a field for each column");
-/// A field is wrong: the record and the column are named.
-pub const LIST_WRONG: Row = fault_row!(Unread "List" "record " .. " is wrong");
-/// A record contradicts another: it and the column are named.
-pub const LIST_CONTRADICTS: Row =
-    fault_row!(Unread "List" "record " .. " contradicts another record");
 /// A list of checksums names no file.
 pub const LIST_OF_NOTHING: Row =
     fault_row!(Unread "List" "it names no file: name the CSV of a profile, or a list of checksums");
@@ -186,8 +178,6 @@ pub const LIST_OUTSIDE: Row = fault_row!(Unread "List"
 pub const LIST_DIGEST: Row = fault_row!(Unread "List"
     "line " ..
     " has a digest of another kind than the lines before it: name the CSV of a profile, or a list of checksums");
-/// A list has a path twice, which is named.
-pub const LIST_TWICE: Row = fault_row!(Unread "List" "has a path twice: " ..);
 /// A list has hashes, and sizes alone are to be compared.
 pub const HAS_HASHES: Row =
     fault_row!(Unread "Hashes" "has hashes: leave out --sizes-only, and they are compared");

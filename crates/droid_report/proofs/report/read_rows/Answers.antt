@@ -1,7 +1,7 @@
 use Rattle.std.proofs.Common.{◌∙◌, [], refl, inl, inr}
 use Rattle.csv.specs.Reading.{error_kind, strip_bom}
 use Rattle.csv.specs.Records.{fields_of}
-use Rattle.droid_report.specs.Rows.{nothing_read, profile_of}
+use Rattle.droid_report.specs.Rows.{nothing_read, lines_of}
 use Rattle.droid_export.proofs.RecordReading.{ends_reading, next_read}
 use Rattle.droid_report.proofs.Reading.{left_end, left_fault, left_more}
 use Rattle.droid_report.proofs.report.read_rows.Goals as goal
@@ -40,7 +40,7 @@ loop-row-preserved c =
       λ records are.
           let old = inv.7 records are in
           let step = c.in_default.ensures old.0 old.1 in
-          (step.0, step.2, left_more c.loop-row.row-iterator.rdr c.next.new.self.rdr inv.5 (fields_of c.in-Ok.row) n old.0 step.0 (profile_of records) step.1 old.2),
+          (step.0, step.2, left_more c.loop-row.row-iterator.rdr c.next.new.self.rdr inv.5 (fields_of c.in-Ok.row) n old.0 step.0 (lines_of records) step.1 old.2),
     )
 
 pub returns : goal.returns
@@ -48,7 +48,7 @@ returns c = λ records are.
     let inv = c.loop-row.invariant in
     let s = rw c.in-None.is at ((c.next.ensures.steps inv.2 inv.0).0 inv.1) in
     let old = inv.7 records are in
-    let whole = left_end c.loop-row.row-iterator.rdr c.next.new.self.rdr inv.5 [] old.0 (profile_of records) inv.3 inv.6 s old.2 in
+    let whole = left_end c.loop-row.row-iterator.rdr c.next.new.self.rdr inv.5 [] old.0 (lines_of records) inv.3 inv.6 s old.2 in
     rw whole (c.finish.ensures old.0 old.1)
 
 pub returns-in-Err-take : goal.returns-in-Err-take
@@ -57,7 +57,7 @@ returns-in-Err-take c = λ records are some.
     let s = rw (c.in-Some.is, c.in-Ok.is) at ((c.next.ensures.steps inv.2 inv.0).0 inv.1) in
     let n = next_read c.loop-row.row-iterator.rdr c.next.new.self.rdr inv.5 (fields_of c.in-Ok.row) inv.3 inv.6 s.0 in
     let old = inv.7 records are in
-    left_fault c.loop-row.row-iterator.rdr c.next.new.self.rdr inv.5 (fields_of c.in-Ok.row) n old.0 c.in-Err-take.fault (profile_of records) (c.in-Err-take.ensures old.0 old.1 some) old.2
+    left_fault c.loop-row.row-iterator.rdr c.next.new.self.rdr inv.5 (fields_of c.in-Ok.row) n old.0 c.in-Err-take.fault (lines_of records) (c.in-Err-take.ensures old.0 old.1 some) old.2
 
 pub no_memory-requires : goal.no_memory-requires
 no_memory-requires c =
