@@ -3,9 +3,8 @@ use Rattle.std.specs.Prelude.{ℕ, Bool, true, false, List, [], codes}
 use Rattle.droid_arguments.specs.declared.identify.IdentifyForm.{IdentifyForm}
 use Rattle.droid_arguments.specs.declared.identify.IdentifyForm.TheVariants as forms
 use Rattle.droid_terminal.specs.Endings as table_endings
-use Rattle.droid_terminal.specs.Endings.{Said, Told, by, of_path}
+use Rattle.droid_terminal.specs.Endings.{Told, by, of_path}
 use Rattle.droid_terminal.specs.FaultTable as table
-use Rattle.droid_terminal.specs.declared.ending.status.Status.TheVariants.{Unread}
 use Rattle.droid_cmd_identify.specs.declared.identify_ending.IdentifyEnding.{IdentifyEnding}
 use Rattle.droid_cmd_identify.specs.declared.identify_ending.IdentifyEnding.TheVariants as endings
 
@@ -23,17 +22,12 @@ ending_of form true unidentified = endings.Partly
 ending_of form false false = endings.Whole
 ending_of form false true = unidentified_by form
 
--- the row of a format that the registry does not have
-abbrev pub no_such_format : Said
-no_such_format =
-    table.row Unread (codes "Format") (codes "the registry has no such format: check the PUID, or name another registry")
-
 -- the ending by the table, given the PUID of the format of which is asked why a file does not have it
 abbrev pub told_of : IdentifyEnding → List ℕ → Told
 told_of endings.Whole puid = table_endings.Whole
 told_of endings.Unidentified puid = table_endings.Whole
 told_of endings.Partly puid = table_endings.Partly
-told_of endings.NoFormat puid = by no_such_format (of_path puid)
+told_of endings.NoFormat puid = by table.no_such_format (of_path puid)
 told_of endings.Write puid = by table.unwritten (of_path (codes "standard output"))
 told_of endings.Memory puid = by table.memory []
 

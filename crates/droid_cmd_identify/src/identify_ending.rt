@@ -5,15 +5,7 @@ ghost use Rattle.droid_cmd_identify.specs.Endings.{ending_of, status_of, told_of
 ghost use Rattle.droid_terminal.specs.Endings.{told};
 
 use droid_arguments::IdentifyForm;
-use droid_terminal::{About, Ending, Row, Status, faults};
-
-/// The registry does not have the format of which is asked why a file does not have it.
-const NO_SUCH_FORMAT: Row = Row {
-    status: Status::Unread,
-    name: "Format",
-    text: "the registry has no such format: check the PUID, or name another registry",
-    rest: "",
-};
+use droid_terminal::{About, Ending, faults};
 
 /// How `identify` ends.
 #[derive(Clone, Copy)]
@@ -60,7 +52,7 @@ impl IdentifyEnding {
             IdentifyEnding::Whole => Ending::Whole,
             IdentifyEnding::Unidentified => Ending::Whole,
             IdentifyEnding::Partly => Ending::Partly,
-            IdentifyEnding::NoFormat => Ending::by(NO_SUCH_FORMAT, About::Path(puid)),
+            IdentifyEnding::NoFormat => Ending::by(faults::NO_SUCH_FORMAT, About::Path(puid)),
             IdentifyEnding::Write => Ending::by(faults::UNWRITTEN, About::Path("standard output")),
             IdentifyEnding::Memory => Ending::by(faults::MEMORY, About::Nothing),
         }

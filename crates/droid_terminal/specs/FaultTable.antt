@@ -182,6 +182,12 @@ registry_refused =
     row Failed (codes "Output")
     (codes "cannot be created: is its folder there and yours to write, and the disk not full?")
 
+-- ---- faults of identify
+
+abbrev pub no_such_format : Said
+no_such_format =
+    row Unread (codes "Format") (codes "the registry has no such format: check the PUID, or name another registry")
+
 -- ---- faults of verify
 
 abbrev pub list_missing : Said

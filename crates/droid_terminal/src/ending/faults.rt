@@ -158,6 +158,12 @@ pub const SIGNATURE_FILE_ITSELF: Row =
 pub const REGISTRY_REFUSED: Row = fault_row!(Failed "Output"
     "cannot be created: is its folder there and yours to write, and the disk not full?");
 
+// Faults of identify.
+
+/// The registry does not have the format of which is asked why a file does not have it.
+pub const NO_SUCH_FORMAT: Row = fault_row!(Unread "Format"
+    "the registry has no such format: check the PUID, or name another registry");
+
 // Faults of verify.
 
 /// A list is not there.
