@@ -39,13 +39,24 @@ fn list_inside<D: Disk>(
     ensures failed { IfErr result (λ fault. fault ≢ Memory → D.says disk.old (NoNames path.now) disk.new) }
 {
     let names = disk.names(alloc, path)?;
-    let mut entries = Vec::new(alloc);
+    let mut entries = room_for(alloc, names.len())?;
     let mut place = String::new(alloc);
     for name in names {
         let entry = entry_of(disk, folder, name, &mut place)?;
         add(&mut entries, entry)?;
     }
     Ok(entries)
+}
+
+/// Returns an empty list with room for as many entries.
+fn room_for(alloc: Global, count: usize) -> Result<Vec<FolderEntry>, TreeFault>
+    ensures none { IfOk result (λ entries. entries.items ≡ []) }
+    ensures memory { IfErr result (λ fault. fault ≡ Memory) }
+{
+    match Vec::with_capacity(alloc, count) {
+        Ok(entries) => Ok(entries),
+        Err(_) => Err(TreeFault::Memory),
+    }
 }
 
 /// Appends an entry.

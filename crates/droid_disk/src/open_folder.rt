@@ -90,6 +90,16 @@ impl OpenFolder {
         }
     }
 
+    /// Returns the name of something in the folder, or `None` if this is no path of something in it.
+    pub fn name_in<'p>(&self, path: &'p str) -> Option<&'p str>
+        ensures { IfSome result (λ name. path.now ≡ self.now.path ++ name.now) }
+    {
+        match path.strip_prefix(self.path.as_str()) {
+            Some(name) if !name.is_empty() => Some(name),
+            _ => None,
+        }
+    }
+
     /// Returns the path of something in the folder through the open folder. Returns `None` if this is no path of
     /// something in it, or if there is no memory for the path.
     pub fn place(&self, path: &str) -> Option<Text>

@@ -6,6 +6,7 @@
 
 ghost use Rattle.std.specs.Prelude.{◌≡◌, ◌≢◌, ◌++◌, ◌∷◌, [], IfErr, IfOk, IfSome, IsSomeAnd, IsTrue};
 ghost use Rattle.std.specs.Fs.{file_type};
+ghost use Rattle.std.specs.Str.{bytes_eq};
 ghost use Rattle.droid_tree.specs.declared.fault.TreeFault.TheVariants.{Changed};
 ghost use Rattle.droid_disk.specs.declared.start_folder.Stand.TheVariants.{Inside};
 ghost use Rattle.droid_disk.specs.Machine.{IsMetadataOf, IsKindOf, IsOfSome, MaySay};
@@ -27,7 +28,7 @@ use std::os::unix::fs::MetadataExt;
 /// The file system of this machine. The folder that was listed last stays open, and what lies in it is reached through
 /// it where the machine has `/proc`. While its entries are looked at, it is the process's working folder.
 pub struct System<'a, R> {
-    runtime: &'a R,
+    pub(crate) runtime: &'a R,
     listed: Option<OpenFolder>,
     /// The name of this process below `/proc`, once it is known.
     process: Option<Text>,
@@ -51,9 +52,9 @@ impl<R> Drop for System<'_, R> {
 
 /// An open file of this machine.
 pub struct Opened {
-    file: File,
+    pub(crate) file: File,
     path: Text,
-    metadata: FileMetadata,
+    pub(crate) metadata: FileMetadata,
 }
 
 // Written by hand, so that the crates above do not prove again how each part is dropped.
@@ -88,6 +89,14 @@ impl<'a, R: Files<File = File>> System<'a, R> {
         }
     }
 
+    /// Returns the name of something in the listed folder, if that is the process's working folder.
+    pub(crate) fn name_inside<'p>(&self, path: &'p str) -> Option<&'p str> {
+        match &self.listed {
+            Some(folder) if self.stand == Stand::Inside => folder.name_in(path),
+            _ => None,
+        }
+    }
+
     /// Returns whether the process's working folder is the folder at this path, which has no `/` at its end.
     fn is_in(&self, path: &str) -> bool
         ensures inside { IsTrue result → self.now.stand ≡ Stand.Inside }
@@ -110,7 +119,7 @@ impl<'a, R: Files<File = File>> System<'a, R> {
 
 impl<R: Files<File = File> + Env> System<'_, R> {
     /// Makes the folder in which the process was started its working folder again. Returns whether it is.
-    fn go_back(&mut self) -> bool
+    pub(crate) fn go_back(&mut self) -> bool
         ensures left { self.new.stand ≢ Stand.Inside }
         ensures kept { self.new.runtime ≡ self.old.runtime }
     {
@@ -217,12 +226,8 @@ impl<R: Files<File = File> + Env> Disk for System<'_, R> {
         file.metadata
     }
 
-    #[tactic(auto, using(crate::proofs::Paths::strips_decides, crate::proofs::Paths::begins_with_none))]
     fn is_at(file: &Opened, top: &str, path: &str) -> bool {
-        match file.path.as_str().strip_prefix(top) {
-            Some(rest) => rest == path,
-            None => false,
-        }
+        was_opened_by(file, top, path)
     }
 
     fn read_at(
@@ -298,7 +303,7 @@ fn can_list_at<R: Files>(rt: &R, path: &str) -> bool {
 }
 
 /// Returns the metadata of this path, or `None` if there are none.
-fn look_at<R: Files>(rt: &R, path: &str) -> Option<FileMetadata>
+pub(crate) fn look_at<R: Files>(rt: &R, path: &str) -> Option<FileMetadata>
     ensures { IfSome result IsOfSome }
 {
     match fs::symlink_metadata(rt, path) {
@@ -308,7 +313,7 @@ fn look_at<R: Files>(rt: &R, path: &str) -> Option<FileMetadata>
 }
 
 /// Opens the file at this place.
-fn file_by<R: Files<File = File>>(rt: &R, place: &str) -> Result<File, TreeFault>
+pub(crate) fn file_by<R: Files<File = File>>(rt: &R, place: &str) -> Result<File, TreeFault>
     ensures { IfErr result (λ fault. fault ≢ Changed) }
 {
     match fs::open(rt, place) {
@@ -317,8 +322,19 @@ fn file_by<R: Files<File = File>>(rt: &R, place: &str) -> Result<File, TreeFault
     }
 }
 
+/// Returns whether the file was opened by the path that these two make.
+#[tactic(auto, using(crate::proofs::Paths::strips_decides, crate::proofs::Paths::begins_with_none))]
+pub(crate) fn was_opened_by(file: &Opened, top: &str, path: &str) -> bool
+    ensures { result ≡ bytes_eq file.now.path (top.now ++ path.now) }
+{
+    match file.path.as_str().strip_prefix(top) {
+        Some(rest) => rest == path,
+        None => false,
+    }
+}
+
 /// Returns the metadata of an open file, or `None` if they can't be read.
-fn metadata_now(file: &File) -> Option<FileMetadata>
+pub(crate) fn metadata_now(file: &File) -> Option<FileMetadata>
     ensures { IfSome result IsOfSome }
 {
     match file.metadata() {
@@ -328,7 +344,7 @@ fn metadata_now(file: &File) -> Option<FileMetadata>
 }
 
 /// Returns the open file with its metadata.
-fn with_metadata(file: File, path: Text) -> Result<Opened, TreeFault>
+pub(crate) fn with_metadata(file: File, path: Text) -> Result<Opened, TreeFault>
     ensures path { IfOk result (λ opened. opened.path ≡ path) }
     ensures found { IfOk result (λ opened. IsOfSome opened.metadata) }
     ensures known { IfErr result (λ fault. fault ≢ Changed) }
