@@ -44,9 +44,12 @@ bench: need_python
 # With the kit.
 
 # The gate: proves everything from nothing, tries the wrong bodies of must-fail/, runs the tests of the crates and refuses
-# them memory. `rt ci` leaves the program and the built tests in each crate's out/.
+# them memory. `rt ci` leaves the libraries, the program and the built tests in each crate's out/; `make quick`, `make
+# wrong` and `make build` take them from there.
 prove: need_rt need_python
+	@RT=$(RT) python3 tools/proved.py begin
 	RT_JOBS=$(JOBS) $(RT) ci
+	@RT=$(RT) python3 tools/proved.py note
 	@python3 tools/release.py note
 	MODULES=growths sh tests/memory/run.sh $(CURDIR)/crates/droid_desk/out/droid_desk
 

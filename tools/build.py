@@ -12,9 +12,10 @@ import statistics
 import sys
 
 import crates
+import rattle
 from crates import TOP, below, folder, is_program, listed, named, read
 from lanes import ONE_JOB, Clock, alone, run_in, side_by_side
-from standing import RT, CodeSums, Sums, note, stands
+from standing import RT, CodeSums, Sums, is_for_rt, is_proved, note, stands
 
 SECONDS = os.path.join(TOP, "tools", "seconds.txt")
 # the disk in bytes that a library and the work that `rt` keeps of it take
@@ -40,7 +41,12 @@ def bring_back(crate):
 
 
 def prove_library(crate):
-    """Proves and builds a library in a tree of its own; returns the same as `run_in`."""
+    """Proves and builds a library; returns the same as `run_in`."""
+    return prove_by_rt(crate) if is_for_rt(below(crate)) else rattle.build_library(crate)
+
+
+def prove_by_rt(crate):
+    """Proves and builds a library in a tree of its own, by `rt`, which takes no library below it that has no stamp."""
     crates.lay_out(tree_of(crate), crate)
     move_kept(crate, TOP, tree_of(crate))
     try:
@@ -62,7 +68,7 @@ class Build:
 
     def __init__(self, libraries, sums):
         self.sums, self.all = sums, len(libraries)
-        self.waiting = [it for it in libraries if not stands(it, sums)]
+        self.waiting = [it for it in libraries if not is_proved(it, sums)]
         self.work, self.failed, self.clock = [], None, Clock()
         self.chains = self.chains_of(libraries)
 
@@ -119,7 +125,11 @@ def build_program(program, cpu):
     minutes = seconds_of([program])[program] / 60
     print(f"  proving and building the program {program}: if nothing of it is kept, {minutes:.0f} minutes ..", file=sys.stderr, flush=True)
     clock, flags = Clock(), [f"--cpu={cpu}"] if cpu else []
-    status, said, used = run_in(folder(program), [RT, "run", *ONE_JOB, *flags, "--", "--help"])
+    if is_for_rt(below(program)):
+        status, said, used = run_in(folder(program), [RT, "run", *ONE_JOB, *flags, "--", "--help"])
+    else:
+        with rattle.kept_from_rt([*below(program), program]):
+            status, said, used = rattle.build_program(program, cpu)
     print(f"  {program} took {clock.seconds():.0f} s, and {used:.0f} s of a processor", file=sys.stderr, flush=True)
     return (program, said) if status else None
 
@@ -132,7 +142,8 @@ def prove(libraries, sums, what):
     work = Build(libraries, sums)
     if work.waiting:
         work.announce(what)
-    side_by_side(work.next, work.end)
+        with rattle.kept_from_rt(libraries):
+            side_by_side(work.next, work.end)
     return work.failed
 
 

@@ -144,6 +144,13 @@ def room(name):
         shutil.rmtree(at, ignore_errors=True)
 
 
+def copy_sources(crate, to):
+    """Copies a crate's sources into a folder."""
+    for part in SOURCES:
+        if os.path.isdir(os.path.join(folder(crate), part)):
+            shutil.copytree(os.path.join(folder(crate), part), os.path.join(to, part))
+
+
 def lay_out(tree, crate, linked=os.link):
     """Makes a tree for a crate: its sources, and the sources and libraries of the crates below it. The files that
     `rt` kept of the crate there stay."""

@@ -38,6 +38,18 @@ def function_of(text, place):
     return (block_of(lines, headers[0]), HEADER.match(lines[headers[0]])[2]) if headers else None
 
 
+def functions_in(text):
+    """Yields the block and the name of each function of a text, and its lines: from the comment and the attributes above
+    it to the end of its body, or of its clauses where it has none."""
+    lines = text.split("\n")
+    for at in [it for it in range(len(lines)) if HEADER.match(lines[it])]:
+        begin, body = at, body_of(lines, at)
+        while begin and re.match(r" *(///|//|#\[)", lines[begin - 1]):
+            begin -= 1
+        end = body.stop if body else next((it for it in range(at, len(lines)) if lines[it].endswith((";", "}"))), at)
+        yield (block_of(lines, at), HEADER.match(lines[at])[2]), range(begin, end + 1)
+
+
 def in_one_word(type, generics):
     """Spells a type or trait as a check does in the name of an impl: `&mut [u8]` is RefMutSliceU8."""
     words = re.findall(r"&|\[|'\w+|\w+", type)
@@ -45,17 +57,33 @@ def in_one_word(type, generics):
     return "".join(signs.get(it, it[0].upper() + it[1:]) for it in words if it[0] != "'" and it not in generics)
 
 
+def module_of(file):
+    """Returns the path of the module of a source file, "" for the root."""
+    return re.sub(r"(^|/)(mod|lib|main)$", "", file[len("src/") : -len(".rt")]).replace("/", "::")
+
+
+def type_of(block):
+    """Returns the word for the type of an impl and the one for its trait, "" where there is none."""
+    header = re.match(r"impl(?:<(.*?)>)? (?:(.*) for )?(.*)", re.sub(r" where .*", "", block))
+    if not header:
+        return "", ""
+    generics = re.findall(r"(?:^|, )(\w+)", header[1] or "")
+    return in_one_word(re.sub(r"(\w)<.*", r"\1", header[3]), generics), in_one_word(header[2] or "", generics)
+
+
 def names_of(crate, file, block, name):
     """Returns a pattern of the paths by which a check may name this function: a type's own functions by the type's
     module, and those of a trait by the type and the trait."""
-    modules = re.sub(r"(^|/)(mod|lib|main)$", "", file[len("src/") : -len(".rt")]).replace("/", "::")
-    header = re.match(r"impl(?:<(.*?)>)? (?:(.*) for )?(.*)", re.sub(r" where .*", "", block))
-    if not header:
-        return re.compile("::".join(filter(None, [crate, modules, name])))
-    generics = re.findall(r"(?:^|, )(\w+)", header[1] or "")
-    own = re.sub(r"(\w)<.*", r"\1", header[3])
-    of = in_one_word(own, generics) + (in_one_word(header[2], generics) + r"\w*" if header[2] else "")
-    return re.compile(rf"{crate}::(?:\w+::)*{of}::{name}")
+    type, of_trait = type_of(block)
+    if not type:
+        return re.compile(name_of(crate, file, block, name))
+    return re.compile(rf"{crate}::(?:\w+::)*{type}{of_trait}" + r"\w*" * bool(of_trait) + f"::{name}")
+
+
+def name_of(crate, file, block, name):
+    """Returns the name of this function for a check: its path, or of an impl the end of its path."""
+    type = "".join(type_of(block))
+    return f"{type}::{name}" if type else "::".join(filter(None, [crate, module_of(file), name]))
 
 
 class Said:

@@ -3,13 +3,17 @@
 
 It looks at the crates that differ from a commit, the last one or BASE, and reports each step as soon as it is done:
 - whether the map fits the crates' files (map.py);
-- each crate that changed is laid out, and proved over what earlier checks of it kept;
+- each crate that changed is laid out;
+- the functions of it that changed are proved, and those that read a changed file of specs/ or proofs/. That shows
+  nothing of the rest of the crate;
+- the whole crate is proved, over what earlier checks of it kept;
 - its wrong bodies still apply (each old text occurs once in its file), and compile, as many at once as fit together.
   `make wrong` and the gate check that the prover refuses them;
 - meanwhile, the tests of its family pass, without a proof. They are in the lowest crate of tests that names the crate,
   or else in the lowest that stands on it.
-If libraries below are not built, it builds them first, as `make build` does. It does not prove the crates above those
-that changed, unless --above is given: they stay proved if no contract changed.
+The libraries below are those that `make prove` has left. Where sources of them changed since then, or it has not run
+here, it builds them first, as `make build` does. It does not prove the crates above those that changed, unless --above
+is given: they stay proved if no contract changed.
 """
 import argparse
 import os
@@ -18,13 +22,17 @@ import sys
 import build
 import crates
 import map as the_map
+import rattle
+from changes import functions_touched
 from crates import EDITS, SOURCES, below, edits_of, folder, has_tests, is_program, listed, lowest_first, named, read, touched, with_below, write
 from edits import Edit, Texts, all_applied
 from lanes import Clock, alone, run_in, side_by_side
-from standing import RT, Sums, stands
+from standing import RT, Sums, is_for_rt, is_proved, stands
 
 # the seconds that one test may take without a proof, when it is slow
 MOST_SECONDS = "600"
+# the names of functions that one line has at most, and of how many a first answer is given
+SHOWN, MOST = 8, 60
 
 CLOCK = Clock()
 
@@ -51,26 +59,78 @@ def problems_of_layout(crate):
         yield f"{crate} cannot be laid out:\n{said}"
 
 
+def checked(crate, names=(), sources=()):
+    """Checks a crate, or these functions of it, with the sources of these libraries below it; returns the status and the
+    output."""
+    flags = [*rattle.only(names), *["--test"] * has_tests(crate)]
+    if is_for_rt(below(crate)):
+        return run_in(folder(crate), [RT, "check", *flags])[:2]
+    with rattle.kept_from_rt([*below(crate), crate]):
+        status, said, _ = rattle.check(crate, [*flags, *rattle.jobs()], sources=sources)
+    return status, rattle.what_matters(said)
+
+
+def checked_alone(crate, functions, sources):
+    """Checks these functions of a crate, and those that they call; returns the status and the output. Where a check doesn't
+    know a function's name, all of its module is checked."""
+    asked = {name: name for name in functions}
+    while True:
+        status, said = checked(crate, sorted({*asked.values()}), sources)
+        unfit = rattle.unfit(status, said, [it for it in asked if asked[it] == it])
+        if not unfit:
+            return status, said
+        asked[unfit] = functions[unfit]
+
+
+def problems_of_functions(crate, functions, sources):
+    """Proves the functions that a change touches."""
+    clock = Clock()
+    status, said = checked_alone(crate, functions, sources)
+    what = f"the {len(functions)} functions of {crate} that changed, or read what changed"
+    over = f", over the sources of {', '.join(sources)}" * bool(sources)
+    if status == 0:
+        names = ", ".join(it.removeprefix(f"{crate}::") for it in sorted(functions)[:SHOWN]) + ", .." * (len(functions) > SHOWN)
+        CLOCK.report(f"{what}, are proved{over}, in {clock.seconds():.0f} s: {names}. THE CRATE IS NOT YET PROVED")
+    elif status == 2:
+        CLOCK.report(f"{what}, cannot be checked before the whole crate")
+    else:
+        yield f"of {what}, not all are proved{over}:\n{said}"
+
+
+def first_problems(change, sums):
+    """Gives a first answer: proves the functions that the change touches. It reads sources of libraries that aren't built;
+    where none is, that would take too long."""
+    for crate in change.sources:
+        sources = [it for it in below(crate) if not is_proved(it, sums)]
+        functions = {} if is_proved(crate, sums) else functions_touched(crate, change.base)
+        if len(functions) > MOST:
+            CLOCK.report(f"the change touches {len(functions)} functions of {crate}, so the whole crate comes first")
+        elif functions and (not sources or len(sources) < len(below(crate))):
+            for problem in problems_of_functions(crate, functions, sources):
+                change.unproved.add(crate)
+                yield problem
+
+
 def problems_of_proof(crate):
     clock = Clock()
-    works, said = rt(folder(crate), "check", *["--test"] * has_tests(crate))
-    if works:
+    status, said = checked(crate)
+    if status == 0:
         more = "; it has imports that nothing uses: run `rt tidy` in its folder" if "--fix-imports removes" in said else ""
         CLOCK.report(f"{crate} is proved, in {clock.seconds():.0f} s{more}")
     else:
         yield f"{crate} is not proved:\n{said}"
 
 
-def compiles(at, edits):
-    """Returns whether the crate in this folder compiles with these edits, and the output. Its files are restored."""
+def compiles(crate, at, edits):
+    """Returns whether the crate compiles with these edits, and the output. `at` has a copy of it, which is restored."""
     files = set().union(*[edit.files() for edit in edits])
     before, made = {file: read(os.path.join(at, file)) for file in files}, all_applied(edits, Texts(at))
     for file in files:
         write(os.path.join(at, file), made[file])
-    works, said = rt(at, "check", "--only", "")
+    status, said, _ = rattle.check(crate, rattle.only([""]), at)
     for file in files:
         write(os.path.join(at, file), before[file])
-    return works, said
+    return status == 0, rattle.what_matters(said)
 
 
 def batches_of(at, edits):
@@ -88,13 +148,13 @@ def batches_of(at, edits):
     return [edits for edits, _ in batches]
 
 
-def edits_that_do_not_compile(at, edits):
+def edits_that_do_not_compile(crate, at, edits):
     """Tries each batch at once, and its edits one by one if the batch doesn't compile."""
     for batch in batches_of(at, edits):
-        if compiles(at, batch)[0]:
+        if compiles(crate, at, batch)[0]:
             continue
         for edit in batch:
-            works, said = compiles(at, [edit])
+            works, said = compiles(crate, at, [edit])
             if not works:
                 yield edit, said
 
@@ -109,9 +169,9 @@ def not_applied(crate, edits):
 
 
 def not_compiled(crate, edits):
-    with crates.room("quick") as tree:
-        crates.lay_out(tree, crate)
-        for edit, said in edits_that_do_not_compile(folder(crate, tree), edits):
+    with crates.room("quick") as at:
+        crates.copy_sources(crate, at)
+        for edit, said in edits_that_do_not_compile(crate, at, edits):
             yield f"{edit.name} does not compile:\n{said}"
 
 
@@ -134,9 +194,10 @@ def problems_of_tests(crate):
 
 class Change:
     """The crates that differ from a commit: by their sources, or also by their wrong bodies; their families' crates of
-    tests; and the crates above."""
+    tests; and the crates above. `unproved` gets those of which a proof failed."""
 
     def __init__(self, base):
+        self.base, self.unproved = base, set()
         self.sources = lowest_first(crates.changed(base, SOURCES))
         self.edited = lowest_first(crates.changed(base, SOURCES + EDITS))
         self.tests = list(dict.fromkeys(filter(None, map(tests_of, self.sources))))
@@ -146,7 +207,7 @@ class Change:
 def problems_below(change, sums):
     """Builds the libraries below the crates that changed, where they are not built."""
     libraries = lowest_first({low for crate in change.edited for low in below(crate)})
-    if not all(stands(it, sums) for it in libraries):
+    if not all(is_proved(it, sums) for it in libraries):
         failed = build.prove(libraries, sums, "below the crates that changed")
         if failed:
             yield "{} could not be proved or built:\n{}".format(*failed)
@@ -154,16 +215,17 @@ def problems_below(change, sums):
 
 def problems_of_bodies(change, sums):
     """Proves the crates that changed, and then tries their wrong bodies."""
-    unproved = set()
-    for crate in change.sources:
+    for crate in [it for it in change.sources if it not in change.unproved]:
         if stands(crate, sums):
-            CLOCK.report(f"{crate} is proved, by a build of it")
-            continue
-        for problem in problems_of_proof(crate):
-            unproved.add(crate)
-            yield problem
+            CLOCK.report(f"{crate} is proved, by a build of it as it is")
+        elif is_proved(crate, sums):
+            CLOCK.report(f"{crate} is proved: since `make prove` or a build only comments changed in it and below it")
+        else:
+            for problem in problems_of_proof(crate):
+                change.unproved.add(crate)
+                yield problem
     for crate in change.edited:
-        if crate not in unproved:
+        if crate not in change.unproved:
             yield from problems_of_edits(crate)
 
 
@@ -193,10 +255,10 @@ def problems_of(change, is_above):
     CLOCK.report(f"the map is checked: {number} problems")
     stopping = sum(tell(problems_of_layout(crate)) for crate in change.sources)
     sums = Sums()
+    found = [0 if stopping else tell(first_problems(change, sums))]
     stopping = stopping or tell(problems_below(change, sums))
     if stopping:
-        return number + stopping
-    found = []
+        return number + stopping + found[0]
     jobs = [(tell, problems_of_bodies(change, sums)), *((tell, problems_of_tests(crate)) for crate in change.tests)]
     side_by_side(lambda: jobs.pop(0) if jobs else None, found.append)
     if is_above and not any(found):

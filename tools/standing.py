@@ -5,7 +5,12 @@ Of a program and of wrong bodies the checksums leave out the lines that have onl
 or built, and a program has no numbers of lines in it. Which lines these are, the toolchain's lexer says, since in a
 clause `//` begins no comment, and since a macro may read the doc comments of a type that derives it. The checksums of
 a library have each byte of it: so have those of `rt`, which would else prove all libraries below another one anew.
+
+A library that `rt ci` left has no stamp of `rt`, and no `rt` reads it (rattle.py does). `make prove` notes it by the
+checksum of all its files, and by that of its code too, so that a changed comment leaves it standing.
 """
+import concurrent.futures
+import functools
 import hashlib
 import os
 import re
@@ -15,7 +20,7 @@ import sys
 
 import crates
 import kit
-from crates import TOP, folder, is_program, listed, named, read, write
+from crates import TOP, below, folder, is_program, listed, named, read, write
 
 RT = os.environ.get("RT", "rt")
 
@@ -26,9 +31,10 @@ def kit_folder():
 
 
 def toolchain():
-    """Returns a text that identifies the toolchain, read from its files."""
-    what, rt = os.path.join(kit_folder(), "WHAT"), os.path.realpath(shutil.which(RT))
-    return read(what) if os.path.isfile(what) else f"{rt} {os.path.getmtime(rt)}"
+    """Returns a text that identifies the toolchain and its crates, read from its files."""
+    rt = os.path.realpath(shutil.which(RT))
+    found = [os.path.join(kit_folder(), it) for it in ("WHAT", "WHAT-crates")]
+    return "".join(read(it) for it in found if os.path.isfile(it)) or f"{rt} {os.path.getmtime(rt)}"
 
 
 def bytes_of(path):
@@ -54,6 +60,12 @@ class Sums:
             sum.update(repr([self.of(low) for low in named()[crate]]).encode())
             self.known[crate] = sum.hexdigest()
         return self.known[crate]
+
+
+    @functools.lru_cache(None)
+    def of_code(self):
+        """Returns such checksums of the code of all crates."""
+        return CodeSums(listed())
 
 
 class CodeSums(Sums):
@@ -86,16 +98,53 @@ def code_of(text, tokens):
     return b"\n".join(line for number, line in enumerate(text.split(b"\n"), 1) if b"%d" % number in lines)
 
 
+def library_of(crate):
+    return os.path.join(folder(crate), "out", "rlib", f"{crate}.rlib")
+
+
+def stamp_of(crate):
+    """Returns the file by which `rt` knows a library that `rt lib` built."""
+    return os.path.join(folder(crate), "out", "rlib", "stamp")
+
+
+def is_for_rt(libraries):
+    """Returns whether `rt` takes all these libraries as they stand."""
+    return all(os.path.isfile(stamp_of(it)) for it in libraries)
+
+
 def built_file(crate):
-    """Returns the file that changes with every build of the crate."""
-    out = os.path.join(folder(crate), "out")
-    return os.path.join(out, crate) if is_program(crate) else os.path.join(out, "rlib", "stamp")
+    """Returns a file that changes with every build of the crate, or with most."""
+    if is_program(crate):
+        return os.path.join(folder(crate), "out", crate)
+    return stamp_of(crate) if os.path.isfile(stamp_of(crate)) else os.path.join(library_of(crate), "format")
+
+
+@functools.lru_cache(None)
+def sum_of_files(at, _):
+    """Returns a checksum of all files below a folder. (The other argument tells them from those that were there before.)"""
+    found = sorted(os.path.join(place, name) for place, _, names in os.walk(at) for name in names)
+    with concurrent.futures.ThreadPoolExecutor(len(os.sched_getaffinity(0))) as lanes:
+        sums = lanes.map(lambda path: hashlib.sha256(bytes_of(path)).hexdigest(), found)
+        return hashlib.sha256(repr([(path[len(at) :], sum) for path, sum in zip(found, sums)]).encode()).hexdigest()
+
+
+def sum_of_library(crate):
+    """Returns the checksum of a library's files."""
+    is_now = os.stat(os.path.join(library_of(crate), "format"))
+    return sum_of_files(library_of(crate), (is_now.st_ino, is_now.st_mtime_ns, is_now.st_ctime_ns))
+
+
+def sum_of_built(crate):
+    """Returns the checksum of what was built: of a library without a stamp, all files of it and of those below it, since
+    it fits only the very libraries that it was built over."""
+    if is_program(crate) or os.path.isfile(stamp_of(crate)):
+        return hashlib.sha256(bytes_of(built_file(crate))).hexdigest()
+    return hashlib.sha256(repr([sum_of_library(it) for it in [*below(crate), crate]]).encode()).hexdigest()
 
 
 def mark_of(crate, sums, cpu):
-    """Returns the note of a build: the checksum of its sources, that of the built file, and the processor, if any."""
-    built = hashlib.sha256(bytes_of(built_file(crate))).hexdigest()
-    return f"{sums.of(crate)} {built} {cpu}".rstrip()
+    """Returns the note of a build: the checksum of its sources, that of what was built, and the processor, if any."""
+    return f"{sums.of(crate)} {sum_of_built(crate)} {cpu}".rstrip()
 
 
 def note_of(crate):
@@ -105,9 +154,18 @@ def note_of(crate):
 
 
 def stands(crate, sums, cpu=""):
-    if not os.path.isfile(note_of(crate)) or not os.path.isfile(built_file(crate)):
+    """Returns whether a crate was proved and built from its sources as they are now, and what was built is there."""
+    try:
+        lines = read(note_of(crate)).split("\n")
+        # (a library's files are read only where its sources are those of the note)
+        return any(it.startswith(sums.of(crate)) for it in lines) and mark_of(crate, sums, cpu) in lines
+    except (OSError, UnicodeDecodeError):
         return False
-    return mark_of(crate, sums, cpu) in read(note_of(crate)).split("\n")
+
+
+def is_proved(crate, sums):
+    """Returns whether a library stands. Without a stamp it also stands where only comments changed since it was noted."""
+    return stands(crate, sums) or not os.path.isfile(stamp_of(crate)) and stands(crate, sums.of_code())
 
 
 def note(crate, all_sums, cpu=""):

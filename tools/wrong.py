@@ -2,14 +2,16 @@
 """Tries wrong bodies, those of must-fail/ and of wrong-bodies/: `make wrong`. The prover has to refuse each.
 
 It tries those of all crates, or of the named ones; with a base, of the crates that changed since that commit and
-of the crates above. First it proves these crates, as `make build` does. Then it checks each in copies with many
-wrong bodies at once, at most one for each function: a proof uses only the contract of another function, and the
-check reports for each function whether it is refused by itself. It tries alone the wrong bodies that such a check
-leaves open, and changes outside of functions. It prints each wrong body that no clause refuses, and ends with
-status 0 if there is none.
+of the crates above. The libraries are those that `make prove` has left; where sources changed since then, it first
+proves them as `make build` does. Then it checks each crate in copies with many wrong bodies at once, at most one for
+each function: a proof uses only the contract of another function, and the check reports for each function whether it
+is refused by itself. It checks the functions that change and those that they call alone. It tries alone the wrong
+bodies that such a check leaves open, and checks the whole crate for changes outside of functions, and before it says
+that one is not refused. It prints each wrong body that no clause refuses, and ends with status 0 if there is none.
 
 It notes below out/refused/ which were refused, with checksums of the code of the crate and of all below it, and of the
-edit. After an interrupt or a change it tries only the rest, and what no longer applies; with --anew it tries all.
+edit. After an interrupt or a change it tries only the rest, and what no longer applies; with --anew it tries all. The
+trials of a crate run one after the other over what the former ones kept of it, in out/wrong/ until all are done.
 """
 import argparse
 import collections
@@ -20,11 +22,12 @@ import sys
 
 import build
 import crates
-from crates import EDITS, SOURCES, edits_of, folder, listed, touched, write
+import rattle
+from crates import EDITS, SOURCES, TOP, edits_of, folder, listed, touched, write
 from edits import Edit, Texts
-from functions import OF_NAMES, Said, function_of, names_of
-from lanes import ONE_JOB, Clock, alone, run_in, side_by_side
-from standing import RT, CodeSums, Sums, note_refusal, was_refused
+from functions import OF_NAMES, Said, function_of, name_of, names_of
+from lanes import ONE_JOB, Clock, alone, side_by_side
+from standing import CodeSums, Sums, note_refusal, was_refused
 
 REFUSED, BY_NAME, BY_LIMIT, MISSED, BAD = range(5)
 # the most in one check: more would leave processors idle at the end
@@ -35,10 +38,16 @@ LIMITS = re.compile(r"antt ran out of|outgrew the memory limit|stopped at the st
 
 class Trial:
     """Wrong bodies of one crate that are tried in one copy of it. Each has the patterns of its functions' names by
-    function, or none if it has to be tried alone."""
+    function, or none if it has to be tried alone. `is_whole` says that the whole crate is checked."""
 
-    def __init__(self, crate):
-        self.crate, self.edits, self.texts = crate, {}, Texts(folder(crate))
+    def __init__(self, crate, is_whole=False):
+        self.crate, self.is_whole, self.edits, self.texts = crate, is_whole, {}, Texts(folder(crate))
+
+    def names(self):
+        """Returns the names of the functions to check, or none if the whole crate has to be."""
+        if self.is_whole or not all(self.edits.values()):
+            return []
+        return [name_of(self.crate, *function) for places in self.edits.values() for function in places]
 
     def takes(self, edit, places):
         """Adds the edit if it fits to the others, and returns whether it does."""
@@ -66,12 +75,12 @@ def places_of(crate, edit):
     return found
 
 
-def trials_with(crate, places):
+def trials_with(crate, places, is_whole=False):
     """Distributes these wrong bodies over trials."""
     trials = []
     for edit, of in places.items():
         if not any(trial.takes(edit, of) for trial in trials):
-            trials.append(Trial(crate))
+            trials.append(Trial(crate, is_whole))
             trials[-1].takes(edit, of)
     return trials
 
@@ -81,32 +90,41 @@ def trials_of(crate, edits):
 
 
 def parts_of(trial, left):
-    """Yields trials of the wrong bodies that a trial left open: each alone, or two halves if it left all open, as
-    when one of them doesn't compile."""
+    """Yields trials of the wrong bodies that a trial left open: each alone, or two halves if it left all open, as when one
+    of them doesn't compile. One that was alone is tried by a check of the whole crate."""
     size = (len(left) + 1) // 2 if len(left) == len(trial.edits) else 1
     for at in range(0, len(left), size):
-        yield from trials_with(trial.crate, {edit: trial.edits[edit] for edit in left[at : at + size]})
+        yield from trials_with(trial.crate, {edit: trial.edits[edit] for edit in left[at : at + size]}, len(trial.edits) == 1)
 
 
 def link_kept(one, other):
-    """Copies a file that `rt` kept of a crate. A check replaces the file of a proved module and never changes it,
-    so that a link is enough."""
+    """Copies a file that an earlier check kept. A check replaces the file of a proved module and never changes it, so that
+    a link is enough."""
     is_proved = one.endswith(".oantt")
     return os.link(one, other) if is_proved else shutil.copy2(one, other)
 
 
+def kept_for(crate):
+    """Returns the folder of what the trials of a crate keep. The first begins with what checks of the crate itself kept."""
+    kept, own = os.path.join(TOP, "out", "wrong", crate), os.path.join(folder(crate), rattle.KEPT)
+    if not os.path.isdir(kept) and os.path.isdir(own):
+        shutil.rmtree(kept + ".new", ignore_errors=True)
+        shutil.copytree(own, kept + ".new", copy_function=link_kept)
+        os.rename(kept + ".new", kept)
+    return kept
+
+
 def checked(trial, tree):
-    """Checks the crate in a tree of its own with these wrong bodies; returns the status and the output."""
-    crate = trial.crate
-    crates.lay_out(tree, crate)
-    kept = os.path.join("out", "incremental")
-    # (a library that `rt` took from another checkout has no such folder, and is checked from nothing)
-    if os.path.isdir(os.path.join(folder(crate), kept)):
-        shutil.copytree(os.path.join(folder(crate), kept), os.path.join(folder(crate, tree), kept), copy_function=link_kept)
-    for file, text in trial.texts.items():
-        write(os.path.join(folder(crate, tree), file), text)
+    """Checks the crate with these wrong bodies in a folder of its own; returns the status and the output."""
+    kept, names = kept_for(trial.crate), trial.names()
     try:
-        return run_in(folder(crate, tree), [RT, "check", *ONE_JOB])[:2]
+        crates.copy_sources(trial.crate, tree)
+        for file, text in trial.texts.items():
+            write(os.path.join(tree, file), text)
+        status, said, _ = rattle.check(trial.crate, [*ONE_JOB, *rattle.only(names)], tree, kept)
+        if rattle.unfit(status, said, names):
+            status, said, _ = rattle.check(trial.crate, ONE_JOB, tree, kept)
+        return status, said
     finally:
         shutil.rmtree(tree, ignore_errors=True)
 
@@ -132,7 +150,7 @@ def found_alone(status, said):
         return MISSED, "NOT REFUSED"
     if status == 3 and any(map(LIMITS.search, lines)):
         return BY_LIMIT, "refused only by a limit of the prover"
-    if not any(it.startswith("logic=not-proved") for it in lines):
+    if not any(it.startswith(("logic=not-proved", "only=")) for it in lines):
         return BAD, "NOT TRIED:\n    " + "\n    ".join(lines[:12])
     if errors and not by_clause:
         return BY_NAME, f"refused only because a proof file uses a name that it removed: {errors[0]}"
@@ -144,14 +162,17 @@ class Trials:
 
     def __init__(self, trials, room, code):
         self.room, self.code, self.clock = room, code, Clock()
-        self.number, self.found, self.waiting = 0, {}, list(trials)
+        self.number, self.found, self.waiting, self.work = 0, {}, list(trials), set()
 
     def next(self):
-        """Returns the job for the next trial, or None."""
-        if not self.waiting:
+        """Returns the job for the next trial, or None: one of a crate that no other trial is in work of."""
+        trial = next((it for it in self.waiting if it.crate not in self.work), None)
+        if not trial:
             return None
         self.number += 1
-        return self.run, self.waiting.pop(0), self.number
+        self.waiting.remove(trial)
+        self.work.add(trial.crate)
+        return self.run, trial, self.number
 
     def run(self, trial, number):
         edits = list(trial.edits)
@@ -159,8 +180,9 @@ class Trials:
             return trial, {edits[0]: (BAD, "NOT TRIED: an old text doesn't occur in its file exactly once")}
         status, said = checked(trial, os.path.join(self.room, str(number)))
         found = found_among_others(trial, said)
-        if len(edits) == 1 and not found:
-            found = {edits[0]: found_alone(status, said)}
+        alone = found_alone(status, said) if len(edits) == 1 and not found else None
+        if alone and (alone[0] == REFUSED or not trial.names()):
+            found = {edits[0]: alone}
         return trial, found
 
     def end(self, result):
@@ -172,6 +194,9 @@ class Trials:
         left = [edit for edit in trial.edits if edit not in found]
         self.clock.report(f"{trial.crate}: {len(found)} of {len(trial.edits)} settled" + f"; {len(left)} to be tried again" * bool(left))
         self.waiting[:0] = parts_of(trial, left)
+        self.work.remove(trial.crate)
+        if trial.crate not in [it.crate for it in self.waiting]:
+            shutil.rmtree(os.path.join(TOP, "out", "wrong", trial.crate), ignore_errors=True)
 
 
 def asked():
@@ -201,9 +226,11 @@ def tried(edits, code):
     if failed:
         sys.exit(build.fail(*failed))
     trials = [trial for crate in chosen for trial in trials_of(crate, [it for it in edits if it.crate == crate])]
+    # (the trials of a crate run one after the other, so the crate with most work comes first)
     seconds = build.seconds_of(chosen)
-    trials.sort(key=lambda trial: -len(trial.edits) * seconds[trial.crate])
-    with crates.room("wrong") as room:
+    work = {crate: seconds[crate] * sum(3 + len(it.edits) for it in trials if it.crate == crate) for crate in chosen}
+    trials.sort(key=lambda trial: (-work[trial.crate], trial.crate, -len(trial.edits)))
+    with crates.room("wrong") as room, rattle.kept_from_rt(crates.with_below(chosen)):
         work = Trials(trials, room, code)
         side_by_side(work.next, work.end)
         return work.found

@@ -21,6 +21,7 @@
 #   install.py    the manual page, the completions and what `make install` writes
 #   release.py    the released program: `make run` and `make install` without the kit, damaged releases, other machines
 #   wrong.py      which wrong bodies `make wrong` tries again after a change, with an invented kit
+#   quick.py      what `make quick` and `make build` take from `make prove`, with the same kit
 #   readme.sh     the commands of README.md and of the crates' pages that have some, pasted into a shell
 set -u
 top=$(cd "$(dirname "$0")/../.." && pwd)
@@ -80,6 +81,7 @@ part python3 "$tests/identification.py" "$program"
 part python3 "$tests/install.py" "$program"
 part python3 "$tests/release.py"
 part python3 "$tests/wrong.py"
+part python3 "$tests/quick.py"
 # (0 unless it was ended)
 wait "$!" || echo failed >>"$work/ended"
 failed=$(grep -c failed "$work/ended")

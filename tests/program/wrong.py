@@ -1,125 +1,108 @@
 #!/usr/bin/env python3
-"""Tests which wrong bodies `make wrong` (tools/wrong.py) tries again after a change, over a small repository and a kit that
-are invented: wrong.py. Their `rt` refuses each wrong body, and notes its calls."""
+"""Tests which wrong bodies `make wrong` (tools/wrong.py) tries, and how, over a small repository and a kit that are
+invented: wrong.py."""
 import os
 import shutil
-import subprocess
 import sys
-import tempfile
 import unittest
 
-TOP = os.path.dirname(os.path.dirname(os.path.dirname(os.path.abspath(__file__))))
-SOURCE = """\
-//! Bits.
+sys.path.insert(0, os.path.dirname(os.path.dirname(os.path.abspath(__file__))))
+from lib.toolkit import Repository, read, write
 
-/// Returns a bit.
-pub fn bit() -> bool {
-    // the bit is set
-    true
-}
-
-/// Returns a number.
-pub fn number() -> u8 {
-    // at least one
-    7
-}
-"""
+FILE = "file: src/lib.rt\n"
 EDITS = {
-    "other_bit": "file: src/lib.rt\nold:     // the bit is set\nnew:     return false;\n",
-    "other_number": "file: src/lib.rt\nold:     7\nnew:     8\n",
+    "other_first": FILE + "old:     // one is odd\nnew:     return 4;\n",
+    "other_second": FILE + "old:     2\nnew:     8\n",
 }
 NOT_ONCE = "NOT TRIED: an old text doesn't occur in its file exactly once"
-# builds a library; of a check it says that the functions are not proved
-RT = """\
-#!/bin/sh
-echo "$1" >>"$(dirname "$0")/calls"
-if [ "$1" = lib ]; then
-    mkdir -p out/rlib && echo built >out/rlib/stamp
-else
-    for name in bit number; do
-        echo "fn bits::$name: \\`search\\` did not prove \\`is\\`"
-    done
-    exit 1
-fi
-"""
-# says as the toolchain's lexer which lines have more than a comment
-LEXER = """\
-#!/usr/bin/env python3
-import sys
-for number, path in enumerate(sys.argv[3:], 1):
-    print("file", number)
-    for line, text in enumerate(open(path), 1):
-        if text.split("//")[0].strip():
-            print(line, 0, 1, "word", text.split()[0])
-"""
+BOTH = ["rattle check top first second"]
 
 
-def write(path, text):
-    os.makedirs(os.path.dirname(path), exist_ok=True)
-    with open(path, "w") as file:
-        file.write(text)
+class Wrong(Repository):
+    """Each test has a repository whose crate `top` has two wrong bodies, over libraries that `make prove` left."""
 
-
-class Refusals(unittest.TestCase):
     def setUp(self):
-        self.room = tempfile.mkdtemp()
-        self.addCleanup(shutil.rmtree, self.room)
-        self.kit = os.path.join(self.room, "kit", "bin")
-        for name, text in (("rt", RT), ("rattle", LEXER)):
-            write(os.path.join(self.kit, name), text)
-            os.chmod(os.path.join(self.kit, name), 0o755)
-        shutil.copytree(os.path.join(TOP, "tools"), os.path.join(self.room, "tools"), ignore=shutil.ignore_patterns("__pycache__"))
-        write(os.path.join(self.room, "crates.txt"), "bits:\n")
-        write(os.path.join(self.room, "HANDLES"), "")
-        self.change("", "")
-        for name, text in EDITS.items():
-            write(os.path.join(self.room, "crates", "bits", "wrong-bodies", f"{name}.edit"), text)
-        self.assert_tried([], earlier=0)
+        super().setUp()
+        self.add(EDITS)
+        self.prove()
 
-    def change(self, old, new):
-        """Writes the crate's source with another text in the place of this one."""
-        write(os.path.join(self.room, "crates", "bits", "src", "lib.rt"), SOURCE.replace(old, new))
+    def add(self, edits, part="wrong-bodies"):
+        for name, text in edits.items():
+            write(self.at("crates", "top", part, f"{name}.edit"), text)
 
-    def calls(self):
-        """Returns the calls of `rt check` since the last time."""
-        path = os.path.join(self.kit, "calls")
-        with open(path) as file:
-            found = file.read().split()
-        write(path, "")
-        return found.count("check")
+    def wrong(self, *words):
+        status, said = self.call("wrong.py", *words)
+        return status, said.split("\n")[-2], said, [it for it in self.calls() if "fmt" not in it]
 
-    def assert_tried(self, bad, earlier):
-        """Calls it: these do not apply, so many were refused earlier, and the rest is refused now, in one check."""
-        path = os.environ["PATH"]
-        run = subprocess.run(
-            [sys.executable, "-B", os.path.join(self.room, "tools", "wrong.py")],
-            env={"PATH": path, "RT": os.path.join(self.kit, "rt")}, stdout=subprocess.PIPE, stderr=subprocess.PIPE, text=True, timeout=60,
-        )
+    def assert_tried(self, calls, refused=2, earlier=0, bad=()):
+        """Calls it: these do not apply, so many were refused earlier, and it calls the kit so."""
+        status, last, said, its = self.wrong()
         by_earlier = f" ({earlier} of them by an earlier run)" * bool(earlier)
-        counted = f"{len(EDITS)} wrong bodies: {len(EDITS) - len(bad)} refused{by_earlier}, 0 refused for a name alone, 0 not refused, {len(bad)} bad\n"
-        self.assertEqual(run.stdout, "".join(f"crates/bits/wrong-bodies/{name}.edit: {NOT_ONCE}\n" for name in bad) + counted, run.stderr)
-        self.assertEqual((run.returncode, self.calls()), (int(bool(bad)), int(earlier + len(bad) < len(EDITS))), run.stderr)
+        self.assertEqual(last, f"{refused + len(bad)} wrong bodies: {refused} refused{by_earlier}, 0 refused for a name alone, 0 not refused, {len(bad)} bad", said)
+        for name in bad:
+            self.assertIn(f"crates/top/wrong-bodies/{name}.edit: {NOT_ONCE}", said)
+        self.assertEqual((status, its), (int(bool(bad)), calls), said)
+        self.assertFalse(os.path.exists(self.at("out", "wrong", "top")))
+
+
+class Refusals(Wrong):
+    def setUp(self):
+        super().setUp()
+        self.assert_tried(BOTH)
 
     def test_nothing_changed(self):
         self.assert_tried([], earlier=2)
 
     def test_a_comment_that_no_edit_names(self):
-        self.change("at least one", "two or more")
+        self.change("top", "//! Numbers", "//! Small numbers")
         self.assert_tried([], earlier=2)
 
     def test_a_comment_that_an_edit_replaces(self):
-        for new in ("the bit is one", "the bit is set\n    // the bit is set"):
-            self.change("the bit is set", new)
-            self.assert_tried(["other_bit"], earlier=1)
+        text = read(self.source("top"))
+        for new in ("one is one", "one is odd\n    // one is odd"):
+            write(self.source("top"), text.replace("one is odd", new))
+            self.assert_tried([], refused=1, earlier=1, bad=["other_first"])
         # (what was noted before counts again)
-        self.change("", "")
+        write(self.source("top"), text)
         self.assert_tried([], earlier=2)
 
     def test_the_code(self):
-        self.change("true", "!false")
-        self.assert_tried([], earlier=0)
-        self.change("    7", "    9")
-        self.assert_tried(["other_number"], earlier=0)
+        self.change("top", "≡ 2 }\n{\n    2", "≡ 3 }\n{\n    3")
+        self.assert_tried(["rattle build top", "rattle check top first"], refused=1, bad=["other_second"])
+
+    def test_the_code_below(self):
+        self.change("low", "≡ 2 }\n{\n    2", "≡ 3 }\n{\n    3")
+        built = [f"{how} {crate}" for crate in ("low", "mid", "top") for how in ("rt lib", "rattle build")]
+        self.assert_tried([*built, *BOTH])
+
+
+class Trials(Wrong):
+    def test_one_that_is_not_refused(self):
+        """A check of its function alone doesn't settle that: one of the whole crate does."""
+        self.add({"same": FILE + "old:     2\nnew:     // two\n"})
+        self.change("top", "    2\n}", "    2\n    3\n}")
+        self.prove()
+        self.add({"same": FILE + "old:     3\nnew:     4\n"})
+        status, last, said, calls = self.wrong()
+        self.assertEqual((status, last), (1, "3 wrong bodies: 2 refused, 0 refused for a name alone, 1 not refused, 0 bad"), said)
+        self.assertIn("crates/top/wrong-bodies/same.edit: NOT REFUSED", said)
+        self.assertEqual(calls, [*BOTH, "rattle check top second", "rattle check top"])
+
+    def test_a_change_outside_of_functions(self):
+        self.add({"outside": FILE + "old:     ensures { result ≡ 1 }\nnew:     ensures { result ≡ 5 }\n"}, "must-fail")
+        self.assert_tried([*BOTH, "rattle check top"], refused=3)
+
+    def test_what_former_trials_kept(self):
+        kept = self.at("crates", "top", "out", "incremental")
+        for name in ("first.oantt", "index"):
+            write(os.path.join(kept, name), "kept")
+        self.assert_tried(BOTH)
+        self.assertEqual([read(os.path.join(kept, name)) for name in ("first.oantt", "index")], ["kept"] * 2)
+
+    def test_after_an_interrupt(self):
+        write(self.at("out", "wrong", "top", "index"), "kept")
+        write(self.at("out", "wrong", "top.new", "index"), "half")
+        self.assert_tried(BOTH)
 
 
 if __name__ == "__main__":
