@@ -15,7 +15,7 @@ import crates
 import rattle
 from crates import TOP, below, folder, is_program, listed, named, read
 from lanes import ONE_JOB, Clock, alone, run_in, side_by_side
-from standing import RT, CodeSums, Sums, is_for_rt, is_proved, note, stands
+from standing import RT, Sums, is_for_rt, is_proved, note, stands
 
 SECONDS = os.path.join(TOP, "tools", "seconds.txt")
 # the disk in bytes that a library and the work that `rt` keeps of it take
@@ -69,6 +69,8 @@ class Build:
     def __init__(self, libraries, sums):
         self.sums, self.all = sums, len(libraries)
         self.waiting = [it for it in libraries if not is_proved(it, sums)]
+        # (of the sources as they are before they are proved)
+        self.all_sums = [sums, sums.of_code()] if self.waiting else []
         self.work, self.failed, self.clock = [], None, Clock()
         self.chains = self.chains_of(libraries)
 
@@ -103,8 +105,8 @@ class Build:
     def run(self, crate):
         clock = Clock()
         status, said, used = prove_library(crate)
-        if status == 0:
-            note(crate, [self.sums])
+        if status == 0 and Sums().of(crate) == self.sums.of(crate):
+            note(crate, self.all_sums)
         what = "took" if status == 0 else "failed after"
         return crate, status, said, f"{crate} {what} {clock.seconds():.0f} s, and {used:.0f} s of a processor"
 
@@ -160,10 +162,10 @@ def main():
     if len(sys.argv) < 2 or sys.argv[1] not in listed():
         sys.exit("usage: build.py CRATE [CPU], with a crate of crates.txt")
     program, cpu = sys.argv[1], "".join(sys.argv[2:3])
-    sums = Sums()
+    sums = Sums([program])
     if stands(program, sums, cpu):
         return 0
-    all_sums = [sums, CodeSums([program])] if is_program(program) else [sums]
+    all_sums = [sums, sums.of_code()]
     with alone():
         if not stands(program, all_sums[-1], cpu) and build(program, cpu, sums):
             return 1

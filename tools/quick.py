@@ -254,7 +254,7 @@ def problems_of(change, is_above):
     number = tell(the_map.problems())
     CLOCK.report(f"the map is checked: {number} problems")
     stopping = sum(tell(problems_of_layout(crate)) for crate in change.sources)
-    sums = Sums()
+    sums = Sums([*change.edited, *change.above] if is_above else change.edited)
     found = [0 if stopping else tell(first_problems(change, sums))]
     stopping = stopping or tell(problems_below(change, sums))
     if stopping:

@@ -43,9 +43,11 @@ def bytes_of(path):
 
 
 class Sums:
-    """A checksum for each crate: of the toolchain, its sources, its line, and the checksums of the crates below it."""
+    """A checksum for each crate: of the toolchain, its sources, its line, and the checksums of the crates below it. `chosen`
+    are the crates that are asked for, or all."""
 
-    def __init__(self):
+    def __init__(self, chosen=()):
+        self.chosen = chosen or listed()
         self.toolchain = toolchain()
         self.known = {}
 
@@ -61,18 +63,17 @@ class Sums:
             self.known[crate] = sum.hexdigest()
         return self.known[crate]
 
-
     @functools.lru_cache(None)
     def of_code(self):
-        """Returns such checksums of the code of all crates."""
-        return CodeSums(listed())
+        """Returns such checksums of the code of the chosen crates and all below them."""
+        return CodeSums(self.chosen)
 
 
 class CodeSums(Sums):
     """The same for these crates and all below them, of the code alone: of the lines that have more than a comment."""
 
     def __init__(self, chosen):
-        super().__init__()
+        super().__init__(chosen)
         paths = [path for crate in crates.with_below(chosen) for path in crates.files_of(crate)]
         self.code = {path: code_of(bytes_of(path), tokens) for path, tokens in zip(paths, tokens_of(paths))}
 

@@ -222,7 +222,7 @@ def is_settled(edit, code):
 def tried(edits, code):
     """Proves the crates of these wrong bodies, and tries them; returns the result of each."""
     chosen = list(dict.fromkeys(edit.crate for edit in edits))
-    failed = build.prove(crates.with_below(chosen), Sums(), "with wrong bodies, and those below them")
+    failed = build.prove(crates.with_below(chosen), Sums(chosen), "with wrong bodies, and those below them")
     if failed:
         sys.exit(build.fail(*failed))
     trials = [trial for crate in chosen for trial in trials_of(crate, [it for it in edits if it.crate == crate])]

@@ -27,7 +27,7 @@ pub fn second() -> u8
     2
 }
 """
-# what it is called with goes into `calls`; where a file `slow` stands beside it, a call takes a minute
+# what it is called with goes into `calls`; where a file `slow` stands beside it, a call takes so many seconds
 RATTLE = r'''#!/usr/bin/env python3
 import hashlib, os, re, sys, time
 HERE, words = os.path.dirname(os.path.abspath(__file__)), sys.argv[1:]
@@ -53,7 +53,7 @@ crate, only = given("--crate-name")[0], given("--only")
 named = [it.split("::", 1)[-1] for it in only] + [it.split(":")[0] + "=" for it in given("--lib")]
 print("rattle", words[0], crate, *named, file=open(os.path.join(HERE, "calls"), "a"))
 if os.path.exists(os.path.join(HERE, "slow")):
-    time.sleep(60)
+    time.sleep(float(read(os.path.join(HERE, "slow"))))
 libraries = dict(it.split("=") for it in given("--extern") if not it.startswith(("std=", "core=")))
 for name, rlib in libraries.items():
     for line in read(os.path.join(rlib, "format")).splitlines():
@@ -83,6 +83,11 @@ for at in given("-o"):
     open(os.path.join(at, "code"), "w").write(text)
     open(os.path.join(at, "format"), "w").write("".join(f"{it} {sum_of(rlib)}\n" for it, rlib in libraries.items()))
 '''
+LINK = """\
+#!/usr/bin/env python3
+import sys
+open(sys.argv[sys.argv.index("-o") + 1], "w").write("another program")
+"""
 # `rt ci` proves all and leaves no stamps; `rt lib` leaves one
 RT = r'''#!/usr/bin/env python3
 import os, shutil, signal, subprocess, sys
@@ -147,7 +152,7 @@ class Repository(unittest.TestCase):
         self.room = tempfile.mkdtemp()
         self.addCleanup(shutil.rmtree, self.room)
         self.top, self.kit = os.path.join(self.room, "repository"), os.path.join(self.room, "kit", "bin")
-        for name, text in (("rt", RT), ("rattle", RATTLE)):
+        for name, text in (("rt", RT), ("rattle", RATTLE), ("rattle-link", LINK)):
             write(os.path.join(self.kit, name), text)
             os.chmod(os.path.join(self.kit, name), 0o755)
         write(os.path.join(self.room, "kit", "WHAT"), "archive 1\n")

@@ -154,6 +154,17 @@ class Notes(Repository):
         self.change("low", "one is odd", "one is not even")
         self.assertEqual((self.call("build.py", "main"), self.calls()), ((0, ""), []))
 
+    def test_a_program_of_changed_sources(self):
+        """It is built over the libraries that did not change, and those that are built again."""
+        self.prove()
+        self.change("top", "≡ 2 }\n{\n    2", "≡ 3 }\n{\n    3")
+        status, said = self.call("build.py", "main")
+        self.assertEqual((status, self.calls()), (0, ["rattle build top", "rattle build main"]), said)
+        self.assertEqual(read(self.at("crates", "main", "out", "main")), "another program")
+        self.assertEqual(sorted(os.listdir(self.at("crates", "main", "out"))), ["main"])
+        self.change("top", "one is odd", "one is not even")
+        self.assertEqual((self.call("build.py", "main"), self.calls()), ((0, ""), []))
+
     def test_a_run_that_failed_or_was_interrupted(self):
         self.prove()
         self.call("proved.py", "begin")
@@ -198,12 +209,15 @@ class Notes(Repository):
 class Interrupts(Repository):
     """An interrupt ends what runs, and leaves no half of a library; the next call does the rest."""
 
+    def wait_for_rattle(self):
+        while not any("rattle" in it for it in self.calls()):
+            time.sleep(0.1)
+
     def interrupt(self, *words):
         """Interrupts a tool when `rattle` runs, which would take a minute."""
-        write(os.path.join(self.kit, "slow"), "")
+        write(os.path.join(self.kit, "slow"), "60")
         with self.begin(*words) as run:
-            while not any("rattle" in it for it in self.calls()):
-                time.sleep(0.1)
+            self.wait_for_rattle()
             run.send_signal(signal.SIGTERM)
             begun = time.time()
             run.communicate(timeout=600)
@@ -229,6 +243,18 @@ class Interrupts(Repository):
         self.assertEqual(self.call("build.py", "mid")[0], 0)
         self.assertEqual(self.calls()[-1], "rattle build mid")
         self.assertEqual((self.call("build.py", "mid"), self.calls()), ((0, ""), []))
+
+    def test_a_change_meanwhile(self):
+        """What a library was made of is not known then, so that it is built again."""
+        self.prove()
+        self.change("mid", "≡ 2 }\n{\n    2", "≡ 3 }\n{\n    3")
+        write(os.path.join(self.kit, "slow"), "5")
+        with self.begin("build.py", "mid") as run:
+            self.wait_for_rattle()
+            self.change("mid", "≡ 3 }\n{\n    3", "≡ 4 }\n{\n    4")
+            run.communicate(timeout=600)
+        self.assertEqual(self.call("build.py", "mid")[0], 0)
+        self.assertEqual(self.calls()[-1], "rattle build mid")
 
 
 if __name__ == "__main__":
