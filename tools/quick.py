@@ -89,7 +89,7 @@ def problems_of_functions(crate, functions, sources):
     what = f"the {len(functions)} functions of {crate} that changed, or read what changed"
     over = f", over the sources of {', '.join(sources)}" * bool(sources)
     if status == 0:
-        names = ", ".join(it.removeprefix(f"{crate}::") for it in sorted(functions)[:SHOWN]) + ", .." * (len(functions) > SHOWN)
+        names = ", ".join(it.split(f"{crate}::")[-1] for it in sorted(functions)[:SHOWN]) + ", .." * (len(functions) > SHOWN)
         CLOCK.report(f"{what}, are proved{over}, in {clock.seconds():.0f} s: {names}. THE CRATE IS NOT YET PROVED")
     elif status == 2:
         CLOCK.report(f"{what}, cannot be checked before the whole crate")

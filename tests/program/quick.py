@@ -210,8 +210,11 @@ class Interrupts(Repository):
     """An interrupt ends what runs, and leaves no half of a library; the next call does the rest."""
 
     def wait_for_rattle(self):
-        while not any("rattle" in it for it in self.calls()):
+        for _ in range(3000):
+            if any("rattle" in it for it in self.calls()):
+                return
             time.sleep(0.1)
+        self.fail("it has not called rattle")
 
     def interrupt(self, *words):
         """Interrupts a tool when `rattle` runs, which would take a minute."""
