@@ -63,7 +63,7 @@ def checked(crate, names=(), sources=()):
     """Checks a crate, or these functions of it, with the sources of these libraries below it; returns the status and the
     output."""
     flags = [*rattle.only(names), *["--test"] * has_tests(crate)]
-    if is_for_rt(below(crate)):
+    if is_for_rt(below(crate)) and not sources:
         return run_in(folder(crate), [RT, "check", *flags])[:2]
     with rattle.kept_from_rt([*below(crate), crate]):
         status, said, _ = rattle.check(crate, [*flags, *rattle.jobs()], sources=sources)
@@ -86,15 +86,15 @@ def problems_of_functions(crate, functions, sources):
     """Proves the functions that a change touches."""
     clock = Clock()
     status, said = checked_alone(crate, functions, sources)
-    what = f"the {len(functions)} functions of {crate} that changed, or read what changed"
+    what = f"the {len(functions)} function{'s' * (len(functions) > 1)} of {crate} with a changed text, proof or definition"
     over = f", over the sources of {', '.join(sources)}" * bool(sources)
     if status == 0:
         names = ", ".join(it.split(f"{crate}::")[-1] for it in sorted(functions)[:SHOWN]) + ", .." * (len(functions) > SHOWN)
-        CLOCK.report(f"{what}, are proved{over}, in {clock.seconds():.0f} s: {names}. THE CRATE IS NOT YET PROVED")
+        CLOCK.report(f"proved{over}, in {clock.seconds():.0f} s: {what}: {names}. THE CRATE IS NOT YET PROVED")
     elif status == 2:
-        CLOCK.report(f"{what}, cannot be checked before the whole crate")
+        CLOCK.report(f"not checked ahead of the whole crate: {what}")
     else:
-        yield f"of {what}, not all are proved{over}:\n{said}"
+        yield f"not all proved{over}: {what}:\n{said}"
 
 
 def first_problems(change, sums):
@@ -104,7 +104,7 @@ def first_problems(change, sums):
         sources = [it for it in below(crate) if not is_proved(it, sums)]
         functions = {} if is_proved(crate, sums) else functions_touched(crate, change.base)
         if len(functions) > MOST:
-            CLOCK.report(f"the change touches {len(functions)} functions of {crate}, so the whole crate comes first")
+            CLOCK.report(f"{crate} is checked as a whole at once: {len(functions)} functions have a changed text, proof or definition")
         elif functions and (not sources or len(sources) < len(below(crate))):
             for problem in problems_of_functions(crate, functions, sources):
                 change.unproved.add(crate)

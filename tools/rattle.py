@@ -91,6 +91,7 @@ def build_library(crate):
         # what is above it then loads its statements and not its proofs
         result = call(folder(crate), "build", [*words_of(crate), "--incremental", KEPT, *ONE_JOB, "--statements", "-o", made])
         if result[0] == 0:
+            os.chmod(room, 0o755)
             shutil.rmtree(at, ignore_errors=True)
             os.rename(room, at)
         return result
@@ -109,14 +110,16 @@ def link(place, objects, program):
 def build_program(crate, cpu):
     """Proves and builds a program, for this kind of processor, if any. It takes its place when it is whole. Returns the
     status, the output and the seconds of a processor."""
-    with tempfile.TemporaryDirectory(prefix="build-", dir=os.path.join(folder(crate), "out")) as room:
+    place = os.path.join(folder(crate), "out")
+    os.makedirs(place, exist_ok=True)
+    with tempfile.TemporaryDirectory(prefix="build-", dir=place) as room:
         made = os.path.join(room, crate)
         flags = ["--toolchain", os.path.join(kit_folder(), "toolchain"), "--backend", "llvm", *[f"--cpu={cpu}"] * bool(cpu)]
         status, said, used = call(folder(crate), "build", [*words_of(crate), "--incremental", KEPT, *jobs(), *flags, "-o", made + ".o"])
         if status == 0:
             status, said, _ = link(folder(crate), [made + ".o"], made)
         if status == 0:
-            os.replace(made, os.path.join(folder(crate), "out", crate))
+            os.replace(made, os.path.join(place, crate))
     return status, what_matters(said), used
 
 

@@ -34,14 +34,14 @@ class Quick(Repository):
         status, said, calls = self.quick()
         self.assertEqual(status, 0, said)
         self.assertEqual(calls, ["rattle check top first second", "rattle check top"])
-        self.assertRegex(said, r"the 2 functions of top .* are proved, in \d+ s: first, second\. THE CRATE IS NOT YET PROVED")
+        self.assertRegex(said, r"s: proved, in \d+ s: the 2 functions of top .*: first, second\. THE CRATE IS NOT YET PROVED")
         self.assertRegex(said, r"s: top is proved, in \d+ s")
 
     def test_one_function_of_two(self):
         self.change("top", "    2\n}", "    3\n}")
         status, said, calls = self.quick()
         self.assertEqual((status, calls), (1, ["rattle check top second"]), said)
-        self.assertIn("of the 1 functions of top that changed, or read what changed, not all are proved:", said)
+        self.assertIn("not all proved: the 1 function of top with a changed text, proof or definition:", said)
         self.assertNotIn("is proved", said)
 
     def test_nothing(self):
@@ -68,10 +68,23 @@ class Quick(Repository):
         self.change("top", "≡ 2 }\n{\n    2", "≡ 3 }\n{\n    3")
         status, said, calls = self.quick()
         self.assertEqual((status, calls[:2]), (0, ["rattle check mid second", "rattle check top second mid="]), said)
-        self.assertRegex(said, r"the 1 functions of top .* are proved, over the sources of mid, in \d+ s: second\. THE CRATE IS NOT YET PROVED")
+        self.assertRegex(said, r"s: proved, over the sources of mid, in \d+ s: the 1 function of top .*: second\. THE CRATE IS NOT YET PROVED")
         self.assert_built_anew("mid", calls)
         self.assertEqual(calls[-1], "rattle check top")
         self.assertEqual(self.quick()[2], ["rattle check top second", "rattle check top"])
+
+    def test_libraries_of_rt(self):
+        """It calls `rt` over libraries that `rt` built, but for a first answer over sources."""
+        self.call("proved.py", "begin")
+        self.assertEqual(self.call("build.py", "mid")[0], 0)
+        self.calls()
+        self.change("top", "≡ 2 }\n{\n    2", "≡ 3 }\n{\n    3")
+        both = ["rt check top", "rattle check top second", "rt check top", "rattle check top"]
+        self.assertEqual(self.quick()[2], both)
+        self.change("mid", "≡ 2 }\n{\n    2", "≡ 3 }\n{\n    3")
+        status, said, calls = self.quick()
+        self.assertEqual((status, calls[:3]), (0, ["rt check mid", "rattle check mid second", "rattle check top second mid="]), said)
+        self.assertEqual(calls[-2:], ["rt check top", "rattle check top"])
 
     def test_a_proof_below_that_fails(self):
         self.change("mid", "≡ 2 }\n{\n    2", "≡ 3 }\n{\n    2")
@@ -99,7 +112,7 @@ class Quick(Repository):
         write(self.at("crates", "top", "src", "other.rt"), SOURCE + "\nimpl Number {\n    fn far(&self) -> u8 {\n        1\n    }\n}\n")
         status, said, calls = self.quick()
         self.assertEqual((status, calls[:2]), (0, ["rattle check top far other::first other::second", "rattle check top other other::first other::second"]), said)
-        self.assertIn("the 3 functions of top that changed, or read what changed, are proved", said)
+        self.assertIn("the 3 functions of top with a changed text, proof or definition: ", said)
 
     def test_a_byte_of_a_library(self):
         for file in ("code", "format"):
