@@ -63,8 +63,17 @@ class Desk:
         self.journal = numbers.random() < 0.5
         if self.journal:
             self.options += ["--journal", os.fsdecode(work + b"/journal")]
-        self.port = free_port()
-        self.start()
+        self.begin()
+
+    def begin(self):
+        """Starts on a free port. Another process may take that port before the service does: then on another one."""
+        for left in reversed(range(8)):
+            self.port = free_port()
+            try:
+                return self.start()
+            except AssertionError as error:
+                if not left or b" is in use" not in error.args[0][1]:
+                    raise
 
     def start(self):
         self.service = Serve(None, self.options, port=self.port, killed=True)
