@@ -3,7 +3,7 @@ src = open("/work/h/chk.py").read().split("\nif len(sys.argv) < 3")[0]
 exec(src)
 def count(g): return sum(len(f) for _,_,f in os.walk(g))
 end = time.time()+10300
-CL=["/work/h/t1","/work/h/next"]
+CL=["/work/h/next"]
 maps={}
 def sums(top):
     return Map(top)
@@ -17,7 +17,7 @@ while time.time() < end:
                 try:
                     if os.path.isdir(it.home(c)): continue
                 except OSError: continue
-                for g in [f"/work/h/m/crates/{c}/out/rlib/{c}.rlib", *glob.glob(f"/tmp/rt-copy-*/repo/crates/{c}/out/rlib/{c}.rlib")]:
+                for g in [*glob.glob(f"/work/h/k[0-9]/crates/{c}/out/rlib/{c}.rlib"), *glob.glob(f"/tmp/rt-copy-*/repo/crates/{c}/out/rlib/{c}.rlib")]:
                     top = g.split("/crates/")[0]
                     try:
                         if top not in tops: tops[top]=Map(top)
