@@ -24,7 +24,7 @@ use Rattle.droid_arguments.specs.Values.{IsFlag, IsGiven, IsHash, IsNumberOr, Is
 use Rattle.droid_frame.specs.declared.hash_kind.HashKind.{HashKind}
 use Rattle.droid_frame.specs.declared.hash_kind.HashKind.TheVariants as hashes
 
--- a list of checksums is asked for, and files get no hash
+-- whether a list of checksums is asked for, and files get no hash
 abbrev pub has_no_checksums : HashKind → Option Text → Bool
 has_no_checksums hashes.Nothing (Some path) = true
 has_no_checksums hashes.Nothing None = false
@@ -52,7 +52,7 @@ pub record IsSentTo (rows : List Row) (to : Destination) : Type 0 where
   pub wait : IsNumberOr 32 60 (one_of (codes "wait") rows) to.wait
   pub timeout : IsNumberOr 32 60 (one_of (codes "timeout") rows) to.timeout
 
--- finished files are to be read again, and no hash is there to compare
+-- whether finished files are to be read again, and no hash is there to compare
 abbrev pub checks_nothing : Bool → HashKind → Bool
 checks_nothing true hashes.Nothing = true
 checks_nothing true hashes.Md5 = false
@@ -75,11 +75,11 @@ pub record IsSubmit (rows : List Row) (options : SubmitOptions) : Type 0 where
   pub report : option_map (λ path. path.now) options.report ≡ first_of (codes "report") rows
   pub quiet : IsFlag (one_of (codes "quiet") rows) options.quiet
 
--- formats are to be compared, and no file is read
+-- whether formats are to be compared, and no file is read
 abbrev pub reads_nothing : Bool → Bool → Bool
 reads_nothing quick identify = quick && identify
 
--- sizes alone are to be compared, and modification times too
+-- whether sizes alone are to be compared, and modification times too
 abbrev pub measures_twice : Bool → Bool → Bool
 measures_twice quick sizes_only = quick && sizes_only
 
@@ -181,10 +181,10 @@ FailsBy app words error =
 abbrev pub RefusesWords : List Text → NoCommand → Type 0
 RefusesWords words why = fault_of program words ≡ [] → (asked : Asked) → WordsAsk words asked → why ≡ Memory
 
--- Words without a fault are refused only where memory runs out: so says an error of the parse, and the reason why there
--- is no command to run.
+-- words without a fault are refused only where memory runs out: so says an error of the parse
 abbrev pub FailsFaulty : App → List Text → Error → Type 0
 FailsFaulty app words error = fault_of app words ≡ [] → kind_of error ≡ parsing.OutOfMemory
 
+-- the same of the reason why there is no command to run
 abbrev pub RefusesFaulty : List Text → NoCommand → Type 0
 RefusesFaulty words why = fault_of program words ≡ [] → why ≡ Memory

@@ -1,4 +1,5 @@
-//! The command line: what its words ask for.
+//! The command line as a whole: declares the program to `clap` and reads what the words ask for. Here too are the
+//! commands without a file of their own: `script`, `run`, `serve` and `send`.
 
 ghost use Rattle.std.specs.Prelude.{◌≡◌, [], IfErr, IfOk, codes, map, string_bytes, true};
 ghost use Rattle.clap.specs.Words.{app_of, fault_of, found_of, is_simple, is_simple_and_free, new_app, rows_of};
@@ -47,7 +48,7 @@ const FIRST: &str = "first";
 
 const JOURNAL: &str = "journal";
 
-/// The number of the first request that `send` sends by default.
+/// The number of the first request that `send` sends by default. `IsAskedBy` has it too, and `FIRST_HELP` in words.
 const DEFAULT_FIRST: u64 = 1;
 
 /// The version that `--version` prints.
@@ -113,7 +114,8 @@ pub enum Asked<'a> {
     },
 }
 
-/// Reads the words of a command line, the program's own name first. The error has what to print, and the exit status.
+/// Reads the words of a command line, the program's own name first. The error has what to print, and the exit status:
+/// a help, a mistake, or that memory ran out.
 pub fn what_is_asked<'a>(alloc: Global, words: &'a [String]) -> Result<Asked<'a>, NoCommand>
     ensures asks { IfOk result (λ asked. WordsAsk (map string_bytes words.entry.now) asked) }
     // The words are valid: each option is known, and each number is in its range.
@@ -127,7 +129,7 @@ pub fn what_is_asked<'a>(alloc: Global, words: &'a [String]) -> Result<Asked<'a>
     }
 }
 
-/// Returns what the words behind the program's name ask for.
+/// Does what [`what_is_asked`] does, with an error of `clap`: makes the program's command and reads the words by it.
 fn asked_of_program<'a>(alloc: Global, words: &'a [String]) -> Result<Asked<'a>, Error>
     ensures asks { IfOk result (λ asked. WordsAsk (map string_bytes words.entry.now) asked) }
     ensures taken { IfOk result (λ _. fault_of program (map string_bytes words.entry.now) ≡ []) }
@@ -137,7 +139,8 @@ fn asked_of_program<'a>(alloc: Global, words: &'a [String]) -> Result<Asked<'a>,
     asked_of(&mut command, words)
 }
 
-/// Reads the words by a command.
+/// Reads the words by a command. `is_simple` and `is_simple_and_free` are the kit's conditions on a command, which the
+/// program's meets. Where words match the command and ask for nothing, the error has the text of `mistake_in`.
 fn asked_of<'a>(command: &mut Command<'a>, words: &'a [String]) -> Result<Asked<'a>, Error>
     ensures asks { is_simple (app_of command.old) ≡ true
         → IfOk result (λ asked. IsAsked (subcommand_of (app_of command.old) (map string_bytes words.entry.now)) asked) }
@@ -153,7 +156,8 @@ fn asked_of<'a>(command: &mut Command<'a>, words: &'a [String]) -> Result<Asked<
     }
 }
 
-/// Says what is wrong with words that match the command, but ask for nothing. Without a contract: each text is tested.
+/// Says what is wrong with words that match the command, but ask for nothing: for these `asked_by` is `None`. Without a
+/// contract: each text is tested.
 fn mistake_in(matches: &ArgMatches<'_>) -> &'static str {
     if let Some(profile) = matches.subcommand_matches(PROFILE) {
         return match hash_of(profile.get_str(HASH)) {
@@ -176,7 +180,8 @@ fn mistake_in(matches: &ArgMatches<'_>) -> &'static str {
     }
 }
 
-/// Says what is wrong with options of `serve` that ask for nothing: two registries, or an end and none.
+/// Says what is wrong with options of `serve` that ask for nothing: two registries, or an end and none. Without a
+/// contract too.
 fn mistake_in_serve(serve: &ArgMatches<'_>) -> &'static str {
     match source_of(serve) {
         Some(_) => NO_END,
@@ -184,8 +189,9 @@ fn mistake_in_serve(serve: &ArgMatches<'_>) -> &'static str {
     }
 }
 
-/// Reads the matched words. They ask for nothing if they name an unknown hash or two registries, or if their options do
-/// not fit together.
+/// Returns what the matched words ask for, by the command that they name. `None`: they ask for nothing, since they name
+/// an unknown hash or two registries, or their options do not fit together. What is `None` here has a text in
+/// `mistake_in`.
 fn asked_by<'a>(matches: &ArgMatches<'a>) -> Option<Asked<'a>>
     ensures { Reads result (IsAsked (subcommand_rows_of matches.now)) }
 {
@@ -222,7 +228,7 @@ fn asked_by<'a>(matches: &ArgMatches<'a>) -> Option<Asked<'a>>
     compact_asked(matches.subcommand_matches(COMPACT)?)
 }
 
-/// Returns what the options of `script` ask for.
+/// Returns what the options of `script` ask for, or `None` if they name two registries.
 fn script_asked<'a>(script: &ArgMatches<'a>) -> Option<Asked<'a>>
     ensures { Reads result (IsAskedBy (codes "script") (rows_of (found_of script.now))) }
 {
@@ -230,7 +236,7 @@ fn script_asked<'a>(script: &ArgMatches<'a>) -> Option<Asked<'a>>
     Some(Asked::Script { registry })
 }
 
-/// Returns what the options of `run` ask for.
+/// Returns what the options of `run` ask for, or `None` if they name two registries.
 fn run_asked<'a>(run: &ArgMatches<'a>) -> Option<Asked<'a>>
     ensures { Reads result (IsAskedBy (codes "run") (rows_of (found_of run.now))) }
 {
@@ -239,7 +245,7 @@ fn run_asked<'a>(run: &ArgMatches<'a>) -> Option<Asked<'a>>
     Some(Asked::Run { registry, journal })
 }
 
-/// Returns what the options of `serve` ask for.
+/// Returns what the options of `serve` ask for, or `None` if they name two registries or do not fit together.
 fn serve_asked<'a>(serve: &ArgMatches<'a>) -> Option<Asked<'a>>
     ensures { Reads result (IsAskedBy (codes "serve") (rows_of (found_of serve.now))) }
 {
@@ -255,7 +261,7 @@ fn serve_asked<'a>(serve: &ArgMatches<'a>) -> Option<Asked<'a>>
     })
 }
 
-/// Returns what the options of `send` ask for.
+/// Returns what the options of `send` ask for. `None` only without a port or a client, which `clap` demands before.
 fn send_asked<'a>(send: &ArgMatches<'a>) -> Option<Asked<'a>>
     ensures { Reads result (IsAskedBy (codes "send") (rows_of (found_of send.now))) }
 {
@@ -269,7 +275,8 @@ fn send_asked<'a>(send: &ArgMatches<'a>) -> Option<Asked<'a>>
     })
 }
 
-/// Declares the program and its commands to `clap`.
+/// Declares the program and its commands to `clap`. Fails only if memory runs out. Helps list the commands in this
+/// order.
 pub(crate) fn command<'a>(alloc: Global) -> Result<Command<'a>, AllocError>
     ensures { Makes program result }
 {
@@ -288,7 +295,7 @@ pub(crate) fn command<'a>(alloc: Global) -> Result<Command<'a>, AllocError>
         .made
 }
 
-/// Begins the program's command, without the commands below it.
+/// Begins the program's command, without the commands below it: its version, its helps, and that a command is needed.
 fn top<'a>(alloc: Global) -> Builder<'a>
     ensures { Makes (top_command (new_app (codes "droid_desk"))) result.made }
 {
@@ -300,7 +307,7 @@ fn top<'a>(alloc: Global) -> Builder<'a>
     Builder { made: Ok(command) }
 }
 
-/// Declares the command `script`.
+/// Declares the command `script`: its two options choose the registry.
 fn script<'a>(alloc: Global) -> Result<Command<'a>, AllocError>
     ensures { Makes script_command result }
 {
@@ -310,7 +317,7 @@ fn script<'a>(alloc: Global) -> Result<Command<'a>, AllocError>
         .made
 }
 
-/// Declares the command `run`.
+/// Declares the command `run`: its options choose the registry and the journal.
 fn run<'a>(alloc: Global) -> Result<Command<'a>, AllocError>
     ensures { Makes run_command result }
 {
@@ -321,7 +328,8 @@ fn run<'a>(alloc: Global) -> Result<Command<'a>, AllocError>
         .made
 }
 
-/// Declares the command `serve`.
+/// Declares the command `serve`. The ranges of its numbers stand in `specs/Commands.antt` too, and in the texts of
+/// `helps/stream_help.rt`, which only tests hold.
 fn serve<'a>(alloc: Global) -> Result<Command<'a>, AllocError>
     ensures { Makes serve_command result }
 {
@@ -338,7 +346,7 @@ fn serve<'a>(alloc: Global) -> Result<Command<'a>, AllocError>
         .made
 }
 
-/// Declares the command `send`.
+/// Declares the command `send`. The first number may be any below 2^63.
 fn send<'a>(alloc: Global) -> Result<Command<'a>, AllocError>
     ensures { Makes send_command result }
 {

@@ -1,4 +1,4 @@
-//! Making a command, option by option.
+//! Makes a command, option by option, and remembers if memory ran out. `App` is the kit's view of a command.
 
 ghost use Rattle.std.specs.Prelude.{◌≡◌, false};
 ghost use Rattle.clap.specs.Words.{App, Rule, new_app, rule_of, with_rule, with_subcommand};
@@ -15,7 +15,8 @@ pub struct Builder<'a> {
 }
 
 impl<'a> Builder<'a> {
-    /// Begins a command with its summary and its explanation.
+    /// Begins a command with this name, `about` as its summary and `help` as the explanation at the end of its help.
+    /// The clause leaves the texts open: `tests/program/cases` compares them.
     pub fn new(alloc: Global, name: &'a str, about: &'a str, help: &'a str) -> Builder<'a>
         ensures { Makes (new_app name.entry.now) result.made }
     {
@@ -23,7 +24,7 @@ impl<'a> Builder<'a> {
         Builder { made: Ok(command) }
     }
 
-    /// Adds an option or a positional argument.
+    /// Adds an option or a positional argument behind those that are there, as a rule of this command alone.
     pub fn option(self, option: Arg<'a>) -> Builder<'a>
         ensures { (app : App) (rule : Rule) → Makes app self.entry.made → rule_of option.entry ≡ rule
             → option.entry.global ≡ false
@@ -33,7 +34,7 @@ impl<'a> Builder<'a> {
         Builder { made }
     }
 
-    /// Adds a subcommand.
+    /// Adds a command below the program, or notes that there was no memory for it.
     pub fn command(self, below: Result<Command<'a>, AllocError>) -> Builder<'a>
         ensures { (app : App) (low : App) → Makes app self.entry.made → Makes low below.entry
             → Makes (with_subcommand app low.top) result.made }
@@ -43,8 +44,8 @@ impl<'a> Builder<'a> {
     }
 }
 
-/// Adds an option to a command, if there was memory for the command. `with_rule` is the kit's: the command with one
-/// more rule.
+/// Adds an option to a command, if there was memory for the command. Fails if there was none, or is none now.
+/// `with_rule` is the kit's: the command with one more rule.
 fn add_option<'a>(
     command: Result<Command<'a>, AllocError>,
     option: Arg<'a>,
@@ -59,7 +60,7 @@ fn add_option<'a>(
     }
 }
 
-/// Adds a command to the program, if there was memory for both.
+/// Adds a command to the program, if there was memory for both. Fails if there was none, or is none now.
 fn add_command<'a>(
     command: Result<Command<'a>, AllocError>,
     below: Result<Command<'a>, AllocError>,

@@ -25,7 +25,7 @@ pub(crate) const COMPACT: &str = "compact";
 
 const FILE: &str = "file";
 
-/// Returns what the options of `compact` ask for.
+/// Returns what the options of `compact` ask for, or `None` if they name two registries.
 pub(crate) fn compact_asked<'a>(compact: &ArgMatches<'a>) -> Option<Asked<'a>>
     ensures { Reads result (IsAskedBy (codes "compact") (rows_of (found_of compact.now))) }
 {
@@ -39,7 +39,7 @@ pub(crate) fn compact_asked<'a>(compact: &ArgMatches<'a>) -> Option<Asked<'a>>
     })
 }
 
-/// Makes the command.
+/// Declares the command `compact`: the journal's path, the registry that it was written with, and `--quiet`.
 pub(crate) fn compact<'a>(alloc: Global) -> Result<Command<'a>, AllocError>
     ensures { Makes compact_command result }
 {

@@ -1,4 +1,4 @@
-//! The options of `serve`.
+//! The options of `serve` that say how connections are served. The command is declared in `arguments.rt`.
 
 ghost use Rattle.std.specs.Prelude.{◌≡◌, None, option_map, true};
 ghost use Rattle.clap.specs.Words.{found_of, rows_of};
@@ -19,13 +19,14 @@ pub(crate) const FOREVER: &str = "forever";
 
 pub(crate) const VERBOSE: &str = "verbose";
 
-/// How many connections `serve` serves by default.
+/// How many connections `serve` serves by default. `IsCount` has the same number, and the help in words.
 const DEFAULT_CONNECTIONS: u32 = 1;
 
-/// How many it serves at once by default.
+/// How many it serves at once by default. `IsServing` has the same number, and the help in words.
 const DEFAULT_SEATS: u32 = 1;
 
-/// With `--at-once` an idle connection is closed after this many seconds by default.
+/// With `--at-once` an idle connection is closed after this many seconds by default. `IsIdleLimit` has the same number,
+/// and the help in words.
 const DEFAULT_IDLE: u32 = 60;
 
 /// How `serve` serves connections.
@@ -41,7 +42,7 @@ pub struct ServeOptions {
     pub verbose: bool,
 }
 
-/// Reads the options. `None` if both `--forever` and `--connections` are given.
+/// Reads how `serve` serves connections. `None` if both `--forever` and `--connections` are given.
 pub(crate) fn serve_options(serve: &ArgMatches<'_>) -> Option<ServeOptions>
     ensures { Reads result (IsServing (rows_of (found_of serve.now))) }
 {
@@ -57,7 +58,8 @@ pub(crate) fn serve_options(serve: &ArgMatches<'_>) -> Option<ServeOptions>
     })
 }
 
-/// Reads how many connections are served. `None` if both `--forever` and `--connections` are given.
+/// Reads how many connections are served: `Some(None)` without end, by `--forever`. `None` if both `--forever` and
+/// `--connections` are given.
 fn count_of(serve: &ArgMatches<'_>) -> Option<Option<u32>>
     ensures { Reads result (IsCount (rows_of (found_of serve.now))) }
 {
@@ -86,7 +88,7 @@ fn idle_of(serve: &ArgMatches<'_>) -> Option<u32>
     Some(idle)
 }
 
-/// Returns whether there are neither of two texts.
+/// Returns whether neither text is there: for `idle_of`, neither `--at-once` nor `--idle` is given.
 fn neither(one: Option<&str>, other: Option<&str>) -> bool
     ensures one { result ≡ true → option_map (λ text. text.now) one.entry ≡ None }
     ensures other { result ≡ true → option_map (λ text. text.now) other.entry ≡ None }

@@ -1,4 +1,4 @@
-//! The command `identify`: its options, and what they ask for.
+//! The command `identify`: its options, what they ask for, and the files that its words name.
 
 ghost use Rattle.std.specs.Prelude.{◌≡◌, ◌&&◌, ◌==◌, not, [], IfErr, IfOk, codes, false, is_some, map, option_map};
 ghost use Rattle.std.specs.Prelude.{count_by, string_bytes, true, unwrap_or};
@@ -52,7 +52,7 @@ const PUID: &str = "puid";
 
 const WHY: &str = "why";
 
-// The errors for options that do not fit together.
+// The errors for options that do not fit together. `misfit_of` returns the last five.
 const TWO_FORMS: &str =
     "of the options '--csv', '--json', '--json-sf' and '--puid' only one can be used";
 
@@ -107,7 +107,7 @@ pub struct IdentifyOptions<'a> {
     pub why: Option<&'a str>,
 }
 
-/// Returns what the options of `identify` ask for.
+/// Returns what the options of `identify` ask for, or `None` if they ask for nothing that can be done.
 pub(crate) fn identify_asked<'a>(identify: &ArgMatches<'a>) -> Option<Asked<'a>>
     ensures { Reads result (IsAskedBy (codes "identify") (rows_of (found_of identify.now))) }
 {
@@ -115,7 +115,8 @@ pub(crate) fn identify_asked<'a>(identify: &ArgMatches<'a>) -> Option<Asked<'a>>
     Some(Asked::Identify(options))
 }
 
-/// Reads the options of `identify`, or returns `None` if they ask for nothing that can be done.
+/// Reads the options of `identify`. `None`: two registries or two forms are named, the hash has an unknown name, or
+/// words and options do not fit together; `mistake_in_identify` has a text for each.
 fn identify_options<'a>(identify: &ArgMatches<'a>) -> Option<IdentifyOptions<'a>>
     ensures { Reads result (IsIdentify (rows_of (found_of identify.now))) }
 {
@@ -157,7 +158,7 @@ fn identify_options<'a>(identify: &ArgMatches<'a>) -> Option<IdentifyOptions<'a>
     })
 }
 
-/// Reads the name of a hash. Without a name there is no hash.
+/// Reads the name of a hash, as `hash_of` does. But without a name there is no hash, where other commands take MD5.
 fn hash_or_none(word: Option<&str>) -> Option<HashKind>
     ensures { Reads result (IsHashOrNone (option_map (λ text. text.now) word.entry)) }
 {
@@ -167,7 +168,7 @@ fn hash_or_none(word: Option<&str>) -> Option<HashKind>
     }
 }
 
-/// Returns the form that the flags name: lines without one. Two flags name none.
+/// Returns the form that the four flags name: lines without one, and `None` by two or more.
 fn form_of(csv: bool, json: bool, siegfried: bool, puid: bool) -> Option<IdentifyForm>
     ensures { result ≡ form_of csv json siegfried puid }
 {
@@ -181,7 +182,7 @@ fn form_of(csv: bool, json: bool, siegfried: bool, puid: bool) -> Option<Identif
     }
 }
 
-/// Returns the files that the words name.
+/// Returns the files that the words name, in their order: none if all files are those of a list.
 fn files_of<'b, 'a>(identify: &'b ArgMatches<'a>) -> &'b [&'a str]
     ensures { map (λ file. file.now) result.now ≡ files_in (rows_of (found_of identify.now)) }
 {
@@ -189,7 +190,7 @@ fn files_of<'b, 'a>(identify: &'b ArgMatches<'a>) -> &'b [&'a str]
     files_or_none(files)
 }
 
-/// Returns the files, or no file.
+/// Returns the files that `clap` found, or an empty slice if it found no such word.
 fn files_or_none<'b, 'a>(files: Option<&'b [&'a str]>) -> &'b [&'a str]
     ensures { map (λ file. file.now) result.now
         ≡ unwrap_or (option_map (λ names. map (λ file. file.now) names.now) files.entry) [] }
@@ -200,14 +201,15 @@ fn files_or_none<'b, 'a>(files: Option<&'b [&'a str]>) -> &'b [&'a str]
     }
 }
 
-/// Returns how many of the files are standard input.
+/// Returns how many of the files are `-`, standard input.
 fn dashes(files: &[&str]) -> usize
     ensures { result ≡ dashes (map (λ file. file.now) files.now) }
 {
     count_dashes(files)
 }
 
-/// Counts them. The clause is over the files themselves, as the iterator has it; that of `dashes` is over their texts.
+/// Counts the files that are `-`, for `dashes`. The clause is over the files themselves, as the iterator has it; that
+/// of `dashes` is over their texts.
 fn count_dashes(files: &[&str]) -> usize
     ensures { result ≡ count_by (λ file. is_dash file.now) files.now }
 {
@@ -221,7 +223,9 @@ fn is_dash(name: &str) -> bool
     name == "-"
 }
 
-/// Returns whether these words and options can't be used together.
+/// Returns whether these words and options can't be used together: how many files are named, how many of them are `-`,
+/// the path of a list, whether zero bytes end its names, the name of standard input, the format of `--why`, and the
+/// form.
 #[tactic(auto, unfolding(crate::specs::Identifying::misfits))]
 fn misfits(
     files: usize,
@@ -243,7 +247,7 @@ fn misfits(
         || asks_why_beside(why, form)
 }
 
-/// Returns whether there is a text.
+/// Returns whether an option has a value.
 fn is_given(value: Option<&str>) -> bool
     ensures { result ≡ is_some (option_map (λ text. text.now) value.entry) }
 {
@@ -253,35 +257,35 @@ fn is_given(value: Option<&str>) -> bool
     }
 }
 
-/// Returns whether no file is named and no list of files.
+/// Returns whether no file is named and no list of files, so that there is nothing to identify.
 fn names_nothing(files: usize, list: Option<&str>) -> bool
     ensures { result ≡ (files == 0 && not (is_some (option_map (λ text. text.now) list.entry))) }
 {
     files == 0 && !is_given(list)
 }
 
-/// Returns whether it is said how the names of a list end, and there is no list.
+/// Returns whether `--null` says how the names of a list end, and there is no list.
 fn has_no_list(zero: bool, list: Option<&str>) -> bool
     ensures { result ≡ (zero && not (is_some (option_map (λ text. text.now) list.entry))) }
 {
     zero && !is_given(list)
 }
 
-/// Returns whether the bytes of standard input have a name, and are not read.
+/// Returns whether `--name` names the bytes of standard input, and no file is `-`.
 fn names_no_input(name: Option<&str>, inputs: usize) -> bool
     ensures { result ≡ (is_some (option_map (λ text. text.now) name.entry) && inputs == 0) }
 {
     is_given(name) && inputs == 0
 }
 
-/// Returns whether standard input is asked for twice.
+/// Returns whether standard input is asked for twice: by two files `-`, or by one beside a list `-`.
 fn reads_twice(inputs: usize, list: Option<&str>) -> bool
     ensures { result ≡ reads_twice inputs (option_map (λ text. text.now) list.entry) }
 {
     inputs > 1 || (is_input(list) && inputs > 0)
 }
 
-/// Returns whether the list is standard input.
+/// Returns whether there is a list and it is `-`, standard input.
 fn is_input(list: Option<&str>) -> bool
     ensures { result ≡ is_input (option_map (λ text. text.now) list.entry) }
 {
@@ -291,7 +295,7 @@ fn is_input(list: Option<&str>) -> bool
     }
 }
 
-/// Returns whether it is asked why a file does not have a format, and the output is not lines.
+/// Returns whether `--why` asks why a file does not have a format, and the output is not lines.
 fn asks_why_beside(why: Option<&str>, form: IdentifyForm) -> bool
     ensures { result ≡ (is_some (option_map (λ text. text.now) why.entry) && not (is_lines form)) }
 {
@@ -311,7 +315,7 @@ fn is_lines(form: IdentifyForm) -> bool
     }
 }
 
-/// Says what is wrong with options that ask for nothing. Without a contract: each text is tested.
+/// Says what is wrong with options for which `identify_options` is `None`. Without a contract: each text is tested.
 pub(crate) fn mistake_in_identify(identify: &ArgMatches<'_>) -> &'static str {
     if names_two(flag_of(identify, EVERYDAY), identify.get_str(REGISTRY)) {
         return TWO_REGISTRIES;
@@ -328,7 +332,7 @@ pub(crate) fn mistake_in_identify(identify: &ArgMatches<'_>) -> &'static str {
     misfit_of(identify)
 }
 
-/// Says which words and options can't be used together, in the order in which [`misfits`] asks.
+/// Says which words and options can't be used together, in the order in which [`misfits`] asks. Without a contract too.
 fn misfit_of(identify: &ArgMatches<'_>) -> &'static str {
     let files = files_of(identify);
     let inputs = dashes(files);
@@ -348,8 +352,8 @@ fn misfit_of(identify: &ArgMatches<'_>) -> &'static str {
     WHY_BESIDE
 }
 
-/// Returns the files that the words of a command line name, if they ask for `identify`. The words are those of
-/// [`what_is_asked`](crate::what_is_asked).
+/// Returns the files that the words of a command line name if they ask for `identify`, and none for another command.
+/// The words are those of [`what_is_asked`](crate::what_is_asked).
 pub fn named_files<'a>(alloc: Global, words: &'a [String]) -> Result<Vec<&'a str>, NoCommand>
     ensures files { IfOk result (NamesFiles (subcommand_of program (map string_bytes words.entry.now))) }
     // Valid words are not refused.
@@ -361,7 +365,7 @@ pub fn named_files<'a>(alloc: Global, words: &'a [String]) -> Result<Vec<&'a str
     }
 }
 
-/// Reads the words by the program's command.
+/// Does what [`named_files`] does, with an error of `clap`: makes the program's command and reads the words by it.
 fn files_by_program<'a>(alloc: Global, words: &'a [String]) -> Result<Vec<&'a str>, Error>
     ensures files { IfOk result (NamesFiles (subcommand_of program (map string_bytes words.entry.now))) }
     ensures refused { IfErr result (FailsFaulty program (map string_bytes words.entry.now)) }
@@ -370,7 +374,8 @@ fn files_by_program<'a>(alloc: Global, words: &'a [String]) -> Result<Vec<&'a st
     files_by(alloc, &mut command, words)
 }
 
-/// Reads the words by a command.
+/// Reads the words by a command, and copies the list of files. Fails if they do not match it or memory runs out.
+/// `is_simple` and `is_simple_and_free` are the kit's conditions on a command, which the program's meets.
 fn files_by<'a>(
     alloc: Global,
     command: &mut Command<'a>,
@@ -391,7 +396,7 @@ fn files_by<'a>(
     }
 }
 
-/// Copies the list of files, not their names.
+/// Copies the list of files, not their names, which are those of the words. Fails only if memory runs out.
 fn copy_of<'a>(alloc: Global, files: &[&'a str]) -> Result<Vec<&'a str>, AllocError>
     ensures { IfOk result (λ copy. copy.items ≡ files.now) }
 {
@@ -400,7 +405,7 @@ fn copy_of<'a>(alloc: Global, files: &[&'a str]) -> Result<Vec<&'a str>, AllocEr
     Ok(copy)
 }
 
-/// Declares the command `identify`.
+/// Declares the command `identify`: the rules are those of `identify_command`, in its order, which is that of the help.
 pub(crate) fn identify<'a>(alloc: Global) -> Result<Command<'a>, AllocError>
     ensures { Makes identify_command result }
 {
@@ -423,7 +428,7 @@ pub(crate) fn identify<'a>(alloc: Global) -> Result<Command<'a>, AllocError>
         .made
 }
 
-/// Makes the positional argument for the files.
+/// Makes the words `FILE`: any number of them, or none.
 fn files<'a>(alloc: Global) -> Arg<'a>
     ensures rule { rule_of result ≡ files_word }
     ensures local { result.global ≡ false }
@@ -435,7 +440,7 @@ fn files<'a>(alloc: Global) -> Arg<'a>
         .action(ArgAction::Append)
 }
 
-/// Makes an option without a value that has a short name too.
+/// Makes an option without a value that has a short name too, as `-r`. No other command has such.
 fn short_flag<'a>(alloc: Global, name: &'a str, short: char, help: &'a str) -> Arg<'a>
     ensures rule { rule_of result ≡ short_flag_named name.entry.now short }
     ensures local { result.global ≡ false }

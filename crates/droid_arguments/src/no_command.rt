@@ -23,7 +23,7 @@ pub enum NoCommand {
 }
 
 impl NoCommand {
-    /// Returns the exit status.
+    /// Returns the exit status: 0 after a help, 2 for a wrong command line, 6 if there was no memory to read it.
     pub fn status(&self) -> u8
         ensures { result ≡ status_without self.now }
     {
@@ -34,8 +34,8 @@ impl NoCommand {
         }
     }
 
-    /// Prints the help or the version to standard output, or what is wrong to standard error. Without a contract: the
-    /// texts are tested by `tests/program/cases`.
+    /// Prints the help or the version to standard output, or what is wrong to standard error. Fails if that cannot be
+    /// written. Without a contract: the texts are tested by `tests/program/cases`.
     pub fn print<R: Print + Eprint>(&self, rt: &R) -> io::Result<()> {
         match self {
             NoCommand::Help(error) | NoCommand::Wrong(error) => error.print(rt),
@@ -47,7 +47,8 @@ impl NoCommand {
     }
 }
 
-/// Says why the words of the command line could not be read.
+/// Says why the words of the command line could not be read, by the error of the kit: memory ran out, or a word is not
+/// UTF-8.
 pub fn unread_words(error: &io::Error) -> NoCommand
     ensures { result ≡ unread_words (error_kind error.now) }
 {
@@ -57,7 +58,8 @@ pub fn unread_words(error: &io::Error) -> NoCommand
     }
 }
 
-/// Says why the words give no command to run.
+/// Says why the words give no command to run, by the error of `clap`: memory ran out, a help or the version is asked
+/// for, or they are wrong.
 pub(crate) fn unused_words(error: Error) -> NoCommand
     ensures { result ≡ unused_words (kind_of error) error }
 {

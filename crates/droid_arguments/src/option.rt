@@ -1,4 +1,6 @@
-//! How options are declared.
+//! Declares options and words: those that several commands have, and each kind, by its name. `value` is what the help
+//! calls the value. The clause `local` says that the option is one of its command alone, `rule` which values it takes.
+//! The help texts are held by no clause, but by `tests/program/cases`.
 
 ghost use Rattle.std.specs.Prelude.{◌≡◌, false};
 ghost use Rattle.clap.specs.Words.{rule_of};
@@ -20,10 +22,10 @@ pub const FOLDER: &str = "folder";
 
 pub const LIMIT: &str = "limit";
 
-/// The help text of the limit.
+/// The help text of the limit. Its numbers are those in `limit` and `DEFAULT_LIMIT`; nothing but this line ties them.
 const LIMIT_HELP: &str = "Search this many bytes at each end of a file (1 to 65536, default 65536)";
 
-/// Makes the option for the registry file.
+/// Makes the option `--registry FILE` for the registry file.
 pub fn registry<'a>(alloc: Global, help: &'a str) -> Arg<'a>
     ensures rule { rule_of result ≡ registry_option }
     ensures local { result.global ≡ false }
@@ -35,7 +37,7 @@ pub fn registry<'a>(alloc: Global, help: &'a str) -> Arg<'a>
         .action(ArgAction::Set)
 }
 
-/// Makes the option for the port.
+/// Makes the option `--port P`, which must be given: 1 to 65,535.
 pub fn port<'a>(alloc: Global, help: &'a str) -> Arg<'a>
     ensures rule { rule_of result ≡ port_option }
     ensures local { result.global ≡ false }
@@ -43,7 +45,7 @@ pub fn port<'a>(alloc: Global, help: &'a str) -> Arg<'a>
     number(alloc, PORT, "P", help, 1, 65_535).required(true)
 }
 
-/// Makes the option for the client.
+/// Makes the option `--client C`, which must be given: any number of 32 bits.
 pub fn client<'a>(alloc: Global, help: &'a str) -> Arg<'a>
     ensures rule { rule_of result ≡ client_option }
     ensures local { result.global ≡ false }
@@ -51,7 +53,7 @@ pub fn client<'a>(alloc: Global, help: &'a str) -> Arg<'a>
     number(alloc, CLIENT, "C", help, 0, 4_294_967_295).required(true)
 }
 
-/// Makes the positional argument for the folder.
+/// Makes the word `DIR` for the folder, which must be given.
 pub fn folder<'a>(alloc: Global, help: &'a str) -> Arg<'a>
     ensures rule { rule_of result ≡ folder_word }
     ensures local { result.global ≡ false }
@@ -59,7 +61,7 @@ pub fn folder<'a>(alloc: Global, help: &'a str) -> Arg<'a>
     word(alloc, FOLDER, "DIR", help)
 }
 
-/// Makes a required positional argument.
+/// Makes a word that stands by itself and must be given, such as the path of a file.
 pub fn word<'a>(alloc: Global, name: &'a str, value: &'a str, help: &'a str) -> Arg<'a>
     ensures rule { rule_of result ≡ word_named name.entry.now }
     ensures local { result.global ≡ false }
@@ -71,7 +73,7 @@ pub fn word<'a>(alloc: Global, name: &'a str, value: &'a str, help: &'a str) -> 
         .required(true)
 }
 
-/// Makes the option for the limit.
+/// Makes the option `--limit BYTES`: how many bytes at each end of a file are searched.
 pub fn limit<'a>(alloc: Global) -> Arg<'a>
     ensures rule { rule_of result ≡ limit_option }
     ensures local { result.global ≡ false }
@@ -79,7 +81,7 @@ pub fn limit<'a>(alloc: Global) -> Arg<'a>
     number(alloc, LIMIT, "BYTES", LIMIT_HELP, 1, 65_536)
 }
 
-/// Makes an option with one value.
+/// Makes an option `--NAME VALUE` with any text as its value.
 pub fn named<'a>(alloc: Global, name: &'a str, value: &'a str, help: &'a str) -> Arg<'a>
     ensures rule { rule_of result ≡ option_named name.entry.now }
     ensures local { result.global ≡ false }
@@ -91,7 +93,7 @@ pub fn named<'a>(alloc: Global, name: &'a str, value: &'a str, help: &'a str) ->
         .action(ArgAction::Set)
 }
 
-/// Makes an option without a value.
+/// Makes an option `--NAME` without a value, which `flag_of` reads.
 pub fn flag<'a>(alloc: Global, name: &'a str, help: &'a str) -> Arg<'a>
     ensures rule { rule_of result ≡ flag_named name.entry.now }
     ensures local { result.global ≡ false }
@@ -102,7 +104,7 @@ pub fn flag<'a>(alloc: Global, name: &'a str, help: &'a str) -> Arg<'a>
         .action(ArgAction::SetTrue)
 }
 
-/// Makes an option with a number from `least` to `most`.
+/// Makes an option `--NAME VALUE` with a number from `least` to `most`. `clap` refuses any other value.
 pub fn number<'a>(
     alloc: Global,
     name: &'a str,

@@ -35,7 +35,8 @@ pub(crate) const SKIPPED: &str = "skipped";
 
 pub(crate) const QUIET: &str = "quiet";
 
-/// How many bytes at each end of a file are searched for signatures by default.
+/// How many bytes at each end of a file are searched for signatures by default. `IsProfile`, `IsSubmit`, `IsVerify` and
+/// `IsIdentify` have the same number, and the help of `limit` in words.
 pub(crate) const DEFAULT_LIMIT: u32 = 65_536;
 
 /// The folder to profile, and how.
@@ -63,7 +64,7 @@ pub struct ProfileOptions<'a> {
     pub quiet: bool,
 }
 
-/// Returns what the options of `profile` ask for.
+/// Returns what the options of `profile` ask for, or `None` if they ask for nothing that can be done.
 pub(crate) fn profile_asked<'a>(profile: &ArgMatches<'a>) -> Option<Asked<'a>>
     ensures { Reads result (IsAskedBy (codes "profile") (rows_of (found_of profile.now))) }
 {
@@ -71,7 +72,8 @@ pub(crate) fn profile_asked<'a>(profile: &ArgMatches<'a>) -> Option<Asked<'a>>
     Some(Asked::Profile(options))
 }
 
-/// Reads the options of `profile`, or returns `None` if they ask for nothing that can be done.
+/// Reads the options of `profile`. `None`: the hash has an unknown name, or checksums are asked for without a hash;
+/// `mistake_in` of `arguments.rt` has a text for each.
 fn profile_options<'a>(profile: &ArgMatches<'a>) -> Option<ProfileOptions<'a>>
     ensures { Reads result (IsProfile (rows_of (found_of profile.now))) }
 {
@@ -103,7 +105,7 @@ fn profile_options<'a>(profile: &ArgMatches<'a>) -> Option<ProfileOptions<'a>>
     })
 }
 
-/// Returns whether a list of checksums is asked for, and files get no hash.
+/// Returns whether a list of checksums is asked for by `--manifest`, and files get no hash by `--hash none`.
 pub(crate) fn has_no_checksums(hash: HashKind, manifest: Option<&str>) -> bool
     ensures { result ≡ has_no_checksums hash (option_map (λ path. path.now) manifest.entry) }
 {
@@ -115,7 +117,7 @@ pub(crate) fn has_no_checksums(hash: HashKind, manifest: Option<&str>) -> bool
     }
 }
 
-/// Declares the command `profile`.
+/// Declares the command `profile`: the rules are those of `profile_command`, in its order, which is that of the help.
 pub(crate) fn profile<'a>(alloc: Global) -> Result<Command<'a>, AllocError>
     ensures { Makes profile_command result }
 {

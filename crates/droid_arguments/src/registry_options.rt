@@ -33,7 +33,7 @@ pub struct RegistryOptions<'a> {
     pub quiet: bool,
 }
 
-/// Returns what the options of `registry` ask for.
+/// Returns what the options of `registry` ask for. `None` only without the file, which `clap` demands before.
 pub(crate) fn registry_asked<'a>(registry: &ArgMatches<'a>) -> Option<Asked<'a>>
     ensures { Reads result (IsAskedBy (codes "registry") (rows_of (found_of registry.now))) }
 {
@@ -41,7 +41,7 @@ pub(crate) fn registry_asked<'a>(registry: &ArgMatches<'a>) -> Option<Asked<'a>>
     Some(Asked::Registry(options))
 }
 
-/// Reads the options of `registry`.
+/// Reads the options of `registry`, or returns `None` without the path of the signature file.
 fn registry_options<'a>(registry: &ArgMatches<'a>) -> Option<RegistryOptions<'a>>
     ensures { Reads result (IsConversion (rows_of (found_of registry.now))) }
 {
@@ -55,7 +55,7 @@ fn registry_options<'a>(registry: &ArgMatches<'a>) -> Option<RegistryOptions<'a>
     })
 }
 
-/// Makes the command.
+/// Declares the command `registry`: the signature file, where the registry goes, and `--quiet`.
 pub(crate) fn conversion<'a>(alloc: Global) -> Result<Command<'a>, AllocError>
     ensures { Makes registry_command result }
 {

@@ -33,7 +33,7 @@ pub struct ReportOptions<'a> {
     pub output: Option<&'a str>,
 }
 
-/// Returns what the options of `report` ask for.
+/// Returns what the options of `report` ask for. `None` only without the CSV, which `clap` demands before.
 pub(crate) fn report_asked<'a>(report: &ArgMatches<'a>) -> Option<Asked<'a>>
     ensures { Reads result (IsAskedBy (codes "report") (rows_of (found_of report.now))) }
 {
@@ -41,7 +41,7 @@ pub(crate) fn report_asked<'a>(report: &ArgMatches<'a>) -> Option<Asked<'a>>
     Some(Asked::Report(options))
 }
 
-/// Reads the options of `report`.
+/// Reads the options of `report`, or returns `None` without the path of the profile's CSV.
 fn report_options<'a>(report: &ArgMatches<'a>) -> Option<ReportOptions<'a>>
     ensures { Reads result (IsReport (rows_of (found_of report.now))) }
 {
@@ -55,7 +55,7 @@ fn report_options<'a>(report: &ArgMatches<'a>) -> Option<ReportOptions<'a>>
     })
 }
 
-/// Declares the command `report`.
+/// Declares the command `report`: the profile's CSV, the page's title, and where the page goes.
 pub(crate) fn report<'a>(alloc: Global) -> Result<Command<'a>, AllocError>
     ensures { Makes report_command result }
 {

@@ -1,4 +1,4 @@
-//! Which registry of formats a command uses.
+//! Which registry of formats a command of the service uses. (`profile`, `verify` and `identify` know no sample.)
 
 ghost use Rattle.std.specs.Prelude.{option_map};
 ghost use Rattle.clap.specs.Words.{found_of, rows_of};
@@ -22,7 +22,7 @@ pub enum RegistrySource<'a> {
     File(&'a str),
 }
 
-/// Reads the options `--everyday` and `--registry`. Both together name no registry.
+/// Reads the options `--everyday` and `--registry`. `None`: both are given, which is a mistake.
 pub fn source_of<'a>(matches: &ArgMatches<'a>) -> Option<RegistrySource<'a>>
     ensures { Reads result (IsSource (rows_of (found_of matches.now))) }
 {
@@ -31,7 +31,7 @@ pub fn source_of<'a>(matches: &ArgMatches<'a>) -> Option<RegistrySource<'a>>
     chosen(everyday, path)
 }
 
-/// Returns the registry that the options name, or `None` if they name two.
+/// Returns the registry by whether `--everyday` is given and the path of `--registry`, or `None` if both are.
 fn chosen<'a>(everyday: bool, path: Option<&'a str>) -> Option<RegistrySource<'a>>
     ensures { Reads result (IsChosen everyday (option_map (λ text. text.now) path.entry)) }
 {

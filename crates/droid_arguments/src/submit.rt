@@ -45,13 +45,13 @@ const EXPORT: &str = "export";
 const NO_HASH_TO_COMPARE: &str =
     "the options '--check' and '--hash none' cannot be used together: '--check' compares hashes";
 
-/// How many bytes a piece has by default.
+/// How many bytes a piece has by default. `IsSubmit` has the same number, and `PIECE_SIZE_HELP` in words.
 const DEFAULT_PIECE_SIZE: u32 = 262_144;
 
-/// For how many seconds connecting is tried by default.
+/// For how many seconds connecting is tried by default. `IsSentTo` has the same number, and `WAIT_HELP` in words.
 const DEFAULT_WAIT: u32 = 60;
 
-/// How many seconds a reply may take by default.
+/// How many seconds a reply may take by default. `IsSentTo` has the same number, and `TIMEOUT_HELP` in words.
 const DEFAULT_TIMEOUT: u32 = 60;
 
 /// The service that a submission goes to, whose requests they are, and how long to wait for the service.
@@ -96,7 +96,7 @@ pub struct SubmitOptions<'a> {
     pub quiet: bool,
 }
 
-/// Returns what the options of `submit` ask for.
+/// Returns what the options of `submit` ask for, or `None` if they ask for nothing that can be done.
 pub(crate) fn submit_asked<'a>(submit: &ArgMatches<'a>) -> Option<Asked<'a>>
     ensures { Reads result (IsAskedBy (codes "submit") (rows_of (found_of submit.now))) }
 {
@@ -104,7 +104,8 @@ pub(crate) fn submit_asked<'a>(submit: &ArgMatches<'a>) -> Option<Asked<'a>>
     Some(Asked::Submit(options))
 }
 
-/// Reads the options of `submit`, or returns `None` if they ask for nothing that can be done.
+/// Reads the options of `submit`. `None`: the hash has an unknown name, or hashes are to be compared where files get
+/// none; `mistake_in_submit` has a text for each.
 fn submit_options<'a>(submit: &ArgMatches<'a>) -> Option<SubmitOptions<'a>>
     ensures { Reads result (IsSubmit (rows_of (found_of submit.now))) }
 {
@@ -140,7 +141,7 @@ fn submit_options<'a>(submit: &ArgMatches<'a>) -> Option<SubmitOptions<'a>>
     })
 }
 
-/// Says what is wrong with options that ask for nothing. Without a contract: each text is tested.
+/// Says what is wrong with options for which `submit_options` is `None`. Without a contract: each text is tested.
 pub(crate) fn mistake_in_submit(submit: &ArgMatches<'_>) -> &'static str {
     match hash_of(submit.get_str(HASH)) {
         Some(_) => NO_HASH_TO_COMPARE,
@@ -148,7 +149,7 @@ pub(crate) fn mistake_in_submit(submit: &ArgMatches<'_>) -> &'static str {
     }
 }
 
-/// Returns whether finished files are to be read again, and no hash is there to compare.
+/// Returns whether finished files are to be read again, and no hash is there to compare: `--check` with `--hash none`.
 fn checks_nothing(check: bool, hash: HashKind) -> bool
     ensures { result ≡ checks_nothing check hash }
 {
@@ -160,7 +161,8 @@ fn checks_nothing(check: bool, hash: HashKind) -> bool
     }
 }
 
-/// Reads port, client and times of a submission, or returns `None` without a port or a client.
+/// Reads port, client and times of a submission, or returns `None` without a port or a client, which `clap` demands
+/// before.
 fn destination_of(submit: &ArgMatches<'_>) -> Option<Destination>
     ensures { Reads result (IsSentTo (rows_of (found_of submit.now))) }
 {
@@ -176,7 +178,8 @@ fn destination_of(submit: &ArgMatches<'_>) -> Option<Destination>
     })
 }
 
-/// Declares the command `submit`.
+/// Declares the command `submit`: the rules are those of `submit_command`, in its order, which is that of the help. The
+/// ranges of its numbers stand in the help texts too, which only tests hold.
 pub(crate) fn submit<'a>(alloc: Global) -> Result<Command<'a>, AllocError>
     ensures { Makes submit_command result }
 {
@@ -199,7 +202,7 @@ pub(crate) fn submit<'a>(alloc: Global) -> Result<Command<'a>, AllocError>
         .made
 }
 
-/// Declares the option for the submission's name.
+/// Declares the option `--name TEXT` for the submission's name, which may not be empty.
 fn name<'a>(alloc: Global) -> Arg<'a>
     ensures rule { rule_of result ≡ name_option }
     ensures local { result.global ≡ false }

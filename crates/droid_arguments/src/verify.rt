@@ -1,4 +1,5 @@
-//! The command `verify`: its options, and what they ask for.
+//! The command `verify`: its options, and what they ask for. `names_two` is for `identify` too, which chooses a
+//! registry in the same way.
 
 ghost use Rattle.std.specs.Prelude.{◌≡◌, codes, false, option_map};
 ghost use Rattle.clap.specs.Words.{found_of, rows_of, rule_of};
@@ -64,7 +65,7 @@ pub struct VerifyOptions<'a> {
     pub quiet: bool,
 }
 
-/// Returns what the options of `verify` ask for.
+/// Returns what the options of `verify` ask for, or `None` if they ask for nothing that can be done.
 pub(crate) fn verify_asked<'a>(verify: &ArgMatches<'a>) -> Option<Asked<'a>>
     ensures { Reads result (IsAskedBy (codes "verify") (rows_of (found_of verify.now))) }
 {
@@ -72,7 +73,8 @@ pub(crate) fn verify_asked<'a>(verify: &ArgMatches<'a>) -> Option<Asked<'a>>
     Some(Asked::Verify(options))
 }
 
-/// Reads the options of `verify`, or returns `None` if they ask for nothing that can be done.
+/// Reads the options of `verify`. `None`: `--quick` is given beside `--identify` or `--sizes-only`, or two registries
+/// are; `mistake_in_verify` has a text for each, in the same order.
 fn verify_options<'a>(verify: &ArgMatches<'a>) -> Option<VerifyOptions<'a>>
     ensures { Reads result (IsVerify (rows_of (found_of verify.now))) }
 {
@@ -108,7 +110,7 @@ fn verify_options<'a>(verify: &ArgMatches<'a>) -> Option<VerifyOptions<'a>>
     })
 }
 
-/// Says what is wrong with options that ask for nothing. Without a contract: each text is tested.
+/// Says what is wrong with options for which `verify_options` is `None`. Without a contract: each text is tested.
 pub(crate) fn mistake_in_verify(verify: &ArgMatches<'_>) -> &'static str {
     if reads_nothing(flag_of(verify, QUICK), flag_of(verify, IDENTIFY)) {
         NO_FILE_IS_READ
@@ -119,21 +121,21 @@ pub(crate) fn mistake_in_verify(verify: &ArgMatches<'_>) -> &'static str {
     }
 }
 
-/// Returns whether formats are to be compared, and no file is read.
+/// Returns whether formats are to be compared, and no file is read: `--identify` with `--quick`.
 fn reads_nothing(quick: bool, identify: bool) -> bool
     ensures { result ≡ reads_nothing quick identify }
 {
     quick && identify
 }
 
-/// Returns whether sizes alone are to be compared, and modification times too.
+/// Returns whether sizes alone are to be compared, and modification times too: `--sizes-only` with `--quick`.
 fn measures_twice(quick: bool, sizes_only: bool) -> bool
     ensures { result ≡ measures_twice quick sizes_only }
 {
     quick && sizes_only
 }
 
-/// Returns whether the built-in registry is asked for beside a file.
+/// Returns whether the built-in registry is asked for by `--everyday`, beside a file. It is the default without either.
 pub(crate) fn names_two(everyday: bool, registry: Option<&str>) -> bool
     ensures { result ≡ names_two everyday (option_map (λ path. path.now) registry.entry) }
 {
@@ -145,7 +147,7 @@ pub(crate) fn names_two(everyday: bool, registry: Option<&str>) -> bool
     }
 }
 
-/// Declares the command `verify`.
+/// Declares the command `verify`: the rules are those of `verify_command`, in its order, which is that of the help.
 pub(crate) fn verify<'a>(alloc: Global) -> Result<Command<'a>, AllocError>
     ensures { Makes verify_command result }
 {
@@ -163,7 +165,7 @@ pub(crate) fn verify<'a>(alloc: Global) -> Result<Command<'a>, AllocError>
         .made
 }
 
-/// Declares the option for the list.
+/// Declares the option `--against FILE` for the list, which must be given.
 fn against<'a>(alloc: Global) -> Arg<'a>
     ensures rule { rule_of result ≡ against_option }
     ensures local { result.global ≡ false }

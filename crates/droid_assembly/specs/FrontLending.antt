@@ -1,4 +1,4 @@
--- What a front is after its windows were lent.
+-- For inner clauses and proofs: what a front is after its windows were lent.
 use Rattle.std.specs.Prelude.{◌≡◌, ℕ, List, length}
 use Rattle.std.specs.Borrow.{MutBor, Fml, RattleType, Array, Lends, u8 as byte}
 use Rattle.std.specs.List.{refill}

@@ -1,4 +1,4 @@
--- The front of a file: the bytes before the first missing piece.
+-- For inner clauses and proofs: the front of a file, the bytes before the first missing piece.
 use Rattle.std.specs.Prelude.{◌≡◌, ℕ, ◌≤◌, List, vec_len, vec_capacity}
 use Rattle.droid_assembly.specs.Pieces.{first_window, last_window}
 use Rattle.droid_frame.specs.RunningHashes.{HoldsAll}

@@ -1,4 +1,4 @@
--- For proofs: the invariants of an assembly.
+-- For inner clauses and proofs: the invariants of an assembly; and `pieces_from`, in which `settle` speaks.
 use Rattle.std.specs.Prelude.{◌≡◌, ℕ, ◌+◌, ◌<◌, ◌≤◌, List, [], length, Option, None, unwrap_or, IsSome, MatchOption, ⊤}
 use Rattle.std.specs.Prelude.{is_some, slice_index_or, sum_by, count_by, map}
 use Rattle.std.specs.List.{range_with_len}

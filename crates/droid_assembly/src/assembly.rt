@@ -1,4 +1,5 @@
-//! The pieces of one unfinished file: takes them in any order, and makes the file's windows and its hash of them.
+//! The pieces of one unfinished file: takes them in any order, and makes the file's windows and its hash of them. The
+//! 16 of the clauses is `AHEAD` of `places`; the prover ties them.
 
 ghost use Rattle.std.specs.Prelude.{◌≡◌, ◌+◌, ◌-◌, ◌*◌, ◌^◌, ◌<◌, ◌≤◌, ◌↔◌, ◌++◌, ◌∷◌, [], ℕ, List, length, min, IsOk};
 ghost use Rattle.std.specs.Prelude.{IfOk, IfErr, OnOk, OnErr, IsErrOf, IsTrue, IsSome, None, Some, option_map};
@@ -112,7 +113,8 @@ impl Assembly {
         })
     }
 
-    /// Makes this piece the pending one. On a fault it returns the bytes, and the assembly is unchanged.
+    /// Makes the piece of this index, with these bytes, the pending one. On a fault it returns the bytes, and the
+    /// assembly is unchanged.
     pub fn put(&mut self, index: u32, bytes: Blob) -> Result<(), PutFault>
         requires { self.old.pending ≡ None }
         // The first of these faults that applies is returned.
@@ -151,7 +153,7 @@ impl Assembly {
         Ok(())
     }
 
-    /// Returns the index of the pending piece.
+    /// Returns the index of the pending piece, or `None` if no piece is pending.
     pub fn pending(&self) -> Option<u32>
         ensures { result ≡ option_map (λ piece. piece.0) self.now.pending }
     {
@@ -284,7 +286,8 @@ impl Assembly {
         self.front.windows()
     }
 
-    /// Returns whether the file has a piece of this index and this length.
+    /// Returns whether the file has a piece of this index and this length: each has `piece_size` bytes, and the last
+    /// one the rest.
     fn is_due(&self, index: u32, bytes: &Blob) -> bool
         ensures { IsTrue result ↔ IsDue self.now.size self.now.piece_size (index, bytes.now) }
     {
@@ -297,7 +300,7 @@ impl Assembly {
         bytes.len() as u64 == piece_size.min(self.size - start)
     }
 
-    /// Returns whether the piece of this index is settled.
+    /// Returns whether the piece of this index is settled: it has gone to the front, or waits in its place.
     fn is_held(&self, index: u32) -> bool
         ensures held { (pieces : List Piece) → StandsFor self.now pieces
             → MatchBool result (HasIndex pieces index) (LacksIndex pieces index) }
@@ -310,14 +313,14 @@ impl Assembly {
         index - self.missing < AHEAD && self.waiting[(index % AHEAD) as usize].is_some()
     }
 
-    /// Returns the number of pieces of the file.
+    /// Returns the number of pieces of the whole file, whether they are there or not; 0 for an empty file.
     fn count(&self) -> u32
         ensures { result ≡ count_of self.now }
     {
         self.size.div_ceil(u64::from(self.piece_size)) as u32
     }
 
-    /// Returns the number of bytes of the pending piece.
+    /// Returns the number of bytes of the pending piece; 0 if none is pending.
     fn pending_bytes(&self) -> u64
         ensures { result ≡ pending_len self.now.pending }
     {
@@ -328,7 +331,8 @@ impl Assembly {
     }
 }
 
-/// Returns the kept hash. If none is kept yet, ends the running hash and keeps its value.
+/// Returns the kept hash. If none is kept yet, ends the running hash and keeps its value, so that `seal` can be called
+/// again.
 fn hash_of(kept: &mut Option<HashValue>, front: &mut Front) -> HashValue
     ensures value { (before : List ℕ) → IsHashOf kept.old front.old.hash before
         → result ≡ hash (running_kind front.old.hash) before }

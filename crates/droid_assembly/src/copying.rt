@@ -4,7 +4,8 @@ ghost use Rattle.std.specs.Prelude.{◌≡◌, ◌≤◌, ◌+◌, ◌++◌, len
 
 use std::mem;
 
-/// Appends bytes. There must be room for them, so nothing is allocated. No bytes are passed over at once, for speed.
+/// Appends bytes to a window. There must be room for them, so nothing is allocated. Without bytes it returns at once,
+/// for speed: after the window is full this is the usual case.
 #[inline(always)]
 pub(crate) fn append(window: &mut Vec<u8>, bytes: &[u8])
     requires { vec_len window.old + length bytes.now ≤ vec_capacity window.old }
@@ -32,7 +33,7 @@ fn append_some(window: &mut Vec<u8>, bytes: &[u8])
     *window = filled;
 }
 
-/// Replaces the bytes from index `at` on.
+/// Replaces the bytes of the block from index `at` on, as many as there are in `bytes`.
 #[inline(always)]
 pub(crate) fn overwrite(block: &mut [u8], at: usize, bytes: &[u8])
     requires { at + length bytes.now ≤ length block.old }
@@ -46,7 +47,7 @@ pub(crate) fn overwrite(block: &mut [u8], at: usize, bytes: &[u8])
     }
 }
 
-/// Does the work of `overwrite` by a call of the copy.
+/// Does the work of `overwrite` by a call of the kit's copy, for any number of bytes.
 #[inline(never)]
 fn copy_over(block: &mut [u8], at: usize, bytes: &[u8])
     requires { at + length bytes.now ≤ length block.old }

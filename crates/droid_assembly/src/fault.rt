@@ -1,4 +1,4 @@
-//! Faults of an assembly.
+//! The faults of an assembly: why it took no piece or could not end, and what a client is told of the first.
 
 ghost use Rattle.std.specs.Prelude.{◌≡◌};
 

@@ -1,4 +1,5 @@
-//! Passes several pieces to the front of a file.
+//! Passes several pieces to the front of a file: small ones joined, large ones each by itself. Both ways leave the same
+//! front.
 
 ghost use Rattle.std.specs.Prelude.{◌≡◌, ◌≤◌, ◌++◌, ℕ, List, length};
 ghost use Rattle.std.specs.List.{concat};
@@ -9,7 +10,8 @@ use crate::front::Front;
 use crate::several::Several;
 use crate::small_pieces::Joined;
 
-/// Joins small pieces, and passes their bytes to the front in one call, which is cheaper than a call for each. This is
+/// Joins small pieces, of at most 512 bytes in all, and passes their bytes to the front in one call, which is cheaper
+/// than a call for each. 512 is `JOINED_LIMIT` of `small_pieces`; the prover ties them. This is
 /// a function of its own so that large pieces don't pay for clearing the buffer.
 #[inline(never)]
 pub(crate) fn show_joined(front: &mut Front, several: &Several)
@@ -30,7 +32,7 @@ pub(crate) fn show_joined(front: &mut Front, several: &Several)
     front.take(joined.bytes());
 }
 
-/// Passes the bytes of each piece to the front, without a copy.
+/// Passes the bytes of each piece to the front in its turn, without a copy into a buffer.
 #[inline(never)]
 pub(crate) fn show_each(front: &mut Front, several: &Several)
     requires sound { IsFront front.old }

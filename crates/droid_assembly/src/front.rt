@@ -1,4 +1,4 @@
-//! The front of a file: the bytes before the first missing piece.
+//! The front of a file: what is kept of the bytes before the first missing piece, and how these bytes reach it.
 //!
 //! A clause `ensures*` with `sem 𝓛` is of the kit: it holds once the loan of the result has ended.
 
@@ -26,7 +26,8 @@ pub(crate) struct Front {
 }
 
 impl Front {
-    /// Makes an empty front, with room for `width` bytes in each window. Fails only when out of memory.
+    /// Makes an empty front, with room for `width` bytes in each window, and a hash of this kind. Fails only when out
+    /// of memory.
     pub(crate) fn with_room(
         alloc: Global,
         width: usize,
@@ -47,7 +48,8 @@ impl Front {
         })
     }
 
-    /// Adds the next bytes. Allocates nothing.
+    /// Adds the next bytes of the file: to the first window as far as there is room, to the last one in the place of
+    /// the oldest bytes, and to the hash. Allocates nothing.
     pub(crate) fn take(&mut self, bytes: &[u8])
         requires { IsFront self.old }
         ensures sound { IsFront self.new }
@@ -61,7 +63,8 @@ impl Front {
         self.hash.update(bytes);
     }
 
-    /// Returns the hash of the bytes so far. After this call the running hash no longer covers them.
+    /// Returns the hash of the bytes so far. After this call the running hash covers nothing that is promised, so the
+    /// only caller, `hash_of` of `assembly`, keeps the value.
     pub(crate) fn finish(&mut self) -> HashValue
         ensures value { (before : List ℕ) → HoldsAll self.old.hash before
             → result ≡ hash (running_kind self.old.hash) before }
@@ -73,7 +76,8 @@ impl Front {
         self.hash.finish()
     }
 
-    /// Returns the two windows. Moves the last bytes so that they are in order in memory.
+    /// Returns the two windows of the bytes so far. Moves the last bytes so that they are in order in memory, which no
+    /// clause sees.
     pub(crate) fn windows(&mut self) -> Windows<'_>
         // Holds once the loan of the result has ended.
         ensures* unchanged { sem 𝓛 (StaysUnchanged self.entry) }

@@ -1,4 +1,8 @@
 //! Assembles one file from pieces that come in any order.
+//!
+//! `assembly` is what callers see. A settled piece waits in its place (`places`) until all before it are there; then
+//! its bytes go to the front (`front`), which keeps the windows and the running hash. Everything else serves the speed
+//! of that step.
 #![tactic(auto)]
 
 mod assembly;

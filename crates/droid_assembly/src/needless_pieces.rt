@@ -27,7 +27,7 @@ impl Model for Spent {
 }
 
 impl Spent {
-    /// Makes an empty list.
+    /// Makes an empty list: no piece has become needless.
     pub(crate) fn none() -> Spent
         ensures { result ≡ [] }
     {
@@ -57,7 +57,7 @@ impl Spent {
         }
     }
 
-    /// Returns the number of pieces.
+    /// Returns the number of pieces, at most 16.
     pub fn len(&self) -> usize
         ensures { result ≡ length self.now }
     {
@@ -68,7 +68,7 @@ impl Spent {
         }
     }
 
-    /// Returns whether there are no pieces.
+    /// Returns whether there are no pieces: the assembly needs all that it has.
     pub fn is_empty(&self) -> bool
         ensures { IsTrue result ↔ (self.now ≡ []) }
     {

@@ -1,4 +1,5 @@
-//! The places of pieces that wait for an earlier piece: a piece is at its index modulo 16.
+//! The places of pieces that wait for an earlier piece: a piece is at its index modulo 16. Takes in a piece, and passes
+//! on those that no longer wait.
 
 ghost use Rattle.std.specs.Prelude.{◌≡◌, ◌<◌, ◌≤◌, ◌+◌, ◌%◌, ◌-◌, ◌^◌, [], ℕ, List, length, min, None, Some, IfOk};
 ghost use Rattle.std.specs.Prelude.{IsSome, IsTrue, replicate, slice_set, vec_capacity};
@@ -19,10 +20,10 @@ use droid_frame::Blob;
 use std::alloc::{AllocError, Global};
 
 /// A piece is accepted only if its index is less than this far past the first missing one. So each waiting piece has a
-/// place of its own.
+/// place of its own. The clauses and `slot` of `specs/State.antt` have the same number, and the prover ties them.
 pub(crate) const AHEAD: u32 = 16;
 
-/// Makes the places, all empty. Fails only when out of memory.
+/// Makes the places, all empty, with memory for exactly 16. Fails only when out of memory.
 pub(crate) fn empty_places(alloc: Global) -> Result<Vec<Option<Blob>>, AllocError>
     ensures empty { IfOk result (λ places. places.items ≡ replicate 16 None) }
     ensures reserved { IfOk result (λ places. vec_capacity places ≡ 16) }
@@ -34,8 +35,9 @@ pub(crate) fn empty_places(alloc: Global) -> Result<Vec<Option<Blob>>, AllocErro
     Ok(places)
 }
 
-/// Accepts a piece whose place is free. Passes every piece that is now next, from index `from` on, to the front, and
-/// returns these pieces. Allocates nothing.
+/// Accepts the piece `bytes` of this index, whose place is free. `from` is the index of the first missing piece. Passes
+/// every piece that is now next, from there on, to the front, moves `from` past them, and returns them. Allocates
+/// nothing.
 #[inline(always)]
 pub(crate) fn arrive(
     waiting: &mut [Option<Blob>],
@@ -74,8 +76,9 @@ pub(crate) fn arrive(
     Spent::none()
 }
 
-/// Takes the consecutive pieces from this index on out of their places, passes them to the front, and returns them.
-/// This is a function of its own so that the usual case doesn't pay for clearing the array of `Several`.
+/// Takes the consecutive pieces from index `from` on out of their places, passes them to the front, moves `from` past
+/// them, and returns them. This is a function of its own so that the usual case doesn't pay for clearing the array of
+/// `Several`.
 #[inline(always)]
 fn pass(waiting: &mut [Option<Blob>], front: &mut Front, from: &mut u32) -> Spent
     requires places { length waiting.old ≡ 16 }
@@ -98,7 +101,7 @@ fn pass(waiting: &mut [Option<Blob>], front: &mut Front, from: &mut u32) -> Spen
     Spent::several(several)
 }
 
-/// Does the work of `pass`, and puts the pieces into `several`.
+/// Does the work of `pass`, but puts the pieces into `several`, which is empty before, and leaves `from` to the caller.
 #[inline(never)]
 fn pass_several(waiting: &mut [Option<Blob>], front: &mut Front, from: u32, several: &mut Several)
     requires places { length waiting.old ≡ 16 }
@@ -124,8 +127,8 @@ fn pass_several(waiting: &mut [Option<Blob>], front: &mut Front, from: u32, seve
     }
 }
 
-/// Takes the consecutive pieces from this index on out of their places, into `several`. Returns the number of their
-/// bytes, or the largest `usize` if there are more.
+/// Takes the consecutive pieces from index `from` on out of their places, into `several`, which is empty before.
+/// Returns the number of their bytes, or the largest `usize` if there are more.
 #[inline(always)]
 fn gather(waiting: &mut [Option<Blob>], from: u32, several: &mut Several) -> usize
     requires places { length waiting.old ≡ 16 }
@@ -152,7 +155,7 @@ fn gather(waiting: &mut [Option<Blob>], from: u32, several: &mut Several) -> usi
     total
 }
 
-/// Returns whether the piece of this index waits.
+/// Returns whether a piece waits in the place of this index. Of indexes that are 16 apart, at most one can wait.
 fn waits(waiting: &[Option<Blob>], index: u32) -> bool
     requires { length waiting.now ≡ 16 }
     ensures there { IsTrue result → IsSome (slot waiting.now index) }
@@ -161,7 +164,7 @@ fn waits(waiting: &[Option<Blob>], index: u32) -> bool
     waiting[(index % AHEAD) as usize].is_some()
 }
 
-/// Takes the piece of this index out of its place.
+/// Takes the piece of this index out of its place, and leaves the place empty. Returns `None` if it was.
 fn take_out(waiting: &mut [Option<Blob>], index: u32) -> Option<Blob>
     requires { length waiting.old ≡ 16 }
     ensures piece { result ≡ slot waiting.old index }

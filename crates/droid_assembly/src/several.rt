@@ -1,4 +1,4 @@
-//! Several consecutive pieces.
+//! Several consecutive pieces, as they leave their places, in an array that takes no memory from the allocator.
 
 ghost use Rattle.std.specs.Prelude.{◌≡◌, ◌<◌, ◌++◌, ◌∷◌, [], length};
 ghost use Rattle.std.specs.Option.{option_copied};
@@ -8,7 +8,8 @@ use droid_frame::Blob;
 use std::array;
 use std::marker::Model;
 
-/// The limit on the pieces.
+/// The most pieces. It is `AHEAD` of `places`: as many places can be emptied at once. The prover refuses a smaller one;
+/// a larger one would cost memory.
 const SEVERAL_LIMIT: usize = 16;
 
 /// Several consecutive pieces, in an array of fixed size. In contracts it is the list of their bytes.
@@ -40,7 +41,7 @@ impl Several {
         }
     }
 
-    /// Appends a piece. There must be room for it.
+    /// Appends a piece. There must be room for it; `gather` of `places` appends at most 16.
     pub(crate) fn push(&mut self, bytes: Blob)
         requires { length self.old < 16 }
         ensures { self.new ≡ self.old ++ bytes ∷ [] }

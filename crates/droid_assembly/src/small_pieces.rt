@@ -1,11 +1,12 @@
-//! Joins the bytes of small pieces.
+//! Joins the bytes of small pieces in a buffer of fixed size.
 
 ghost use Rattle.std.specs.Prelude.{◌≡◌, ◌+◌, ◌≤◌, ◌++◌, [], length};
 
 use crate::copying::overwrite;
 use std::marker::Model;
 
-/// The limit on the joined bytes.
+/// The most bytes that are joined. The clauses have the same number, and the prover ties them. Its choice is for speed
+/// alone: more bytes are cheaper to pass without a copy.
 pub(crate) const JOINED_LIMIT: usize = 512;
 
 /// The bytes of small pieces, joined in a buffer of fixed size. In contracts it is the list of its bytes.
@@ -37,7 +38,7 @@ impl Joined {
         }
     }
 
-    /// Appends the bytes of a piece. There must be room for them.
+    /// Appends the bytes of a piece. There must be room for them; `pass_several` of `places` counts them before.
     #[inline(always)]
     pub(crate) fn push(&mut self, bytes: &[u8])
         requires { length self.old + length bytes.now ≤ 512 }
@@ -47,7 +48,7 @@ impl Joined {
         self.count += bytes.len();
     }
 
-    /// Returns the bytes.
+    /// Returns the bytes of all pieces, one after another.
     pub(crate) fn bytes(&self) -> &[u8]
         ensures { result.now ≡ self.now }
     {

@@ -1,4 +1,4 @@
--- For proofs alone: the indices of the pending requests.
+-- For inner clauses and proofs: the indices of the pending requests.
 use Rattle.std.specs.Prelude.{◌≡◌, ℕ, suc, ◌+◌, ◌-◌, ◌≤◌, ◌^◌, nat_lt, if◌then◌else◌, List, [], ◌∷◌, length, Option}
 use Rattle.std.specs.Prelude.{Some, None, IsSome}
 use Rattle.std.specs.List.{slice_get}

@@ -1,4 +1,4 @@
-//! The client of a service.
+//! The client of a service: `Client`, the state of all its requests.
 
 ghost use Rattle.std.specs.Prelude.{◌≡◌, ◌↔◌, ◌<◌, ◌^◌, ◌+◌, length, IfOk, IfSome, IfNone, OnOk, OnErr, IsErrOf, None};
 ghost use Rattle.std.specs.Prelude.{Some, vec_len};
@@ -92,7 +92,8 @@ impl Client {
         self.pending.len()
     }
 
-    /// Returns the frame of the pending request at this index, in order of their numbers. Takes constant time.
+    /// Returns the frame of the pending request at this index, in order of their numbers. Takes constant time. `None`
+    /// from [`Client::pending`] on.
     pub fn pending_at(&self, index: usize) -> Option<&Frame>
         ensures { option_copied result ≡ slice_get (pending_of self.now) index }
     {
@@ -144,7 +145,8 @@ impl Client {
         self.slot(number)?.refusal()
     }
 
-    /// Takes a reply that came under this version, client and number, and says what came of it.
+    /// Takes a reply that came under this version, client and number, and says what came of it. One of another client,
+    /// or of a number that was never submitted, is a `Stranger` and changes nothing.
     fn hear(&mut self, version: u8, client: u32, number: u64, reply: Reply) -> Heard
         ensures heard { result ≡ heard_of self.old version client number reply }
         ensures after { self.new ≡ core_hearing self.old version client number reply }
@@ -158,7 +160,7 @@ impl Client {
         hear_at(&mut self.slots, &mut self.pending, place, version, reply)
     }
 
-    /// Returns the request that was submitted under this number.
+    /// Returns the slot of the request that was submitted under this number, or `None` if none was.
     fn slot(&self, number: u64) -> Option<&Slot>
         ensures { option_copied result ≡ slot_at self.now number }
     {
@@ -167,7 +169,8 @@ impl Client {
     }
 }
 
-/// Returns the index of the slot with this number, among `count` slots numbered from `first` on.
+/// Returns the index of the slot with this number, among `count` slots numbered from `first` on, or `None` if none has
+/// it.
 fn place_of(first: u64, count: usize, number: u64) -> Option<usize>
     ensures { result ≡ place_of first count number }
 {

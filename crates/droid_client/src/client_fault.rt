@@ -1,4 +1,4 @@
-//! The faults of the client's calls.
+//! The faults of the client's calls: of submitting a request, and of taking a reply.
 
 ghost use Rattle.std.specs.Prelude.{◌≡◌};
 
@@ -21,6 +21,7 @@ impl From<AllocError> for SubmitFault {
 
     ghost from_gives = { λ error fault. fault ≡ SubmitFault.Memory };
 
+    /// Reports out of memory as `Memory`.
     fn from(_: AllocError) -> SubmitFault {
         SubmitFault::Memory
     }

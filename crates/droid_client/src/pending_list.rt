@@ -1,4 +1,4 @@
-//! The list of pending requests, by their index among all submitted ones.
+//! The list of pending requests, by their index among all submitted ones: a reply may take one off it.
 
 ghost use Rattle.std.specs.Prelude.{◌≡◌, List, Some, None, slice_set, vec_len, ◌<◌};
 ghost use Rattle.std.specs.List.{slice_get};
@@ -11,7 +11,8 @@ use crate::slot::Slot;
 use droid_frame::Reply;
 use std::collections::VecDeque;
 
-/// Passes a reply in this version to the slot at this index. If it is the answer, takes the request off the list.
+/// Passes a reply in this version to the slot at this index, and returns what came of it. If it is the answer, takes
+/// the request off the list `pending`.
 pub(crate) fn hear_at(
     slots: &mut Vec<Slot>,
     pending: &mut VecDeque<usize>,
@@ -36,7 +37,8 @@ pub(crate) fn hear_at(
     }
 }
 
-/// Takes a request that was just answered off the list, which is in order.
+/// Takes the index of a request that was just answered off the list, which is in order. An index that is not in the
+/// list changes nothing; the caller's always is.
 fn settle(pending: &mut VecDeque<usize>, place: usize)
     ensures { (slots : List Slot) (slot : Slot) → pending.old.items ≡ places_from 0 slots → IsPendingAt slots place
         → pending_in slot.state ≡ None → pending.new.items ≡ places_from 0 (slice_set slots place slot) }

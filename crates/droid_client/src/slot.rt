@@ -1,4 +1,4 @@
-//! One submitted request and its answer.
+//! One submitted request and its answer: what a reply means for it, and what is kept of it.
 
 ghost use Rattle.std.specs.Prelude.{◌≡◌, IfSome, IfNone, None, Some, is_some};
 ghost use Rattle.std.specs.Option.{option_copied};
@@ -39,7 +39,8 @@ impl Slot {
         }
     }
 
-    /// Takes a reply in this version to this request.
+    /// Takes a reply in this version to this request: keeps an answer in the place of the frame, and a refusal in the
+    /// place of an earlier one. Any other reply changes nothing.
     pub(crate) fn hear(&mut self, version: u8, reply: Reply) -> Heard
         ensures heard { result ≡ heard_at self.old version reply }
         ensures after { self.new ≡ slot_hearing self.old version reply }
@@ -54,7 +55,7 @@ impl Slot {
         heard
     }
 
-    /// Returns what a reply in this version means for this request.
+    /// Returns what a reply in this version means for this request, which it leaves as it is.
     fn heard(&self, version: u8, reply: &Reply) -> Heard
         ensures { result ≡ heard_at self.now version reply.now }
     {
@@ -97,7 +98,7 @@ impl Slot {
         }
     }
 
-    /// Returns the last refusal.
+    /// Returns the last refusal, if the request was ever refused. An answer doesn't clear it.
     pub(crate) fn refusal(&self) -> Option<Refusal>
         ensures { result ≡ self.now.refusal }
     {
@@ -105,7 +106,8 @@ impl Slot {
     }
 }
 
-/// Returns whether a reply of this kind answers a request of kind `kind`. A refusal answers every kind.
+/// Returns whether a reply of this kind answers a request of kind `kind`. A refusal answers every kind. The kinds are
+/// those of `Request::kind`, which `belongs` of `specs/Cores.antt` has too.
 fn belongs(kind: u8, reply: &Reply) -> bool
     ensures { result ≡ belongs kind reply.now }
 {

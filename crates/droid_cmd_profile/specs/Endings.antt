@@ -21,7 +21,7 @@ use Rattle.droid_cmd_profile.specs.declared.pages.report_ending.ReportEnding.{Re
 use Rattle.droid_cmd_profile.specs.declared.pages.report_ending.ReportEnding.TheVariants.{Whole, Unread, SameFile}
 use Rattle.droid_cmd_profile.specs.declared.pages.report_ending.ReportEnding.TheVariants.{NoProfile, NoPage}
 
--- where a file could not be created or replaced
+-- the ending where a file could not be created or replaced
 abbrev pub TellsOutput : OutputFault → List ℕ → Told → Type 0
 TellsOutput outputs.Memory path it = it ≡ by table.memory []
 TellsOutput outputs.Refused path it = IsNoOutput path it
@@ -31,6 +31,7 @@ abbrev pub csv_fault : ListFault → PageFault
 csv_fault faults.Memory = Memory
 csv_fault fault = Refused
 
+-- the fault of the page by what reading its CSV refused: it has no path twice either
 abbrev pub page_fault : ProfileFault → PageFault
 page_fault (Csv fault) = csv_fault fault
 page_fault (Twice same) = Refused
@@ -42,7 +43,7 @@ TellsPage Memory csv page it = it ≡ by table.memory []
 TellsPage Refused csv page it = it ≡ by table.own_csv_refused (of_path csv)
 TellsPage (Unwritten fault) csv page it = it ≡ by table.unwritten (of_path page)
 
--- where the CSV that a report is made of could not be read, or is none
+-- the ending where the CSV that a report is made of could not be read
 abbrev pub told_unread : ErrorKind → List ℕ → Told
 told_unread kinds.NotFound csv = by table.profile_missing (of_path csv)
 told_unread kind csv = detailed table.profile_unread (of_path csv) None
@@ -55,7 +56,7 @@ at_number row path number = detailed row (of_path path) (Some (decimal number))
 abbrev pub at_column : Said → List ℕ → ℕ → List ℕ → Told
 at_column row csv number name = detailed row (of_path csv) (Some (decimal number ++ (codes ": " ++ name)))
 
--- of a profile's CSV that is malformed or contradicts itself
+-- the ending by a profile's CSV that is malformed or contradicts itself
 abbrev pub told_no_csv : ListFault → List ℕ → Told
 told_no_csv faults.Memory csv = by table.memory []
 told_no_csv faults.Header csv = by table.list_other (of_path csv)

@@ -1,4 +1,4 @@
--- A writer that may keep what it writes.
+-- A writer that may keep what it writes (this project's own).
 use Rattle.std.specs.Prelude.{◌≡◌, ℕ, Bool, true, false, List, [], Option, Some, None, Vec, ⊤}
 use Rattle.std.specs.declared.alloc.Global.{Global}
 use Rattle.droid_cmd_profile.specs.declared.kept_output.Keeping.{Keeping}

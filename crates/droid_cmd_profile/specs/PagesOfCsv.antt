@@ -1,4 +1,4 @@
--- The page of a profile's CSV.
+-- The page of a profile's CSV (this project's own).
 use Rattle.std.specs.Prelude.{ℕ, List, Option, Result, Ok, Err, String, string_bytes}
 use Rattle.std.specs.declared.alloc.Global.{Global}
 use Rattle.droid_report.specs.Reports.{AreProfile, IsReport, Refuses}
@@ -15,7 +15,7 @@ pub record IsPageOfProfile (title moment name : List ℕ) (registry : Option (Li
   pub counts : IsReport profile report
   pub page : IsPage title (about_text moment name registry report.hash) report.counts text
 
--- a call gave the page of records, or why there is none
+-- what a call returned for these records: the page of the profile that they are, or why they are refused
 abbrev pub Gives : List ℕ → List ℕ → List ℕ → Option (List ℕ) → List (List (List ℕ))
     → Result (String Global) ProfileFault → Type 0
 Gives title moment name registry records (Ok page) =

@@ -24,17 +24,17 @@ ending_of (Ok whole) (Some fault) = Unlisted fault
 ending_of (Ok true) None = Whole
 ending_of (Ok false) None = Partly
 
--- where the CSV was also kept, and there was no memory for that
+-- the ending where the CSV was also kept: a lack of memory for that comes before any other
 abbrev pub lacking_memory : ProfileEnding → Bool → ProfileEnding
 lacking_memory ending true = Fault faults.Memory
 lacking_memory ending false = ending
 
--- after the page
+-- the ending after the page
 abbrev pub with_page : {V : Type 0} → ProfileEnding → Result V PageFault → ProfileEnding
 with_page ending (Ok value) = ending
 with_page ending (Err fault) = NoPage fault
 
--- everything was written
+-- whether everything was written that comes before the page
 abbrev pub is_written : ProfileEnding → Bool
 is_written Whole = true
 is_written Partly = true
@@ -52,11 +52,11 @@ path_of options files.Manifest = output_name (option_map (λ path. path.now) opt
 path_of options files.Skipped = output_name (option_map (λ path. path.now) options.skipped)
 path_of options files.Page = output_name (option_map (λ path. path.now) options.report)
 
--- where a file could not be written
+-- the ending where a file could not be written
 abbrev pub told_unwritten : ProfileOptions → OutputFile → Told
 told_unwritten options file = by table.unwritten (of_path (path_of options file))
 
--- where the walk ended early, or the profile could not be written; where what was skipped could not be written
+-- how the command ends if the walk ended early, or the profile could not be written
 abbrev pub told_unprofiled : CsvFault → ProfileOptions → Told
 told_unprofiled faults.Memory options = by table.memory []
 told_unprofiled faults.Numbers options = by table.too_many (of_path options.folder.now)

@@ -1,5 +1,6 @@
-//! The profile of a folder of this machine. `profile_tree` is proved; what is here joins it to the machine's files,
-//! without contracts, and is tested by tests/program/folders.
+//! The command `profile` for a folder of this machine. `profile_tree` is proved; what is here joins it to the machine's
+//! files, without contracts, and is tested by `tests/program/folders` (`profile_output.py`, `profile_skipped.py`,
+//! `profile_manifest.py`, `profile_report.py`), and by `commands_refused.py` of `tests/memory` where memory runs out.
 
 use crate::kept_output::Keeping;
 use crate::named_registry::{NamedRegistry, RegistryLine};
@@ -40,7 +41,8 @@ struct Writers<'a, R: Files, O> {
 
 /// Profiles a folder of this machine, and prints on standard error by which registry, and what is skipped. Each file is
 /// complete at the end, or as it was before. The page comes last: if it can't be written, the CSV is there all the
-/// same.
+/// same. The registry is printed before anything is checked; then the folder, the files and the page's file are, in
+/// this order, and the first fault is the ending.
 pub fn profile_folder<R>(
     rt: &R,
     registry: &NamedRegistry<'_>,
@@ -88,7 +90,8 @@ where
     }
 }
 
-/// Creates the files, and returns the folder without them.
+/// Creates the files, and returns the folder without them. Fails with the ending where one can't be created or memory
+/// runs out; the caller removes the files then.
 fn tree_of<'a, R>(
     rt: &'a R,
     options: ProfileOptions<'_>,
@@ -105,7 +108,7 @@ where
 }
 
 /// Writes the profile to the files, and puts them in their places once they are complete. If no file is named for the
-/// CSV, it goes to standard output. Returns the CSV if it is to be kept.
+/// CSV, it goes to standard output. `keeps` says whether the CSV is kept for a page: then it is returned too.
 fn profile_to_files<'a, R>(
     rt: &'a R,
     registry: &Registry,
@@ -180,7 +183,8 @@ fn parts_of<'a, R: Files, O: Drop>(writers: Writers<'a, R, O>) -> Parts<'a, R, O
     (output, text, manifest, skipped)
 }
 
-/// Puts the files in their places if everything was written, and otherwise removes them.
+/// Puts the files in their places if everything was written, and otherwise removes them. Returns the ending of the
+/// walk, or that of the first file that did not get its place.
 fn settle<R: Files<File = File> + AllocGlobal>(
     ending: ProfileEnding,
     files: OutputFiles<'_, R>,
@@ -195,7 +199,8 @@ fn settle<R: Files<File = File> + AllocGlobal>(
     }
 }
 
-/// Writes the profile, and prints the summary.
+/// Writes the profile to these writers, and prints the summary. Returns the ending, and the writers to be settled.
+/// Where the CSV could not be kept, the ending is that memory ran out.
 fn profile_to<'a, R, O: Write + Drop>(
     rt: &'a R,
     registry: &Registry,
@@ -244,7 +249,7 @@ where
     )
 }
 
-/// Begins the CSV of what is skipped, if there is a file for it.
+/// Begins the CSV of what is skipped, with its header, if there is a file for it.
 fn begin_skipped<S: SteadyWrite>(alloc: Global, output: Option<S>) -> Option<SkippedFile<S>> {
     match output {
         Some(output) => Some(SkippedFile::begin(alloc, output)),
@@ -252,7 +257,8 @@ fn begin_skipped<S: SteadyWrite>(alloc: Global, output: Option<S>) -> Option<Ski
     }
 }
 
-/// Returns the file for what was skipped, without its fault, if there is one.
+/// Returns the output of the file for what was skipped, if there is one. Its fault is dropped, since `profile_tree` has
+/// put it into the ending.
 fn output_in<S>(file: Option<SkippedFile<S>>) -> Option<S> {
     match file {
         Some(SkippedFile { output, .. }) => Some(output),

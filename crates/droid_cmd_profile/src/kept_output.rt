@@ -1,4 +1,4 @@
-//! A writer that may keep what it writes.
+//! A writer that may keep what it writes: the CSV of a profile, of which a page is to be made.
 
 ghost use Rattle.std.specs.Prelude.{◌≡◌, ◌++◌, Some, OnErr, OnOk, false, true};
 ghost use Rattle.std.specs.Io.{WritesAtMost};
@@ -16,12 +16,14 @@ pub struct Keeping<O> {
     pub output: O,
     /// What was written, if it is kept. A write that fails adds nothing.
     pub text: Option<Vec<u8>>,
-    /// Whether a write failed because there was no memory to keep it. Nothing of it was written then.
+    /// Whether a write failed because there was no memory to keep it. Nothing of it was written then. `profile_to` of
+    /// `folder_profile.rt` reads it, and the command ends as out of memory: `test_profile_with_a_page` of
+    /// `commands_refused.py` in `tests/memory` refuses each allocation in turn.
     pub lacked_memory: bool,
 }
 
 impl<O> Keeping<O> {
-    /// Takes a writer. What is written from now on is kept if `keeps` is set.
+    /// Takes a writer. What is written from now on is kept if `keeps` is set. Takes no memory yet.
     pub fn new(alloc: Global, output: O, keeps: bool) -> Keeping<O>
         ensures output { result.output ≡ output }
         ensures text { IsBegun keeps result.text }
@@ -35,13 +37,14 @@ impl<O> Keeping<O> {
     }
 }
 
-/// Returns an empty text if one is kept.
+/// Returns an empty text to keep what is written in, or `None` if nothing is kept.
 fn no_text(alloc: Global, keeps: bool) -> Option<Vec<u8>>
     ensures { IsBegun keeps result }
 {
     if keeps { Some(Vec::new(alloc)) } else { None }
 }
 
+// What was written is what is kept, or else what the output holds. Where nothing is kept it is the output alone.
 impl<O: Write> Write for Keeping<O> {
     ghost contents = { kept_contents O.contents };
 
@@ -57,10 +60,12 @@ impl<O: Write> Write for Keeping<O> {
     }
 }
 
-/// Writes bytes, and keeps those that were taken. They are kept before they are written, so that nothing is written
-/// that can't be kept.
+/// Writes bytes, and keeps those that the output took: how many is what it returns. They are kept before they are
+/// written, so that nothing is written that can't be kept. After an error of either the text is as it was. For
+/// `Keeping::write`, which passes its own three fields.
 ///
-/// The clauses are the kit's of any writer, twice: of the output, and of the text that is kept.
+/// The clauses are the kit's of any writer, twice: of the output, and of the text that is kept. No clause here holds
+/// `lacked_memory`: only `keep` may change it, whose clauses `sound` and `noted` say when.
 fn write_and_keep<O: Write>(
     output: &mut O,
     text: &mut Vec<u8>,
@@ -85,7 +90,8 @@ fn write_and_keep<O: Write>(
     }
 }
 
-/// Appends bytes to a text, or notes that there was no memory for them.
+/// Appends bytes to a text. If there is no memory for them, sets `lacked_memory` and fails with the kind `OutOfMemory`,
+/// which no clause holds: callers see only that the writer failed. The flag tells the command why.
 fn keep(text: &mut Vec<u8>, lacked_memory: &mut bool, bytes: &[u8]) -> io::Result<()>
     ensures kept { OnOk result (text.new.items ≡ text.old.items ++ bytes.now) }
     ensures sound { OnOk result (lacked_memory.new ≡ lacked_memory.old) }

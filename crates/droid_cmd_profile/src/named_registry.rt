@@ -1,4 +1,4 @@
-//! A registry, with the name by which it is reported.
+//! A registry, with the name by which it is reported: where it comes from, and the MD5 of its bytes.
 
 ghost use Rattle.std.specs.Prelude.{◌≡◌, IfOk, Some, option_map};
 ghost use Rattle.droid_cmd_profile.specs.NamedRegistries.{IsReadFrom, NamesRegistry, registry_line, registry_text};
@@ -13,7 +13,7 @@ use std::alloc::Global;
 use std::fmt;
 use std::fmt::{Display, Formatter, Write};
 
-/// Which registry it is.
+/// Which registry it is. Prints as its path, or words for the built-in one, and `, MD5 ` with 32 digits.
 #[derive(Clone, Copy)]
 pub struct RegistryName<'a> {
     /// The path of its file, or `None` for the built-in registry of everyday formats.
@@ -32,7 +32,8 @@ pub struct NamedRegistry<'a> {
 }
 
 impl<'a> NamedRegistry<'a> {
-    /// Reads a registry from the bytes of the file at this path, or from those of the built-in one.
+    /// Reads a registry from the bytes of the file at this path, or from those of the built-in one. Fails as
+    /// `Registry::parse` does. The path is only kept: the caller has read the bytes.
     pub fn parse(
         alloc: Global,
         path: Option<&'a str>,
@@ -61,7 +62,7 @@ impl Display for RegistryName<'_> {
     }
 }
 
-/// Where a registry comes from.
+/// Where a registry comes from. Prints the path of its file, or that it is the built-in one.
 #[derive(Clone, Copy)]
 struct Source<'a>(Option<&'a str>);
 
@@ -76,7 +77,7 @@ impl Display for Source<'_> {
     }
 }
 
-/// The line that says which registry identifies the files.
+/// The line on standard error that says which registry identifies the files.
 #[derive(Clone, Copy)]
 pub struct RegistryLine<'a>(pub RegistryName<'a>);
 

@@ -7,7 +7,7 @@ use droid_disk::FileId;
 use droid_tree::{FolderEntry, Tree, TreeFault};
 use std::alloc::Global;
 
-/// A tree without some of its files.
+/// A tree without some of its files: those that the command writes while it walks.
 #[derive(Drop)]
 pub struct OtherFiles<T> {
     /// The whole tree.
@@ -16,6 +16,7 @@ pub struct OtherFiles<T> {
     pub own: Vec<FileId>,
 }
 
+// The trait says what each call does. Only a listing differs; the other calls are those of the whole tree.
 impl<T: Tree> Tree for OtherFiles<T> {
     ghost observes = { λ old observed new.
         ObservesOthers T.observes old.own.items old.tree observed new.tree × (new.own ≡ old.own) };
@@ -42,14 +43,14 @@ impl<T: Tree> Tree for OtherFiles<T> {
     }
 }
 
-/// Removes the entries of these files.
+/// Removes the entries of these files from a listing, and leaves the others in their order.
 fn keep_others(entries: &mut Vec<FolderEntry>, own: &[FileId])
     ensures { entries.new.items ≡ filter (is_other own.now) entries.old.items }
 {
     entries.retain(|entry| is_other(own, entry));
 }
 
-/// Returns whether an entry is none of these files.
+/// Returns whether an entry is none of these files, so that it stays in the listing.
 #[tactic(auto, using(crate::proofs::OtherEntries::none_more, crate::proofs::OtherEntries::one_at, crate::proofs::OtherEntries::none_at_all))]
 fn is_other(own: &[FileId], entry: &FolderEntry) -> bool
     ensures { result ≡ is_other own.now entry.now }
@@ -62,7 +63,7 @@ fn is_other(own: &[FileId], entry: &FolderEntry) -> bool
     true
 }
 
-/// Returns whether an entry is this file.
+/// Returns whether an entry is this file, whatever its name: it has the same device and inode.
 fn is_one(file: FileId, entry: &FolderEntry) -> bool
     ensures { result ≡ is_one file entry.now }
 {

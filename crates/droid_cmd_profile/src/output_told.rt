@@ -7,7 +7,8 @@ use droid_disk::OutputFault;
 use droid_terminal::{About, Ending, faults, told_no_output};
 use std::fs::Files;
 
-/// Returns the ending where a file could not be created or replaced.
+/// Returns the ending where the file at this path could not be created or replaced. Looks at the path again, since the
+/// fault does not say why it was refused.
 pub fn told_output<'a, R: Files>(rt: &R, fault: OutputFault, path: &'a str) -> Ending<'a>
     ensures { TellsOutput fault path.now (told result) }
 {

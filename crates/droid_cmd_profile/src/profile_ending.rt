@@ -1,4 +1,4 @@
-//! How the profile of a folder ends, and what is told of it.
+//! How the command `profile` ends, and what is told of it.
 
 ghost use Rattle.std.specs.Prelude.{◌≡◌};
 ghost use Rattle.droid_cmd_profile.specs.ProfileEndings.{Tells, ending_of, is_written, lacking_memory, path_of};
@@ -37,7 +37,8 @@ pub enum ProfileEnding {
 }
 
 impl ProfileEnding {
-    /// Returns the ending by what the walk returned, and by the fault of the file for what was skipped.
+    /// Returns the ending by what the walk returned, and by the fault of the file for what was skipped. The walk
+    /// returns whether everything is in the profile; its fault comes first.
     pub(crate) fn of(ended: Result<bool, CsvFault>, unlisted: Option<SkippedFault>) -> ProfileEnding
         ensures { result ≡ ending_of ended unlisted }
     {
@@ -61,7 +62,7 @@ impl ProfileEnding {
         }
     }
 
-    /// Returns the ending after the page.
+    /// Returns the ending after the page, for a profile that was written: a fault of the page replaces it.
     pub(crate) fn with_page(self, page: Result<(), PageFault>) -> ProfileEnding
         ensures { result ≡ with_page self page }
     {
@@ -71,7 +72,7 @@ impl ProfileEnding {
         }
     }
 
-    /// Returns whether everything was written.
+    /// Returns whether everything was written that comes before the page, so that the files get their places.
     pub(crate) fn is_written(self) -> bool
         ensures { result ≡ is_written self }
     {
@@ -85,7 +86,8 @@ impl ProfileEnding {
             | ProfileEnding::NoPage(_) => false,
         }
     }
-    /// Returns the ending by the table, given the options of the command.
+    /// Returns the ending by the table of faults, given the options of the command, which name the paths. Looks at a
+    /// path again where the reason is not known.
     pub fn told<'a, R: Files + AllocGlobal>(self, rt: &R, options: ProfileOptions<'a>) -> Ending<'a>
         ensures { Tells self options.entry (told result) }
     {
@@ -110,7 +112,8 @@ impl ProfileEnding {
     }
 }
 
-/// Returns the ending where the walk ended early, or the profile could not be written.
+/// Returns the ending where the walk ended early, or the profile could not be written. It is about the folder, the CSV
+/// or the list of checksums, or about nothing where memory ran out.
 fn told_unprofiled<'a>(fault: CsvFault, options: ProfileOptions<'a>) -> Ending<'a>
     ensures { told result ≡ told_unprofiled fault options.entry }
 {
@@ -122,7 +125,7 @@ fn told_unprofiled<'a>(fault: CsvFault, options: ProfileOptions<'a>) -> Ending<'
     }
 }
 
-/// Returns the ending where what was skipped could not be written.
+/// Returns the ending where what was skipped could not be written, or there was no memory for one of its lines.
 fn told_unlisted<'a>(fault: SkippedFault, options: ProfileOptions<'a>) -> Ending<'a>
     ensures { told result ≡ told_unlisted fault options.entry }
 {
@@ -132,14 +135,14 @@ fn told_unlisted<'a>(fault: SkippedFault, options: ProfileOptions<'a>) -> Ending
     }
 }
 
-/// Returns the ending where a file could not be written.
+/// Returns the ending where this file could not be written to its end.
 fn told_unwritten<'a>(options: ProfileOptions<'a>, file: OutputFile) -> Ending<'a>
     ensures { told result ≡ told_unwritten options.entry file }
 {
     Ending::by(faults::UNWRITTEN, About::Path(path_of(options, file)))
 }
 
-/// Returns the path of a file that a profile writes.
+/// Returns the path of a file that a profile writes, as the options name it, or `standard output`.
 fn path_of<'a>(options: ProfileOptions<'a>, file: OutputFile) -> &'a str
     ensures { result.now ≡ path_of options.entry file }
 {

@@ -1,7 +1,8 @@
 //! The files that a profile writes: each is complete, or as it was before.
 //!
 //! Nothing here has a contract: files are up to the machine, and what is done to which is tested in
-//! `tests/program/folders` (`profile_output.py`, `output_calls.py`, `profile_arguments.py`).
+//! `tests/program/folders` (`profile_output.py`, `output_calls.py`; the page's file by `profile_report.py`). Each fault
+//! names its file, and may be that memory ran out.
 
 use crate::profile_ending::ProfileEnding;
 use droid_arguments::ProfileOptions;
@@ -35,7 +36,9 @@ pub(crate) struct OutputFiles<'a, R: Files> {
 }
 
 impl<'a, R: Files<File = File> + AllocGlobal> OutputFiles<'a, R> {
-    /// Checks that all files that are named can be created, and that no two are the same.
+    /// Checks that no two of the files that are named are the same, and then that each can be created. Fails with the
+    /// ending that names the first at fault, of two that are the same the second; nothing is left then. None of them is
+    /// there yet.
     pub fn create(
         rt: &'a R,
         options: ProfileOptions<'_>,
@@ -66,7 +69,8 @@ impl<'a, R: Files<File = File> + AllocGlobal> OutputFiles<'a, R> {
         })
     }
 
-    /// Creates them, and returns which they are.
+    /// Creates them under their unfinished names, and returns which files they are, so that a walk can leave them out.
+    /// If one can't be created, the caller gives all up.
     pub fn begin(&mut self, alloc: Global) -> Result<Vec<FileId>, ProfileEnding> {
         let mut own = Vec::new(alloc);
         begin(&mut self.csv, OutputFile::Csv, &mut own)?;
@@ -75,7 +79,9 @@ impl<'a, R: Files<File = File> + AllocGlobal> OutputFiles<'a, R> {
         Ok(own)
     }
 
-    /// Puts all in their places, the CSV last. If one can't be put there, those behind it are given up.
+    /// Puts all in their places, the CSV last. If one can't be put there, those behind it are given up; those before it
+    /// stay. So a new CSV is there only with the others: `test_profile_with_lists` of `commands_refused.py` in
+    /// `tests/memory` allows no other order.
     pub fn complete(self) -> Result<(), ProfileEnding> {
         let OutputFiles {
             csv,
@@ -107,8 +113,8 @@ impl<'a, R: Files<File = File> + AllocGlobal> OutputFiles<'a, R> {
     }
 }
 
-/// Checks that the file for the page can be created, if one is named, and that it is none of the others. It is created
-/// only after them, so that no walk meets it.
+/// Checks that the file for the page is none of the others, if one is named, and then that it can be created. It is
+/// created only when the page is written, after the walk, so that no walk meets it.
 pub(crate) fn create_page<'a, R: Files<File = File> + AllocGlobal>(
     rt: &'a R,
     options: ProfileOptions<'_>,
@@ -136,7 +142,7 @@ fn see_other<R: Files + AllocGlobal>(
     }
 }
 
-/// Checks that a file can be created, if one is named.
+/// Checks that a file can be created at this path, if one is named. `file` says which it is, for the fault.
 fn create<'a, R: Files<File = File> + AllocGlobal>(
     rt: &'a R,
     path: Option<&str>,
@@ -151,7 +157,7 @@ fn create<'a, R: Files<File = File> + AllocGlobal>(
     }
 }
 
-/// Creates a file, if there is one, and appends which it is.
+/// Creates a file, if there is one, and appends its device and inode to `own`. `file` says which it is, for the fault.
 fn begin<R: Files<File = File>>(
     output: &mut Option<Output<'_, R>>,
     file: OutputFile,
@@ -169,7 +175,7 @@ fn begin<R: Files<File = File>>(
     }
 }
 
-/// Puts a file in its place, if there is one.
+/// Puts a file in its place, if there is one. `file` says which it is, for the fault.
 fn complete<R: Files<File = File>>(
     output: Option<Output<'_, R>>,
     file: OutputFile,
@@ -183,7 +189,7 @@ fn complete<R: Files<File = File>>(
     }
 }
 
-/// Removes what was written of a file, if there is one.
+/// Removes what was written of a file, if there is one. An older file at its path stays.
 pub(crate) fn give_up<R: Files>(output: Option<Output<'_, R>>) {
     if let Some(output) = output {
         output.give_up();

@@ -11,7 +11,8 @@ use droid_terminal::{absolute_path, name_of};
 use std::fs::{File, Files};
 use std::time::Clock;
 
-/// Writes the page of the CSV that was kept, if a page is wanted and everything else was written.
+/// Writes the page of the CSV that was kept, if a page is wanted and everything else was written; otherwise removes the
+/// page's file. Returns the ending of the profile, or that the page alone is missing.
 pub(crate) fn add_page<R>(
     rt: &R,
     registry: RegistryName<'_>,
@@ -37,7 +38,7 @@ where
     }
 }
 
-/// Makes the page of a CSV, and writes it.
+/// Makes the page of a CSV, and writes it to its file. If there is no page, or it can't be written, removes the file.
 fn write_page_of<R>(
     rt: &R,
     registry: RegistryName<'_>,
@@ -58,7 +59,7 @@ where
 }
 
 /// Makes the page of a CSV. Its title is the folder's name; it says that it is made from the CSV's file, or from the
-/// folder if there is no such file.
+/// folder if there is no such file. Fails if memory runs out; `Refused` is possible for the types alone.
 fn page_of<R>(
     rt: &R,
     registry: RegistryName<'_>,

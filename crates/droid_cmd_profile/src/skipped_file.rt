@@ -1,4 +1,4 @@
-//! The CSV of what is skipped, written as it is reported.
+//! The CSV of what is skipped, written line by line as it is reported.
 
 ghost use Rattle.std.specs.Prelude.{◌≡◌, ◌<◌, ◌^◌, IfErr, None, OnErr, OnOk, length};
 ghost use Rattle.std.specs.Io.KnownBytes.{Appends};
@@ -32,7 +32,7 @@ pub struct SkippedFile<S> {
 }
 
 impl<S: SteadyWrite> SkippedFile<S> {
-    /// Begins the CSV: writes its header.
+    /// Begins the CSV: writes its header to this output. A fault is noted, as of any line.
     pub fn begin(alloc: Global, output: S) -> SkippedFile<S>
         ensures { GoesOn S.contents S.seen S.room (record { output = output; fault = None }) result header }
     {
@@ -44,7 +44,7 @@ impl<S: SteadyWrite> SkippedFile<S> {
         file
     }
 
-    /// Writes the line of an entry, unless there was a fault.
+    /// Writes the line of an entry, unless there was a fault: then nothing changes.
     #[tactic(auto, using(crate::proofs::SkippedLines::goes_from_some))]
     pub fn add(&mut self, alloc: Global, path: &[u8], why: Skipped)
         ensures { GoesOn S.contents S.seen S.room self.old self.new (entry_text path.now why) }
@@ -55,7 +55,8 @@ impl<S: SteadyWrite> SkippedFile<S> {
         }
     }
 
-    /// Writes a line, and notes if it could not be made or not be written.
+    /// Writes a line, given as bytes or that there was no memory for it, and notes if it could not be made or not be
+    /// written.
     fn add_line(&mut self, line: Result<Vec<u8>, AllocError>)
         ensures { (text : _) → IsLine line text → self.old.fault ≡ None
             → WritesLine S.contents S.seen S.room self.old self.new text }
@@ -66,7 +67,7 @@ impl<S: SteadyWrite> SkippedFile<S> {
         }
     }
 
-    /// Writes a line, and notes if it could not be written.
+    /// Writes these bytes of a line, and notes if not all could be written.
     fn put(&mut self, line: &[u8])
         ensures { self.old.fault ≡ None → WritesLine S.contents S.seen S.room self.old self.new line.now }
     {
@@ -77,7 +78,8 @@ impl<S: SteadyWrite> SkippedFile<S> {
     }
 }
 
-/// Writes a line. Interrupted writes are tried again, at most 64 times.
+/// Writes a line whole, or says how far it came. Interrupted writes are tried again, at most 64 times, by `write_all`
+/// of `droid_frame`.
 fn write_line<S: SteadyWrite>(writer: &mut S, line: &[u8]) -> Result<(), WriteFault>
     requires { length line.now < 2 ^ 64 }
     ensures ok { OnOk result (Appends (S.contents writer.old) (S.contents writer.new) line.now) }

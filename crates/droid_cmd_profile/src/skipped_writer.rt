@@ -1,4 +1,4 @@
-//! Writes what is skipped to a file as it is reported.
+//! A watcher that writes what is skipped to a file as it is reported.
 
 ghost use Rattle.droid_tree.specs.Heard.{Left};
 ghost use Rattle.droid_cmd_profile.specs.SkippedFiles.{Notes, NotesInSome};
@@ -19,6 +19,8 @@ pub struct SkippedWriter<W, S> {
     pub file: Option<SkippedFile<S>>,
 }
 
+// `Watcher` says when each is called. `skipped` writes a line too, and then passes the entry on: no clause needs that
+// order. The others only pass on what they get.
 impl<W: Watcher, S: SteadyWrite> Watcher for SkippedWriter<W, S> {
     ghost hears = { Notes S.contents S.seen S.room W.hears };
 
@@ -44,7 +46,7 @@ impl<W: Watcher, S: SteadyWrite> Watcher for SkippedWriter<W, S> {
     }
 }
 
-/// Writes the line of a skipped entry, if there is a file for it.
+/// Writes the line of a skipped entry, if there is a file for it. A fault is noted in the file.
 fn note<S: SteadyWrite>(alloc: Global, file: &mut Option<SkippedFile<S>>, path: &[u8], why: Skipped)
     ensures { NotesInSome S.contents S.seen S.room file.old (Left path.now why) file.new }
 {

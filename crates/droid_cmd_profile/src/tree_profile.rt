@@ -1,4 +1,4 @@
-//! The profile of a tree, with what was skipped.
+//! The profile of a tree, with what was skipped: over any tree and any writers, so that it can be proved.
 
 ghost use Rattle.std.specs.Prelude.{◌≡◌, ◌≤◌};
 ghost use Rattle.droid_cmd_profile.specs.ProfiledFolders.{ProfilesFolder, fault_in};
@@ -11,6 +11,8 @@ use droid_profile::{CsvRecipient, Options, Profiler, write_profile};
 use droid_tree::{Tree, Watcher};
 
 /// Profiles a tree: writes its records as CSV, the checksums of its files as a list, and the lines of what is skipped.
+/// Returns how that ended; a writer is left as far as it came. The limit that it requires is `MOST_SCANNED` of
+/// `walk_options.rt`.
 pub fn profile_tree<T: Tree, W: Watcher, S: SteadyWrite, O: SteadyWrite, M: SteadyWrite>(
     profiler: &mut Profiler<T, SkippedWriter<W, S>, CsvRecipient<'_, O, M>>,
     options: Options,

@@ -32,7 +32,7 @@ pub record IsConversionOf (quiet : Bool) (bytes : List ℕ) (it : Conversion) : 
   pub report : string_bytes it.report ≡ report_text quiet file taken (all_left_out file left) (digest_text it.csv.items)
   pub partial : it.is_partial ≡ is_partial file (all_left_out file left)
 
--- for proofs: what is said of a registry that is made
+-- for inner clauses and proofs: what is said of a registry that is made
 pub record IsDescribed (quiet : Bool) (file : FileRecord) (made : Converted) (it : Conversion) : Type 0 where
   pub csv : it.csv ≡ made.csv
   pub note : string_bytes it.note ≡ note_text file (digest_text made.csv.items)

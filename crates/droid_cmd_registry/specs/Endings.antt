@@ -46,7 +46,7 @@ unput_row unput.Refused = table.registry_refused
 unput_row unput.Unwritten = table.unwritten
 unput_row unput.Memory = table.memory
 
--- where the signature file could not be read
+-- the ending where the signature file could not be read
 abbrev pub told_unread : Unread → List ℕ → Told
 told_unread (unread.Unopened kinds.NotFound) file = by table.unopened_missing (of_path file)
 told_unread (unread.Unopened kinds.IsADirectory) file = by table.unopened_folder (of_path file)
@@ -55,7 +55,7 @@ told_unread unread.Failed file = by table.reading_failed (of_path file)
 told_unread unread.TooLong file = by table.long_signature_file (of_path file)
 told_unread unread.Memory file = by table.memory []
 
--- where a file is no signature file
+-- the ending where a file is no signature file
 abbrev pub told_of_file : FileFault → List ℕ → Told
 told_of_file files.Memory file = by table.memory []
 told_of_file (files.Document problem line) file = numbered (problem_row problem) (of_path file) line

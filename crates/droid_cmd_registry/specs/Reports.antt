@@ -44,7 +44,7 @@ taken_line taken =
     ++ (decimal taken.extensions
     ++ (codes " extensions, " ++ (decimal taken.priorities ++ (codes " priorities" ++ 10 ∷ []))))))))
 
--- a name and a number
+-- the line of a name and a number
 unfoldable pub count_line : List ℕ → ℕ → List ℕ
 count_line name count = name ++ (codes ": " ++ (decimal count ++ 10 ∷ []))
 
@@ -60,7 +60,7 @@ numbers_text file taken left digest =
     ++ (count_line (codes "left out") (length left)
     ++ (count_line (codes "unknown names") (length file.unknown) ++ digest_line digest)))
 
--- an element or an attribute
+-- the word for an element or an attribute
 abbrev pub part_text : UnknownPart → List ℕ
 part_text parts.Element = codes "element"
 part_text parts.Attribute = codes "attribute"
@@ -86,7 +86,7 @@ subject_by None id = codes "format " ++ decimal id
 abbrev pub subject_of : FormatRecord → List ℕ
 subject_of format = subject_by format.puid format.id
 
--- the same with what stands behind it, if there is a format
+-- how a format is named in a line, and what stands behind it; nothing if there is no format
 abbrev pub subject : Option FormatRecord → List ℕ
 subject (Some format) = subject_of format ++ codes ": "
 subject None = []

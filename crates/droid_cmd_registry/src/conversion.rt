@@ -1,4 +1,4 @@
-//! Making a registry, its note and its report from the bytes of a signature file.
+//! Makes a registry, its note and its report from the bytes of a signature file. Nothing is read or written.
 
 ghost use Rattle.std.specs.Prelude.{◌≡◌, IfOk, string_bytes};
 ghost use Rattle.droid_cmd_registry.specs.Conversions as spec;
@@ -25,7 +25,8 @@ pub struct Conversion {
     pub is_partial: bool,
 }
 
-/// Makes a registry of the bytes of a signature file. With `quiet` the report has the numbers alone.
+/// Makes a registry of the bytes of a signature file. With `quiet` the report has the numbers alone. The error is the
+/// ending of the command: the bytes are no signature file, the registry would be too long, or memory ran out.
 pub fn conversion_of(alloc: Global, quiet: bool, bytes: &[u8]) -> Result<Conversion, RegistryEnding>
     ensures { Converts quiet bytes.now result }
 {
@@ -44,7 +45,7 @@ pub fn conversion_of(alloc: Global, quiet: bool, bytes: &[u8]) -> Result<Convers
     }
 }
 
-/// Adds the note and the report of a registry.
+/// Adds the note and the report to a registry that was made of this file. Fails only if memory runs out, as all below.
 fn described(
     alloc: Global,
     quiet: bool,
@@ -72,7 +73,7 @@ fn described(
     })
 }
 
-/// Returns the MD5 of a registry file, in hexadecimal digits.
+/// Returns the MD5 of the bytes of a registry file, in 32 hexadecimal digits.
 fn digest_of(alloc: Global, csv: &[u8]) -> Result<String, AllocError>
     ensures { IfOk result (λ text. string_bytes text ≡ digest_text csv.now) }
 {
@@ -83,7 +84,7 @@ fn digest_of(alloc: Global, csv: &[u8]) -> Result<String, AllocError>
     Ok(text)
 }
 
-/// Returns the line of the note beside the registry.
+/// Returns the line of the note beside the registry, whose MD5 is `digest`.
 fn note_of(alloc: Global, file: &SignatureFile, digest: &str) -> Result<String, AllocError>
     ensures { IfOk result (λ note. string_bytes note ≡ note_text file.now digest.now) }
 {
@@ -92,7 +93,7 @@ fn note_of(alloc: Global, file: &SignatureFile, digest: &str) -> Result<String, 
     Ok(note)
 }
 
-/// Returns the report for standard error.
+/// Returns the report for standard error: on the registry that was `made`, all that was left out of it, and its MD5.
 fn report_of(
     alloc: Global,
     quiet: bool,
@@ -115,7 +116,8 @@ fn report_of(
     Ok(report)
 }
 
-/// Returns whether something of a signature file is left out, or has a name that is not known.
+/// Returns whether something of a signature file is left out, or has a name that is not known, listed or not. Then the
+/// command ends with status 5.
 fn is_partial(file: &SignatureFile, left_out: &[LeftOut]) -> bool
     ensures { result ≡ spec.is_partial file.now left_out.now }
 {

@@ -1,4 +1,4 @@
-//! The lines of what a registry does not have.
+//! The line of one thing that a registry does not have: of which format, what it is, and why.
 
 ghost use Rattle.std.specs.Prelude.{◌≡◌, Some, option_copied, option_map};
 ghost use Rattle.droid_cmd_registry.specs.Reports.{extension_by, extension_text, format_at, item_text, left_text};
@@ -11,10 +11,10 @@ use droid_terminal::Shown;
 use std::fmt;
 use std::fmt::{Display, Formatter, Write};
 
-/// Something that a registry does not have.
+/// Something that a registry does not have. Prints as a line: `left out: `, its format, what it is, and why.
 #[derive(Clone, Copy)]
 pub(crate) struct LeftOutLine<'a> {
-    /// The format that it belongs to.
+    /// The format that it belongs to, if there is one.
     pub format: Option<&'a FileFormat>,
     /// What it is, and why.
     pub it: LeftOut,
@@ -35,7 +35,7 @@ impl Display for LeftOutLine<'_> {
     }
 }
 
-/// Returns the format at a place of the file.
+/// Returns the format at a place of the file's formats; `None` if there is no place, or none of them is there.
 pub(crate) fn format_at(formats: &[FileFormat], place: Option<usize>) -> Option<&FileFormat>
     ensures { option_copied result ≡ format_at formats.now place }
 {
@@ -45,7 +45,7 @@ pub(crate) fn format_at(formats: &[FileFormat], place: Option<usize>) -> Option<
     }
 }
 
-/// The format that something belongs to, if there is one.
+/// The format that something belongs to. Prints how it is named, and `: `; nothing if there is no format.
 #[derive(Clone, Copy)]
 struct Subject<'a>(Option<&'a FileFormat>);
 
@@ -60,7 +60,7 @@ impl Display for Subject<'_> {
     }
 }
 
-/// A format by its PUID, or by its ID in the file.
+/// A format. Prints its PUID, or without one `format ` and its ID in the file.
 #[derive(Clone, Copy)]
 struct SubjectText<'a> {
     puid: Option<&'a str>,
@@ -93,7 +93,7 @@ fn subject_of(format: &FileFormat) -> SubjectText<'_>
     }
 }
 
-/// What it is, if it is not a whole format.
+/// What is left out of a format. Prints its kind, which one, and `: `; nothing for a whole format.
 #[derive(Clone, Copy)]
 struct ItemText<'a> {
     format: Option<&'a FileFormat>,
@@ -113,7 +113,7 @@ impl Display for ItemText<'_> {
     }
 }
 
-/// An extension.
+/// An extension. Prints `extension `, its text and `: `, or nothing if there is none.
 #[derive(Clone, Copy)]
 struct ExtensionText<'a>(Option<&'a str>);
 
@@ -128,7 +128,7 @@ impl Display for ExtensionText<'_> {
     }
 }
 
-/// Returns the extension at a place among a format's.
+/// Returns the extension at a place among a format's; `None` without a format, or if the place is behind the last.
 fn extension_at(format: Option<&FileFormat>, at: usize) -> Option<&str>
     ensures { extension_by (option_map (λ text. text.now) result) ≡ extension_text (option_copied format.entry) at }
 {

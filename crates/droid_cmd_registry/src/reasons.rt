@@ -1,4 +1,6 @@
-//! Sentences that say why something is not in a registry.
+//! Sentences that say why something is not in a registry. Their numbers are limits that the crates below keep: the
+//! prover compares only the words, with `specs/Reasons.antt`. `registry_limits.py` of `tests/program/signatures` has
+//! each sentence, and tests each number at its limit and one past it; docs/REGISTRY.md has the numbers too.
 
 ghost use Rattle.std.specs.Prelude.{◌≡◌};
 ghost use Rattle.droid_cmd_registry.specs.Reasons.{reason_text, why_text};
@@ -6,7 +8,7 @@ ghost use Rattle.droid_cmd_registry.specs.Reasons.{reason_text, why_text};
 use droid_signature::Why;
 use droid_signature_pattern::Reason;
 
-/// Says why something is not in the registry.
+/// Says why something is not in the registry, for the end of its line. A signature has a reason of its own.
 #[tactic(auto, unfolding(crate::specs::Reasons::why_text))]
 pub(crate) fn why_sentence(why: Why) -> &'static str
     ensures { result.now ≡ why_text why }
@@ -30,7 +32,7 @@ pub(crate) fn why_sentence(why: Why) -> &'static str
     }
 }
 
-/// Says why a registry cannot hold a signature.
+/// Says why a registry cannot hold a signature: what its pattern, offsets or positions have that a registry has not.
 #[tactic(auto, unfolding(crate::specs::Reasons::reason_text))]
 fn reason_sentence(reason: Reason) -> &'static str
     ensures { result.now ≡ reason_text reason }

@@ -1,4 +1,4 @@
-//! How the command ends.
+//! How the command `registry` ends, and what is told of it.
 
 ghost use Rattle.std.specs.Prelude.{◌≡◌, option_map};
 ghost use Rattle.droid_cmd_registry.specs.Endings.{problem_row, told_of_file, told_unread, unput_row, wrong_row};
@@ -21,7 +21,9 @@ pub enum RegistryEnding {
     NoFile(Unread),
     /// The file is no signature file. The fault is never [`FileFault::Memory`].
     NoSignatures(FileFault),
-    /// The registry would have more than 16,777,216 bytes.
+    /// The registry would have more than 16,777,216 bytes: `BYTES_LIMIT` of `droid_signature`, and of `droid_pronom`,
+    /// which reads it. The prover ties `short` of `specs/Conversions.antt` to it; the sentence of `LONG_REGISTRY` in
+    /// `droid_terminal`, the help (`conversion_help.rt` of `droid_arguments`) and docs/REGISTRY.md have it too.
     LongRegistry,
     /// Out of memory, before anything was written.
     NoMemory,
@@ -34,7 +36,7 @@ pub enum RegistryEnding {
 impl RegistryEnding {
     ghost use Rattle.droid_cmd_registry.specs.Endings.{told_by, unconverted};
 
-    /// Returns the ending where a file is no signature file.
+    /// Returns the ending where nothing was made of the bytes: they are no signature file, or memory ran out.
     pub(crate) fn unconverted(fault: FileFault) -> RegistryEnding
         ensures { result ≡ unconverted fault }
     {
@@ -46,7 +48,8 @@ impl RegistryEnding {
         }
     }
 
-    /// Returns the ending by the table, given the paths of the signature file and of the registry.
+    /// Returns the ending by the table of faults, given the paths of the signature file and of the registry, if that
+    /// has one. A fault of the note is about the file beside the registry, and says that the registry is complete.
     pub fn told<'a>(self, file: &'a str, output: Option<&'a str>) -> Ending<'a>
         ensures { told result ≡ told_by self file.now (output_name (option_map (λ text. text.now) output.entry)) }
     {
@@ -68,7 +71,8 @@ impl RegistryEnding {
     }
 }
 
-/// Returns the ending where the signature file could not be read.
+/// Returns the ending where the signature file at this path could not be read: that it is missing, a folder or too
+/// long, that a read failed or memory ran out, or the system's reason, whose words no clause holds.
 fn told_unread<'a>(why: Unread, file: &'a str) -> Ending<'a>
     ensures { told result ≡ told_unread why file.now }
 {
@@ -83,7 +87,8 @@ fn told_unread<'a>(why: Unread, file: &'a str) -> Ending<'a>
     }
 }
 
-/// Returns the ending where a file is no signature file.
+/// Returns the ending where the file at this path is no signature file. It names the line where it is no XML, or what
+/// is missing. `Memory` has its row, but never comes here: [`RegistryEnding::unconverted`] makes `NoMemory` of it.
 fn told_of_file<'a>(fault: FileFault, file: &'a str) -> Ending<'a>
     ensures { told result ≡ told_of_file fault file.now }
 {
@@ -97,7 +102,7 @@ fn told_of_file<'a>(fault: FileFault, file: &'a str) -> Ending<'a>
     }
 }
 
-/// Returns the row of the table for a problem of the document.
+/// Returns the row of the table for a problem of the XML document, whose name and sentence have its line.
 fn problem_row(problem: Problem) -> Row
     ensures { said result ≡ problem_row problem }
 {
@@ -110,7 +115,7 @@ fn problem_row(problem: Problem) -> Row
     }
 }
 
-/// Returns the row of the table for a document that is no signature file.
+/// Returns the row of the table for an XML document that is no signature file.
 fn wrong_row(wrong: Wrong) -> Row
     ensures { said result ≡ wrong_row wrong }
 {
@@ -121,7 +126,7 @@ fn wrong_row(wrong: Wrong) -> Row
     }
 }
 
-/// Returns the row of the table for a file that could not be written.
+/// Returns the row of the table for a registry or a note that could not be written.
 fn unput_row(why: Unput) -> Row
     ensures { said result ≡ unput_row why }
 {

@@ -1,4 +1,5 @@
-//! The report on a registry, for standard error.
+//! The report on a registry, for standard error, and the note beside it. What is left out has its line in
+//! `left_out_line.rt`.
 //!
 //! `output` of each `Display` is the exact text. Where a line is written for each item, the clause is the kit's
 //! `WritesOnOk`: after `Ok` exactly this text was written.
@@ -16,7 +17,7 @@ use droid_terminal::Shown;
 use std::fmt;
 use std::fmt::{Display, Formatter, Write};
 
-/// A signature file by its version and date.
+/// A signature file. Prints its version and its date of creation, as the file has them.
 #[derive(Clone, Copy)]
 struct Described<'a>(&'a SignatureFile);
 
@@ -31,7 +32,7 @@ impl Display for Described<'_> {
     }
 }
 
-/// The line beside a registry that says which it is.
+/// The line beside a registry that says which it is: the signature file's version and date, and the registry's MD5.
 #[derive(Clone, Copy)]
 pub(crate) struct NoteLine<'a> {
     pub file: &'a SignatureFile,
@@ -53,7 +54,7 @@ impl Display for NoteLine<'_> {
     }
 }
 
-/// The report on a registry.
+/// The report on a registry. Prints its numbers, and the lines of single things unless it is quiet.
 #[derive(Clone, Copy)]
 pub(crate) struct RegistryReport<'a> {
     /// Whether the numbers alone are printed.
@@ -85,7 +86,8 @@ impl Display for RegistryReport<'_> {
     }
 }
 
-/// How much a registry has, how much was left out, and its MD5.
+/// The numbers of a registry. Prints five lines: its signature file, how much it has, how much was left out, how many
+/// names that are not known are listed (at most 64, see [`SignatureFile::unknown`]), and its MD5.
 #[derive(Clone, Copy)]
 struct Numbers<'a> {
     file: &'a SignatureFile,
@@ -114,7 +116,7 @@ impl Display for Numbers<'_> {
     }
 }
 
-/// The line of a signature file.
+/// The line that says which signature file it is.
 #[derive(Clone, Copy)]
 struct FileLine<'a>(&'a SignatureFile);
 
@@ -127,7 +129,7 @@ impl Display for FileLine<'_> {
     }
 }
 
-/// How much a registry has.
+/// The line that says how much a registry has.
 #[derive(Clone, Copy)]
 struct TakenLine(Taken);
 
@@ -145,7 +147,7 @@ impl Display for TakenLine {
     }
 }
 
-/// A name and a number.
+/// A name and a number. Prints as a line, with `: ` between.
 #[derive(Clone, Copy)]
 struct CountLine {
     name: &'static str,
@@ -161,7 +163,7 @@ impl Display for CountLine {
     }
 }
 
-/// The MD5 of a registry.
+/// The line of a registry's MD5, which is given in hexadecimal digits.
 #[derive(Clone, Copy)]
 struct DigestLine<'a>(&'a str);
 
@@ -174,7 +176,7 @@ impl Display for DigestLine<'_> {
     }
 }
 
-/// The lines of single things, if they are printed.
+/// The lines of single things. Prints nothing if it is quiet.
 #[derive(Clone, Copy)]
 struct LinesUnlessQuiet<'a> {
     quiet: bool,
@@ -197,7 +199,8 @@ impl Display for LinesUnlessQuiet<'_> {
     }
 }
 
-/// The lines of single things.
+/// The lines of single things: the names that are not known, how often further ones stand in the file, and what was
+/// left out.
 #[derive(Clone, Copy)]
 struct Lines<'a> {
     file: &'a SignatureFile,
@@ -219,7 +222,7 @@ impl Display for Lines<'_> {
     }
 }
 
-/// The names that are not known.
+/// The names of a signature file that are not known. Prints a line for each.
 #[derive(Clone, Copy)]
 struct UnknownLines<'a>(&'a [UnknownName]);
 
@@ -231,7 +234,7 @@ impl Display for UnknownLines<'_> {
     }
 }
 
-/// Writes a line for each name that is not known.
+/// Writes a line for each of these names, in their order. Fails only if the formatter does.
 fn write_unknown<W: Write>(f: &mut Formatter<W>, names: &[UnknownName]) -> fmt::Result
     ensures { WritesOnOk W.write_str_gives f.old result (flat_map unknown_line names.now) f.new }
 {
@@ -241,7 +244,8 @@ fn write_unknown<W: Write>(f: &mut Formatter<W>, names: &[UnknownName]) -> fmt::
     Ok(())
 }
 
-/// Writes the line of a name that is not known.
+/// Writes the line of a name that is not known: whether it is an element's or an attribute's, the name with control
+/// characters shown (`Shown`), and how often it stands in the file.
 #[tactic(auto, unfolding(crate::specs::Reports::unknown_line))]
 fn write_name<W: Write>(f: &mut Formatter<W>, it: &UnknownName) -> fmt::Result
     ensures { WritesOnOk W.write_str_gives f.old result (unknown_line it.now) f.new }
@@ -251,7 +255,7 @@ fn write_name<W: Write>(f: &mut Formatter<W>, it: &UnknownName) -> fmt::Result
     writeln!(f, "unknown {part}: {name}: {} times", it.count)
 }
 
-/// Returns the word for an element or an attribute.
+/// Returns the word for what has a name that is not known: an element or an attribute.
 fn part_name(part: UnknownPart) -> &'static str
     ensures { result.now ≡ part_text part }
 {
@@ -261,7 +265,7 @@ fn part_name(part: UnknownPart) -> &'static str
     }
 }
 
-/// Names beyond those that are listed. Prints nothing for 0.
+/// How often names stand in the file beyond those that are listed. Prints nothing for 0.
 #[derive(Clone, Copy)]
 struct UnlistedLine(u64);
 
@@ -277,7 +281,7 @@ impl Display for UnlistedLine {
     }
 }
 
-/// What a registry does not have.
+/// What a registry does not have. Prints a line for each, with its format among `formats`.
 #[derive(Clone, Copy)]
 struct LeftOutLines<'a> {
     formats: &'a [FileFormat],
@@ -292,7 +296,7 @@ impl Display for LeftOutLines<'_> {
     }
 }
 
-/// Writes a line for each thing that was left out.
+/// Writes a line for each thing that was left out, in their order. Fails only if the formatter does.
 fn write_left_out<W: Write>(
     f: &mut Formatter<W>,
     formats: &[FileFormat],
@@ -306,7 +310,7 @@ fn write_left_out<W: Write>(
     Ok(())
 }
 
-/// Writes the line of one thing that was left out.
+/// Writes the line of one thing that was left out, whose format it finds by its place among `formats`.
 fn write_one<W: Write>(f: &mut Formatter<W>, formats: &[FileFormat], it: LeftOut) -> fmt::Result
     ensures { WritesOnOk W.write_str_gives f.old result (left_line formats.now it) f.new }
 {

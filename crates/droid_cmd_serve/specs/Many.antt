@@ -28,7 +28,7 @@ idle_named (Some seconds) = seconds * 1000
 abbrev pub rules_named : ServeOptions → Rules
 rules_named options = record { seats = options.seats; total = options.connections; idle = idle_named options.idle }
 
--- how the end of serving ends the program
+-- how the end of serving, without a journal, ends the program
 abbrev pub many_ending_of : Served → Ending
 many_ending_of ways.All = Done
 many_ending_of ways.Stopped = Socket

@@ -10,8 +10,10 @@ use std::{fs, io};
 /// The mode of a file that nobody but its owner can open.
 const PRIVATE: u32 = 0o600;
 
-/// Opens an empty file with the owner, the group and the mode of another one. One that is there is removed, unless
-/// another process has it open.
+/// Opens an empty file at `beside` with the owner, the group and the mode of the file at `like`. One that is there,
+/// left by a run that was killed, is removed, unless another process has it open. If it fails behind that, no file is
+/// left. To find out it opens the file as a journal is opened, which makes one where none is: so there always is one to
+/// remove. (`test_owner_and_mode` and `test_a_file_beside_it` of `journal_compact.py`.)
 pub(crate) fn open_beside<'b, R>(
     rt: &'b R,
     beside: &'b str,
@@ -27,6 +29,7 @@ where
     if let Err(error) = fs::remove_file(rt, beside) {
         return Err(error.kind());
     }
+    // Not before the file is removed: while it is open, no other process opens it so.
     drop(left);
     if let Err(error) = make_like(rt, beside, like) {
         let _ = fs::remove_file(rt, beside);
@@ -41,8 +44,9 @@ where
     }
 }
 
-/// Makes an empty file with the owner, the group and the mode of another one. Until it has them nobody else can open
-/// it.
+/// Makes an empty file at `path` with the owner, the group and the mode of the file at `like`. Until it has them nobody
+/// but its owner can open it: [`PRIVATE`]. Fails if a file is there. The owner is set first: under the mode alone
+/// somebody else's group might already read it.
 fn make_like<R: Files<File = File>>(rt: &R, path: &str, like: &str) -> io::Result<()> {
     let other = fs::symlink_metadata(rt, like)?;
     let file = OpenOptions::new()
@@ -61,7 +65,7 @@ fn has_one_owner(one: &Metadata, other: &Metadata) -> bool {
     one.uid() == other.uid() && one.gid() == other.gid()
 }
 
-/// Names why a file could not be opened, as the system names it.
+/// Returns the system's kind of error for why a file could not be opened: what the ending keeps and prints.
 fn kind_of(fault: DiskFault) -> ErrorKind {
     match fault {
         DiskFault::InUse => ErrorKind::ResourceBusy,

@@ -1,4 +1,4 @@
-//! A client that sends the requests of lines.
+//! The command `send` over any streams: a client that sends the requests of lines and prints the replies.
 
 ghost use Rattle.std.specs.Prelude.{◌≡◌, ◌<◌, ◌^◌, None, length};
 ghost use Rattle.droid_frame.specs.Seen.{IsSound, ReportsFault};
@@ -14,7 +14,9 @@ use droid_frame::{FrameFault, SteadyRead, SteadyWrite};
 use droid_lines::{SendFault, Tally, send};
 use std::alloc::Global;
 
-/// Sends the requests of lines under numbers from `first` on, and returns how the program ends.
+/// Sends the requests of `lines` as this client, under numbers from `first` on, and returns how the program ends.
+/// Frames go to `frames`; for each the reply is awaited from `replies`, and is printed to `text`. `2 ^ 63` is
+/// `NUMBER_LIMIT` of `droid_frame`, by which `send_command` checks `first`.
 pub fn send_lines<L: SteadyRead, R: SteadyRead, F: SteadyWrite, T: SteadyWrite>(
     alloc: Global,
     client: u32,
@@ -50,7 +52,7 @@ pub fn send_lines<L: SteadyRead, R: SteadyRead, F: SteadyWrite, T: SteadyWrite>(
     end_of(outcome)
 }
 
-/// Returns how the command ends after the sending.
+/// Returns how the command ends after the sending: by the number of bad lines, or by the fault that ended it early.
 fn end_of(outcome: Result<Tally, SendFault>) -> Ending
     ensures { result ≡ sending_end_of outcome }
 {

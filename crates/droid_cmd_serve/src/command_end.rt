@@ -1,4 +1,8 @@
 //! How a command ended, with what standard error says of it.
+//!
+//! The clauses hold the ending, and the cause where a command's contract needs it. That `used` is what the command
+//! used, no clause holds: `tests/program/registry.sh`, `wire/serve_command.py` and `journal/journal_files.py` compare
+//! the sentences.
 
 ghost use Rattle.std.specs.Prelude.{◌≡◌, None, Some};
 
@@ -32,7 +36,7 @@ pub enum Used<'a> {
 }
 
 impl<'a> Ended<'a> {
-    /// Ends a command that used this registry.
+    /// Ends a command that used this registry, with no cause of the system.
     pub(crate) fn over(ending: Ending, source: RegistrySource<'a>) -> Ended<'a>
         ensures ending { result.ending ≡ ending }
     {
@@ -43,7 +47,7 @@ impl<'a> Ended<'a> {
         }
     }
 
-    /// Ends a command whose registry file could not be opened.
+    /// Ends a command whose registry file could not be opened, for this cause of the system.
     pub(crate) fn unopened(source: RegistrySource<'a>, cause: ErrorKind) -> Ended<'a>
         ensures ending { result.ending ≡ Ending.Registry RegistryFault.Read }
     {
@@ -54,7 +58,7 @@ impl<'a> Ended<'a> {
         }
     }
 
-    /// Ends a command that used this port.
+    /// Ends a command that used this port, with no cause of the system: `Socket` then says that accepting failed.
     pub(crate) fn at(ending: Ending, port: u16) -> Ended<'a>
         ensures ending { result.ending ≡ ending }
         ensures cause { result.cause ≡ None }
@@ -66,7 +70,7 @@ impl<'a> Ended<'a> {
         }
     }
 
-    /// Ends a command by the journal at this path.
+    /// Ends a command by a fault of the journal at this path.
     pub(crate) fn by_journal(fault: JournalFault, path: &'a str) -> Ended<'a>
         ensures ending { result.ending ≡ Ending.Journal fault }
     {
@@ -77,7 +81,8 @@ impl<'a> Ended<'a> {
         }
     }
 
-    /// Ends a command that used this port, and the journal at this path.
+    /// Ends a command that used this port and the journal at this path: a fault of the journal names the journal, any
+    /// other the port. `run` has no port and passes 0.
     pub(crate) fn at_with_journal(ending: Ending, port: u16, path: &'a str) -> Ended<'a>
         ensures ending { result.ending ≡ ending }
         ensures cause { result.cause ≡ None }
@@ -93,7 +98,7 @@ impl<'a> Ended<'a> {
         }
     }
 
-    /// Ends a command that could not use this port.
+    /// Ends a command that could not listen on this port or connect to it, for this cause of the system.
     pub(crate) fn unconnected(port: u16, cause: ErrorKind) -> Ended<'a>
         ensures ending { result.ending ≡ Ending.Socket }
         ensures cause { result.cause ≡ Some cause }

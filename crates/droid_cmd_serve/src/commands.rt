@@ -1,6 +1,7 @@
-//! The commands of a service, over files, standard streams and ports of this machine. `run` and `serve` are proved to
-//! end as their calls say. What has no contract joins proved calls to the machine, and is tested by
-//! `tests/program/cases.sh` and `tests/program/wire`.
+//! The commands of a service, over files, standard streams and ports of this machine: each chooses the registry, and a
+//! service with a journal or without. `run` and `serve` are proved to end as their calls say. What has no contract
+//! joins proved calls to the machine, and is tested: `script` by `cases.sh` and `registry.sh` of `tests/program`, the
+//! others by `run_command.py`, `serve_command.py` and `send_faults.py` of `tests/program/wire`.
 
 ghost use Rattle.std.specs.Prelude.{◌<◌, ◌^◌};
 ghost use Rattle.droid_cmd_serve.specs.JournalEndings.{IsAnsweringEnd, ServingEndsAs};
@@ -27,7 +28,8 @@ use std::io::BufReader;
 use std::net::{Ipv4Addr, Net, TcpListener, TcpStream};
 use std::time::Clock;
 
-/// Runs a script from standard input to standard output, over a new service.
+/// Runs a script from standard input to standard output, over a new service with this registry. That the sample is used
+/// is not noted, unlike by `run`, `serve` and `compact`.
 pub fn script_command<'a, R: Files + Input + Print + Eprint + AllocGlobal>(
     rt: &R,
     source: RegistrySource<'a>,
@@ -48,7 +50,8 @@ pub fn script_command<'a, R: Files + Input + Print + Eprint + AllocGlobal>(
     Ended::over(ending, source)
 }
 
-/// Runs the script of standard input over a registry from a file.
+/// Runs the script of standard input over the registry in the file at a path. Notes on standard error if it has no
+/// formats.
 fn script_by_file<'a, R: Files + Input + Print + Eprint + AllocGlobal>(
     rt: &R,
     path: &'a str,
@@ -86,7 +89,7 @@ where
     }
 }
 
-/// Answers them by a new service.
+/// Answers the frames of standard input by a new service, which keeps everything in memory.
 fn run_in_memory<'a, R>(rt: &R, source: RegistrySource<'a>) -> Ended<'a>
 where
     R: Files + Input + Print + Eprint + AllocGlobal,
@@ -99,7 +102,7 @@ where
     }
 }
 
-/// Answers the frames of standard input on standard output.
+/// Answers the frames of standard input on standard output by this service, and returns how the program ends.
 fn answer_input<R: Input + Print + AllocGlobal>(rt: &R, service: Service) -> Ending
     ensures { IsAnsweringEnd result }
 {
@@ -126,7 +129,8 @@ where
     }
 }
 
-/// Notes on standard error that the sample registry is used.
+/// Notes on standard error that the sample registry is used, if it is. A note that cannot be printed changes nothing.
+/// `test_the_sample_is_noted` of `run_command.py` tests it.
 pub(crate) fn note_sample<R: Eprint>(rt: &R, source: RegistrySource<'_>) {
     if let RegistrySource::Sample = source {
         let _ = eprintln!(rt;
@@ -135,7 +139,9 @@ pub(crate) fn note_sample<R: Eprint>(rt: &R, source: RegistrySource<'_>) {
     }
 }
 
-/// Sends the requests of the lines of standard input to a port, as this client, under numbers from `first` on.
+/// Sends the requests of the lines of standard input to a port of this machine, as this client, under numbers from
+/// `first` on. If that is no number of a request, it does not connect, and ends as where the numbers are used up
+/// (`test_numbers_used_up` of `send_faults.py`). `test_no_listener` there tests a port that nobody listens on.
 pub fn send_command<'a, R>(rt: &R, port: u16, client: u32, first: u64) -> Ended<'a>
 where
     R: Input + Print + AllocGlobal + Net<Listener = TcpListener, Stream = TcpStream>,
@@ -150,7 +156,7 @@ where
 }
 
 /// Sends the lines of standard input over a connection, and prints the replies: all that `send_lines` promises, over
-/// these streams.
+/// these streams. Also ends by `Memory` if there is none for the buffer of the replies. `2 ^ 63` is `NUMBER_LIMIT`.
 fn send_over<R: Input + Print + AllocGlobal>(
     rt: &R,
     stream: &TcpStream,
@@ -160,7 +166,7 @@ fn send_over<R: Input + Print + AllocGlobal>(
     requires { first < 2 ^ 63 }
 {
     // A request's frame is two writes, and the client waits for the reply: the system should not delay the second
-    // write.
+    // write. For speed: a failure is ignored, and no test holds it.
     let _ = stream.set_nodelay(true);
     let Ok(replies) = BufReader::new(rt.alloc(), stream) else {
         return Ending::Send(SendFault::Memory);

@@ -26,7 +26,9 @@ use std::fs;
 use std::fs::{File, Files};
 
 /// A journal with more bytes is made smaller before it is served, if most of them are of files that have ended. No
-/// clause needs the number: a smaller journal has the same history.
+/// clause needs the number: a smaller journal has the same history. It is the 64 MiB in the help of `compact`
+/// (`compaction_help.rt` of droid_arguments), in docs/SERVICE.md, and `LARGE` of `journal_compact.py`; nothing but that
+/// test ties them.
 const LARGE: u64 = 67_108_864;
 
 /// How large a journal was and is.
@@ -36,7 +38,8 @@ struct Sizes {
     after: Size,
 }
 
-/// Makes the journal at a path smaller. Without `quiet` it prints the size before and after.
+/// Makes the journal at a path smaller: the command. Without `quiet` it prints the size before and after. The clause
+/// holds the ending alone: `journal_compact.py` compares what is printed.
 pub fn compact_command<'a, R>(
     rt: &'a R,
     source: RegistrySource<'a>,
@@ -59,8 +62,9 @@ where
     }
 }
 
-/// Makes the journal at a path smaller, if there is one. The check values show that its records are those that were
-/// written. Bytes behind them are cut off or reported as damage by opening the journal as `serve` does.
+/// Makes the journal at a path smaller, if there is one; none is made: opening it would make one, so the path is looked
+/// at before. The check values show that its records are those
+/// that were written. Bytes behind them are cut off or reported as damage by opening the journal as `serve` does.
 fn compact_journal<'a, R>(
     rt: &'a R,
     source: RegistrySource<'a>,
@@ -83,7 +87,9 @@ where
     }
 }
 
-/// Makes the journal at a path smaller; its registry has these bytes, and the new service has that registry.
+/// Makes the journal at a path smaller; its registry has these bytes, and the new service has that registry. First
+/// tries it without opening the journal. Only if that finds another header, or bytes behind the records, it opens the
+/// journal over the service, and then tries once more.
 fn compact_at<R>(
     rt: &R,
     path: &str,
@@ -112,8 +118,8 @@ where
     put_smaller(rt, path, journal.file(), registry)
 }
 
-/// Returns whether a journal has to be opened to report or mend what is wrong with it: its header is another one,
-/// perhaps not whole, or bytes stand behind its records, a torn end or damage.
+/// Returns whether a journal that could not be made smaller has to be opened to report or mend what is wrong with it:
+/// its header is another one, perhaps not whole, or bytes stand behind its records, a torn end or damage.
 fn needs_opening(fault: JournalFault) -> bool
     ensures { result ≡ needs_opening fault }
 {
@@ -124,7 +130,8 @@ fn needs_opening(fault: JournalFault) -> bool
 }
 
 /// Reads this registry, and opens the journal at a path over a new service with it. First makes a large journal
-/// smaller, if most of it is of files that have ended. If that fails, the journal is served as it is.
+/// smaller, if most of it is of files that have ended. If that fails, the journal is served as it is. Where its file
+/// was replaced, registry and journal are read a second time: the service went with the journal that was closed.
 pub(crate) fn light_journal_for<'a, R>(
     rt: &'a R,
     source: RegistrySource<'a>,
@@ -152,7 +159,9 @@ where
     journal_for(rt, source, path)
 }
 
-/// Makes a large journal smaller, if most of it is of files that have ended. Returns whether it is unchanged.
+/// Makes a large journal smaller, if most of it is of files that have ended. Returns whether the open journal still is
+/// the one at the path: if not, or if that is uncertain, it has to be opened anew. A journal that could not be made
+/// smaller is noted, one that could not be weighed is not; neither keeps anybody from being served.
 fn is_as_it_was<R>(rt: &R, path: &str, journal: &MachineJournal<'_, R>, registry: &[u8]) -> bool
 where
     R: Files<File = File> + Eprint + AllocGlobal,
@@ -176,7 +185,7 @@ where
     }
 }
 
-/// Returns whether a file is large.
+/// Returns whether the file at a path has more than [`LARGE`] bytes. One that cannot be looked at counts as small.
 fn is_large<R: Files>(rt: &R, path: &str) -> bool {
     match fs::symlink_metadata(rt, path) {
         Ok(metadata) => metadata.len() > LARGE,
@@ -184,8 +193,10 @@ fn is_large<R: Files>(rt: &R, path: &str) -> bool {
     }
 }
 
-/// Writes the smaller journal beside an open file, and gives it the name of that file. If that fails, no other file is
-/// left.
+/// Writes the smaller journal beside the open file of this path, as `PATH.new`, and gives it the name of that file.
+/// Returns both sizes. If it fails, no other file is left: `PATH.new` is removed, unless it got the name already. The
+/// suffix `.new` is in `note_as_it_was`, `told_journal.rt` and the help of `compact` too; `journal_compact.py` and
+/// `journal_calls.py` hold it.
 fn put_smaller<R>(
     rt: &R,
     path: &str,
@@ -221,7 +232,7 @@ where
     }
 }
 
-/// Prints how large a journal was and is.
+/// Prints on standard error how many records and bytes a journal had and has.
 fn note_sizes<R: Eprint>(rt: &R, path: &str, sizes: Sizes) {
     let Sizes { before, after } = sizes;
     let _ = eprintln!(rt;
@@ -230,7 +241,7 @@ fn note_sizes<R: Eprint>(rt: &R, path: &str, sizes: Sizes) {
     );
 }
 
-/// Prints that a journal could not be made smaller.
+/// Prints on standard error that a journal could not be made smaller and is served all the same.
 fn note_as_it_was<R: Eprint>(rt: &R, path: &str) {
     let _ = eprintln!(rt;
         "journal: {path} could not be made smaller: has the disk room for {path}.new? It is served all the same"

@@ -1,4 +1,4 @@
-//! How the program ends.
+//! How a command of a service ends: all forms, before they get their row in the table of faults (`told.rt`).
 
 ghost use Rattle.std.specs.Prelude.{◌≡◌};
 ghost use Rattle.droid_cmd_serve.specs.Endings.{after_lines};
@@ -33,7 +33,7 @@ pub enum Ending {
     BadLine,
 }
 
-/// Returns how the program ends after all lines were handled.
+/// Returns how the program ends after all lines were handled: `BadLine` if any was bad. `script` and `send` end so.
 pub fn after_lines(tally: Tally) -> Ending
     ensures { result ≡ after_lines tally }
 {

@@ -1,4 +1,4 @@
-//! A fresh service, whose registry is read first.
+//! Makes a fresh service: empty, with the program's limits and a registry that is read first.
 
 ghost use Rattle.std.specs.Prelude.{◌≡◌, IfErr, IfOk, IsErrOf};
 ghost use Rattle.droid_frame.specs.Seen.{IsSound, ReportsFault};
@@ -10,7 +10,9 @@ use droid_frame::SteadyRead;
 use droid_pronom::{Registry, RegistryFault};
 use std::alloc::Global;
 
-/// The limits of the program's service.
+/// The limits of the program's service: `program_limits` of `specs/Endings.antt`, which the prover ties. The header of
+/// a journal has the same three numbers (`header.rt`, `specs/Journals.antt`), and no clause ties those to these.
+/// docs/SERVICE.md has them too, and 64 profiles the help of `submit` and a sentence of `droid_terminal` (`faults.rt`).
 pub const LIMITS: Limits = Limits {
     profiles: 64,
     nodes: 100_000,
@@ -18,7 +20,8 @@ pub const LIMITS: Limits = Limits {
 };
 
 /// Reads a registry file, and makes an empty service that identifies files by it and has the program's limits. Sets
-/// `formats` to the number of formats that the registry has, once it was read.
+/// `formats` to the number of formats that the registry has, once it was read: no clause holds it, since it is only
+/// noted.
 pub fn fresh_service<F: SteadyRead>(
     alloc: Global,
     file: &mut F,
@@ -40,7 +43,8 @@ pub fn fresh_service<F: SteadyRead>(
     }
 }
 
-/// Makes an empty service that identifies files by this registry and has the program's limits.
+/// Makes an empty service that identifies files by this registry and has the program's limits. If that fails, the
+/// ending is `NoService`.
 pub(crate) fn service_with(alloc: Global, registry: Registry) -> Result<Service, Ending>
     ensures made { IfOk result (IsMadeWith registry) }
     ensures not_made { IfErr result IsNoService }

@@ -1,4 +1,8 @@
-//! The header of the journal of the program's service.
+//! The header of the journal of the program's service: version 4 for new files, 3 or 4 as a file has it.
+//!
+//! It has the limits of the service (`LIMITS` of `fresh.rt`), the MD5 of the registry's bytes, and 16 random bytes.
+//! docs/FORMATS.md has both forms. In clauses 4096 is the most bytes of a header that `droid_journal` takes, and 4080
+//! that without the random bytes.
 
 ghost use Rattle.std.specs.Prelude.{◌≡◌, ◌≤◌, ℕ, List, IfErr, IfOk, IsTrue, length, take};
 ghost use Rattle.std.specs.Str.{bytes_eq};
@@ -12,7 +16,7 @@ use droid_journal::{Fault, LogFile, checked, header_for};
 use md5::{Digest, Md5};
 use std::alloc::{AllocError, Global};
 
-/// How many bytes the first line of a journal has.
+/// How many bytes the first line of a journal has, of version 3 and of 4. The prover ties it to the lines.
 const LINE: usize = 21;
 
 /// The first line of a journal.
@@ -27,7 +31,7 @@ droid_desk journal 3
 64 profiles, 100000 nodes, 64 unfinished files
 ";
 
-/// Room for further limits.
+/// Room for further limits, all zero. With the line of 21 bytes, 12 bytes of limits and 16 of MD5 the text has 80.
 const NO_LIMITS: [u8; 31] = [0; 31];
 
 /// Makes the header that a journal of the registry with these bytes has in this file: in the form of version 3 if the
@@ -57,7 +61,7 @@ pub(crate) fn header_in<F: LogFile>(
     header_present(alloc, file, registry, random)
 }
 
-/// Makes the header of a new journal of the registry with these bytes.
+/// Makes the header of a new journal, of version 4, of the registry with these bytes. Fails only if memory runs out.
 pub(crate) fn new_header(
     alloc: Global,
     registry: &[u8],
@@ -71,7 +75,7 @@ pub(crate) fn new_header(
     Ok(whole)
 }
 
-/// Returns whether a file begins with the first line of version 3.
+/// Returns whether a file begins with the first line of version 3. An empty or shorter file does not.
 fn is_before<F: LogFile>(file: &F) -> Result<bool, Fault>
     requires found { F.is_found file.now }
     ensures line { (s : List ℕ) → F.has file.now s
@@ -93,7 +97,8 @@ fn is_first_line_before(line: &[u8]) -> bool
     line == FIRST_LINE_BEFORE.as_bytes()
 }
 
-/// Makes a header of version 3, as a journal of the registry with these bytes has it in this file.
+/// Makes the header of version 3 that a journal of the registry with these bytes has in this file. Its text is followed
+/// by the random bytes, and there is no check value.
 fn header_before<F: LogFile>(
     alloc: Global,
     file: &F,
@@ -113,7 +118,8 @@ fn header_before<F: LogFile>(
     }
 }
 
-/// Makes a header of version 4, as a journal of the registry with these bytes has it in this file.
+/// Makes the header of version 4 that a journal of the registry with these bytes has in this file, or is to have in a
+/// new one: text, random bytes and check value.
 fn header_present<F: LogFile>(
     alloc: Global,
     file: &F,
@@ -135,8 +141,10 @@ fn header_present<F: LogFile>(
     Ok(header)
 }
 
-/// Spells the fixed part of a journal's header: its first line, the limits of the service, and the MD5 of the
-/// registry's bytes.
+/// Spells the fixed part of a journal's header: its first line, the limits of the service in four bytes each, and the
+/// MD5 of the registry's bytes. Fails only if memory runs out, as the next one. The three numbers are those of
+/// `LIMITS`, profiles, nodes and unfinished files; the clause ties them to `specs/Journals.antt`, and nothing to
+/// `LIMITS`.
 fn header_text(alloc: Global, registry: &[u8]) -> Result<Vec<u8>, AllocError>
     ensures text { IfOk result (λ text. text.items ≡ header_text registry.now) }
     ensures size { IfOk result (λ text. length text.items ≡ 80) }
@@ -162,7 +170,7 @@ fn header_text_before(alloc: Global, registry: &[u8]) -> Result<Vec<u8>, AllocEr
     Ok(text)
 }
 
-/// Computes the MD5 (RFC 1321) of these bytes.
+/// Computes the MD5 (RFC 1321) of a registry's bytes.
 fn digest_of(bytes: &[u8]) -> [u8; 16]
     ensures { result ≡ md5 bytes.now }
 {

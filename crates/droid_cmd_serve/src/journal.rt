@@ -1,4 +1,4 @@
-//! The journal of the program's service.
+//! Opens the journal of the program's service: one as it was written, or one that was made small.
 
 ghost use Rattle.std.specs.Prelude.{◌≡◌, ◌⊎◌, ◌≤◌, ℕ, List, [], None, IfOk, IsErrOf, length};
 ghost use Rattle.droid_cmd_serve.specs.Journals.{IsDamaged, IsHeaderOf, IsOpened, IsRefuted, IsSettingFor};
@@ -20,14 +20,17 @@ use droid_wire::{ServiceJournal, Unopened};
 use std::alloc::Global;
 use std::num::NonZeroUsize;
 
-/// How many replies a service caches, if it is made from a journal that was made small.
+/// How many replies a service caches, if it is made from a journal that was made small: as many as any other (`CACHED`
+/// of `droid_core`). No clause needs the number, and no test holds it here: `test_a_repeat_that_is_no_longer_cached` of
+/// `journal_files.py` is about a journal as it was written.
 const CACHED: usize = 256;
 
 /// Makes a service from the records of a journal, whose header has the MD5 of these bytes of a registry. `service` has
 /// that registry, and has accepted nothing yet. An empty file gets a header with the bytes of `random`. Opens a journal
 /// that was made small, and one of version 3, too.
 ///
-/// Nothing is written or cut off before the whole file was read and found right.
+/// Nothing is written or cut off before the whole file was read and found right. A record that no service answers so is
+/// taken for one of a journal that was made small: only then the file is read as such a one.
 pub fn open_journal<F: LogFile + Drop>(
     alloc: Global,
     file: F,
@@ -82,8 +85,9 @@ pub fn open_journal<F: LogFile + Drop>(
     }
 }
 
-/// Makes a service from the records of a journal that was made small. If it was not, the record with this number is at
-/// fault.
+/// Makes a service from the records of a journal that was made small, whose finished files have no bytes. `header` is
+/// the one that its file has, of the registry with these bytes. If it was not made small, the record with this number,
+/// which [`open_journal`] met, is at fault. 4096 is the most bytes of a header (`header.rt`).
 fn open_small<F: LogFile + Drop>(
     alloc: Global,
     file: F,

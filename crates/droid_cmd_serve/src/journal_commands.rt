@@ -34,7 +34,8 @@ use std::net::Net;
 use std::time::Clock;
 use std::{fs, io};
 
-/// The most bytes of a registry file.
+/// The most bytes of a registry file: 16 MiB, as `BYTES_LIMIT` of `registry.rt` and of `droid_pronom`. With fewer, a
+/// registry that is allowed would be called too long: no clause of this crate holds that.
 const REGISTRY_LIMIT: usize = 16_777_216;
 
 /// The device that random bytes are read from.
@@ -43,7 +44,8 @@ const RANDOM: &str = "/dev/urandom";
 /// A service with a journal in a file of this machine.
 pub(crate) type MachineJournal<'a, R> = ServiceJournal<DiskLog<FileDrive<'a, R>>>;
 
-/// Answers the frames of standard input on standard output, by a service with a journal.
+/// Answers the frames of standard input on standard output, by a service with the journal at a path. That the last mark
+/// cannot be written changes no ending.
 pub(crate) fn run_journal_command<'a, R>(
     rt: &'a R,
     source: RegistrySource<'a>,
@@ -69,7 +71,7 @@ where
     Ended::at_with_journal(ending, 0, path)
 }
 
-/// Serves connections to a port, by a service with a journal.
+/// Serves connections to a port, as the options say, by a service with the journal at a path.
 pub(crate) fn serve_journal_command<'a, R>(
     rt: &'a R,
     source: RegistrySource<'a>,
@@ -85,7 +87,7 @@ where
     serve_by(rt, source, port, rules, verbosity_of(options), path)
 }
 
-/// Opens a journal, and serves connections to a port by these rules.
+/// Opens the journal at a path, made smaller first if it is worth it, and serves connections to a port by these rules.
 fn serve_by<'a, R>(
     rt: &'a R,
     source: RegistrySource<'a>,
@@ -105,7 +107,10 @@ where
     }
 }
 
-/// Listens on a port, prints so, and serves connections in turns.
+/// Listens on a port, prints `listening`, and serves connections in turns by a service with this open journal. Requests
+/// that come soon after each other share a sync, which no clause holds (`shared_syncs.py`). That the last mark cannot
+/// be written changes no ending. A port that cannot be used leaves the journal as it was: `test_a_port_in_use` of
+/// `journal_operation.py`.
 fn serve_port<'a, R>(
     rt: &'a R,
     journal: MachineJournal<'a, R>,
@@ -136,7 +141,7 @@ where
     Ended::at_with_journal(ending, port, path)
 }
 
-/// Reads this registry, and opens the journal at a path over a new service with it.
+/// Reads this registry, and opens the journal at a path over a new service with it. The error is how the command ends.
 pub(crate) fn journal_for<'a, R>(
     rt: &'a R,
     source: RegistrySource<'a>,
@@ -152,7 +157,8 @@ where
     }
 }
 
-/// Reads this registry, and makes a new service with it. Returns the registry's bytes too.
+/// Reads this registry, and makes a new service with it. Returns the registry's bytes too: a journal's header has their
+/// MD5. Notes on standard error if a registry file has no formats.
 pub(crate) fn registry_and_service<'a, R>(
     rt: &'a R,
     source: RegistrySource<'a>,
@@ -177,7 +183,8 @@ where
     Ok((registry, service))
 }
 
-/// Opens the journal at a path over a new service with the registry that has these bytes.
+/// Opens the journal at a path over a new service with the registry that has these bytes. The error is how the command
+/// ends.
 pub(crate) fn journal_over<'a, R>(
     rt: &'a R,
     path: &'a str,
@@ -194,7 +201,7 @@ where
     }
 }
 
-/// Opens the journal at a path, and says why it could not.
+/// Opens the journal at a path, as above, or returns the fault of the journal.
 fn journal_at<'a, R>(
     rt: &'a R,
     path: &'a str,
@@ -210,7 +217,8 @@ where
     }
 }
 
-/// Opens the file at a path, and makes it if it is not there.
+/// Opens the file at a path, and makes it if it is not there. No other process can then open it so
+/// (`test_two_processes` of `journal_files.py`).
 pub(crate) fn file_at<'a, R>(
     rt: &'a R,
     path: &'a str,
@@ -224,7 +232,8 @@ where
     }
 }
 
-/// Opens the journal in a file over a new service with the registry that has these bytes.
+/// Opens the journal in an open file over a new service with the registry that has these bytes. An empty file becomes
+/// one. Marks the end of what is on the disk.
 pub(crate) fn journal_in<'a, R>(
     rt: &'a R,
     file: DiskLog<FileDrive<'a, R>>,
@@ -249,7 +258,9 @@ where
     }
 }
 
-/// Reads 16 random bytes of the system, for the header of a new journal. No clause needs them to be random.
+/// Reads 16 random bytes of the system, for the header of a new journal. No clause needs them to be random: a client
+/// that cannot know them cannot send bytes that look like records of this file. Where reading fails or gives fewer, the
+/// error is `UnexpectedEof`. `test_headers_end_differently` of `journal_files.py` tests that headers differ.
 pub(crate) fn random_bytes<R: Files>(rt: &R) -> Result<[u8; 16], ErrorKind> {
     let mut bytes = [0u8; 16];
     let file = match fs::open(rt, RANDOM) {
@@ -265,7 +276,8 @@ pub(crate) fn random_bytes<R: Files>(rt: &R) -> Result<[u8; 16], ErrorKind> {
     }
 }
 
-/// Reads the bytes of this registry.
+/// Reads the bytes of this registry, of which a journal keeps the MD5. `registry_bytes` of `registry.rt` reads them for
+/// commands without a service; this one has the clause that commands with a journal need (`IsUnopened`).
 fn registry_bytes<'a, R: Files + AllocGlobal>(
     rt: &R,
     source: RegistrySource<'a>,
@@ -289,7 +301,8 @@ fn registry_bytes<'a, R: Files + AllocGlobal>(
     }
 }
 
-/// Reads all bytes of a registry.
+/// Reads all bytes of a registry, or returns its fault: more than [`REGISTRY_LIMIT`], unread, or no memory. No clause
+/// holds which.
 fn all_of<F: SteadyRead>(alloc: Global, file: &mut F) -> Result<Vec<u8>, RegistryFault>
     ensures { IfOk result (λ bytes. IfSome (F.remaining file.old) (λ all. bytes.items ≡ all)) }
 {

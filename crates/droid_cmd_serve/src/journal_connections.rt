@@ -1,4 +1,4 @@
-//! Connections and streams, served by a service with a journal.
+//! Connections and streams, served by a service with a journal, and how the end of either ends the program.
 
 ghost use Rattle.std.specs.Prelude.{◌≡◌};
 ghost use Rattle.droid_cmd_serve.specs.JournalEndings.{EndsAnsweringJournal, EndsServingJournal, journal_ending_of};
@@ -41,7 +41,8 @@ pub fn answer_with_journal<R: SteadyRead, W: SteadyWrite, F: LogFile + Drop>(
     stream_end_of(served, pipe.departure, handler.fault)
 }
 
-/// Maps the end of serving to the end of the program.
+/// Maps the end of serving connections to the end of the program. `fault` is why the journal could not settle, if it
+/// could not.
 fn end_of(served: Served, fault: Option<Fault>) -> Ending
     ensures { result ≡ journal_ending_of served fault }
 {
@@ -53,7 +54,8 @@ fn end_of(served: Served, fault: Option<Fault>) -> Ending
     }
 }
 
-/// Maps the end of answering a stream, with or without a journal, to the end of the program.
+/// Maps the end of answering a stream, with or without a journal, to the end of the program. `departure` is why the
+/// stream, which is the one connection, was closed; `fault` is why the journal could not settle.
 pub(crate) fn stream_end_of(
     served: Served,
     departure: Option<Departure>,
@@ -69,7 +71,8 @@ pub(crate) fn stream_end_of(
     }
 }
 
-/// Maps the reason for closing its one connection to the end of the program.
+/// Maps the reason for closing a stream to the end of the program: done at its end or after enough frames, otherwise
+/// the fault of the frame or of the writing.
 fn left_end(departure: Option<Departure>) -> Ending
     ensures { result ≡ left_ending_of departure }
 {
@@ -83,7 +86,8 @@ fn left_end(departure: Option<Departure>) -> Ending
     }
 }
 
-/// Maps the fault of a journal that could not settle to the end of the program.
+/// Maps the fault of a journal that could not settle to the end of the program. One that is not known counts as a fault
+/// of writing.
 fn unsettled_end(fault: Option<Fault>) -> Ending
     ensures { result ≡ unsettled_ending fault }
 {

@@ -1,4 +1,4 @@
-//! Why a journal ends the program.
+//! Why a journal ends the program, by the faults of its file, of its opening and of making it smaller.
 
 ghost use Rattle.std.specs.Prelude.{◌≡◌};
 ghost use Rattle.droid_cmd_serve.specs.JournalFaults.{ComesOfShortening, of_disk, of_rewriting};
@@ -25,7 +25,7 @@ pub enum JournalFault {
 }
 
 impl JournalFault {
-    /// Says why a journal's file could not be opened.
+    /// Returns the fault for a journal's file that could not be opened.
     pub(crate) fn of_disk(fault: DiskFault) -> JournalFault
         ensures { result ≡ of_disk fault }
     {
@@ -36,7 +36,8 @@ impl JournalFault {
         }
     }
 
-    /// Says why a journal could not be made smaller. A fault of writing is one of the new file alone.
+    /// Returns the fault for a journal that could not be made smaller. A fault of writing is one of the new file alone,
+    /// and bytes behind the records are reported as damage.
     pub(crate) fn of_rewriting(fault: RewriteFault) -> JournalFault
         ensures is { result ≡ of_rewriting fault }
         ensures comes { ComesOfShortening result }

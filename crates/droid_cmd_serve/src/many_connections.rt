@@ -1,4 +1,4 @@
-//! `serve` by a service that keeps everything in memory.
+//! `serve` by a service that keeps everything in memory, and what its options become: rules and verbosity.
 
 ghost use Rattle.std.specs.Prelude.{◌≡◌, true, false};
 ghost use Rattle.droid_cmd_serve.specs.Fresh.{IsMade};
@@ -20,7 +20,7 @@ use std::fs::Files;
 use std::net::Net;
 use std::time::Clock;
 
-/// How many milliseconds a second has.
+/// How many milliseconds a second has: `idle_named` of `specs/Many.antt` has the same.
 const SECOND: u64 = 1_000;
 
 /// Serves connections to a port over one new service, which keeps everything in memory.
@@ -41,7 +41,8 @@ where
     }
 }
 
-/// Listens on a port, prints `listening`, and serves connections in turns.
+/// Listens on a port, prints `listening`, which tells a script that it can connect, and serves connections in turns by
+/// this service. Without a journal there are no syncs to share.
 fn serve_port<'a, R>(
     rt: &R,
     service: Service,
@@ -65,7 +66,7 @@ where
     Ended::at(ending, port)
 }
 
-/// Returns what is printed on standard error about connections.
+/// Returns how much is printed on standard error about connections, by --verbose. The journal's `serve` asks it too.
 pub(crate) fn verbosity_of(options: ServeOptions) -> Verbosity
     ensures verbose { options.verbose ≡ true → result ≡ Verbosity.Verbose }
     ensures quiet { options.verbose ≡ false → result ≡ Verbosity.Quiet }
@@ -95,7 +96,8 @@ pub fn serve_connections<C: Connections>(
     end_of(served)
 }
 
-/// Returns the rules that the options name.
+/// Returns the rules that the options name: how many connections at once and in all, and how long one may be idle. The
+/// options have the defaults already.
 pub(crate) fn rules_of(options: ServeOptions) -> Rules
     ensures { result ≡ rules_named options }
 {
@@ -110,7 +112,7 @@ pub(crate) fn rules_of(options: ServeOptions) -> Rules
     }
 }
 
-/// Returns a time in milliseconds. Without a limit it is the longest.
+/// Returns an idle limit in milliseconds. Without one it is 2^64 - 1, which no connection reaches.
 fn idle_of(seconds: Option<u32>) -> u64
     ensures { result ≡ idle_named seconds }
 {
@@ -120,7 +122,7 @@ fn idle_of(seconds: Option<u32>) -> u64
     }
 }
 
-/// Maps the end of serving to the end of the program.
+/// Maps the end of serving, without a journal, to the end of the program.
 fn end_of(served: Served) -> Ending
     ensures { result ≡ many_ending_of served }
 {

@@ -1,4 +1,4 @@
-//! The registry that a command uses: the sample, the built-in one, or a file.
+//! Reads the registry that a command uses, parsed or as bytes: the sample, the built-in one, or a file.
 
 ghost use Rattle.std.specs.Prelude.{◌≡◌, IfErr, IfOk};
 ghost use Rattle.droid_cmd_serve.specs.Fresh.{IsMade, IsUnmade};
@@ -15,10 +15,13 @@ use std::fs;
 use std::fs::{Files, OpenFile};
 use std::io::ErrorKind;
 
-/// The most bytes that a registry file may have.
+/// The most bytes that a registry file may have: as `BYTES_LIMIT` of `droid_pronom`, which judges them after that. No
+/// clause of this crate ties them. `REGISTRY_LIMIT` of `journal_commands.rt`, docs/REGISTRY.md and the sentence of
+/// `TooLong` in `droid_terminal` have it too. `registry.sh` tests that of `droid_pronom` alone, through `script`.
 const BYTES_LIMIT: usize = 16_777_216;
 
-/// Makes an empty service that identifies files by this registry.
+/// Makes an empty service that identifies files by this registry, for a command without a journal. The error is how the
+/// command ends.
 pub(crate) fn service_for<'a, R: Files + Eprint + AllocGlobal>(
     rt: &R,
     source: RegistrySource<'a>,
@@ -33,7 +36,7 @@ pub(crate) fn service_for<'a, R: Files + Eprint + AllocGlobal>(
     }
 }
 
-/// Reads this registry. A registry file without formats is noted on standard error.
+/// Reads and parses this registry. A registry file without formats is noted on standard error.
 fn registry_for<'a, R: Files + Eprint + AllocGlobal>(
     rt: &R,
     source: RegistrySource<'a>,
@@ -51,7 +54,7 @@ fn registry_for<'a, R: Files + Eprint + AllocGlobal>(
     }
 }
 
-/// Reads the registry from a file, or says why the command ends without it.
+/// Reads and parses the registry in the file at a path, or returns how the command ends without it.
 fn registry_by_file<'a, R: Files + Eprint + AllocGlobal>(
     rt: &R,
     path: &'a str,
@@ -72,7 +75,7 @@ fn registry_by_file<'a, R: Files + Eprint + AllocGlobal>(
     }
 }
 
-/// Reads the bytes of this registry: at most 16,777,216.
+/// Reads the bytes of this registry: at most 16,777,216. `droid_desk` parses them for the commands without a service.
 pub fn registry_bytes<'a, R: Files + AllocGlobal>(
     rt: &R,
     source: RegistrySource<'a>,
@@ -89,7 +92,8 @@ pub fn registry_bytes<'a, R: Files + AllocGlobal>(
     }
 }
 
-/// Reads the bytes of a registry to their end.
+/// Reads the bytes of a registry to their end, or ends the command: more than [`BYTES_LIMIT`], no memory, or unread.
+/// `source` is what the sentence names.
 fn bytes_in<'a, R: AllocGlobal, F: SteadyRead>(
     rt: &R,
     source: RegistrySource<'a>,
@@ -105,15 +109,16 @@ fn bytes_in<'a, R: AllocGlobal, F: SteadyRead>(
     }
 }
 
-/// Ends a command whose registry could not be read.
+/// Ends a command whose registry could not be read, or is none, by this fault.
 pub fn no_registry<'a>(source: RegistrySource<'a>, fault: RegistryFault) -> Ended<'a>
     ensures { result.ending ≡ Ending.Registry fault }
 {
     Ended::over(Ending::Registry(fault), source)
 }
 
-/// Opens a registry file. The error says why it could not be opened, or that it is a folder. Files are up to the
-/// machine, so it has no contract: `tests/program/registry.sh` tests it.
+/// Opens a registry file. The error says why it could not be opened, or that it is a folder. One that cannot be looked
+/// at counts as no folder: reading it reports the rest. Files are up to the machine, so it has no contract:
+/// `tests/program/registry.sh` tests it.
 pub(crate) fn open_registry<R: Files>(rt: &R, path: &str) -> Result<R::File, ErrorKind> {
     let file = match fs::open(rt, path) {
         Ok(file) => file,
@@ -127,8 +132,8 @@ pub(crate) fn open_registry<R: Files>(rt: &R, path: &str) -> Result<R::File, Err
     Ok(file)
 }
 
-/// Notes on standard error that a registry file has no formats. Without a contract: `tests/program/registry.sh` tests
-/// it.
+/// Notes on standard error that the registry file at a path has no formats. `formats` is their number, or `None` if it
+/// was not read. Without a contract: `tests/program/registry.sh` tests it.
 pub fn note_formats<R: Eprint>(rt: &R, path: &str, formats: Option<usize>) {
     if let Some(0) = formats {
         let _ = eprintln!(rt; "registry: {path} has no formats, so no file will be identified");

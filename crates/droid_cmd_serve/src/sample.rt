@@ -10,6 +10,8 @@ pub fn sample_registry() -> &'static [u8]
     SAMPLE.as_bytes()
 }
 
+/// The same bytes are in `specs/Sample.antt`, which the prover ties, and in `tests/program/sample_registry.csv`, with
+/// which the tests' model answers.
 const SAMPLE: &str = "\
 F,dev/1,Message,1,,
 E,dev/1,msg,,,

@@ -1,4 +1,4 @@
-//! A script over a fresh service, whose registry is read first.
+//! The command `script` over any streams: a script over a fresh service, whose registry is read first.
 
 ghost use Rattle.std.specs.Prelude.{◌≡◌, ◌≢◌, [], None, Some, length, IfSome};
 ghost use Rattle.droid_frame.specs.Seen.{IsSound, ReportsFault};
@@ -20,7 +20,8 @@ use droid_pronom::RegistryFault;
 use droid_script::{ScriptFault, script};
 use std::alloc::Global;
 
-/// Runs a script over a fresh service that identifies files by the sample registry.
+/// Runs the script of `reader` over a fresh service that identifies files by the sample registry, and prints the
+/// replies to `writer`.
 pub fn script_by_sample<R: SteadyRead, W: SteadyWrite>(
     alloc: Global,
     reader: &mut R,
@@ -41,7 +42,7 @@ pub fn script_by_sample<R: SteadyRead, W: SteadyWrite>(
 }
 
 /// Reads a registry file, and runs a script over a fresh service that identifies files by it. Sets `formats` to the
-/// number of formats that the registry has, once it was read.
+/// number of formats that the registry has, once it was read: no clause holds it, since it is only noted.
 pub fn script_by_registry<F: SteadyRead, R: SteadyRead, W: SteadyWrite>(
     alloc: Global,
     file: &mut F,
@@ -67,7 +68,7 @@ pub fn script_by_registry<F: SteadyRead, R: SteadyRead, W: SteadyWrite>(
     }
 }
 
-/// Runs a script over a fresh service.
+/// Runs a script over a fresh service: answers the lines of `reader` to `writer`.
 fn script_over<R: SteadyRead, W: SteadyWrite>(
     alloc: Global,
     service: &mut Service,
@@ -88,7 +89,7 @@ fn script_over<R: SteadyRead, W: SteadyWrite>(
     end_of(outcome)
 }
 
-/// Returns how the command ends after the script.
+/// Returns how the command ends after the script: by the number of bad lines, or by the fault that ended it early.
 fn end_of(outcome: Result<Tally, ScriptFault>) -> Ending
     ensures { result ≡ ending_of outcome }
 {

@@ -1,4 +1,4 @@
-//! Making the journal of the program's service smaller.
+//! Makes the journal of the program's service smaller, and weighs whether that is worth it.
 
 ghost use Rattle.std.specs.Prelude.{◌≡◌, ◌≢◌, ◌⊎◌, ℕ, [], List, IfErr, IfOk, IsErrOf, OnOk};
 ghost use Rattle.droid_cmd_serve.specs.Journals.{IsHeaderOf};
@@ -11,10 +11,12 @@ use droid_journal::{Fault, LogFile};
 use droid_wire::journal_laws;
 use std::alloc::Global;
 
-/// The file has its whole header, so that no random byte is needed.
+/// Random bytes for a header that the file lacks. The file has its whole header, so that none is needed; with another
+/// file any bytes do, as its header is refused.
 const NO_RANDOM: [u8; 16] = [0; 16];
 
-/// Makes the header that a journal of the registry with these bytes has in this file.
+/// Makes the header that a journal of the registry with these bytes has in this file, if it has one, or returns that
+/// memory ran out or the file could not be read.
 fn header_of<F: LogFile>(alloc: Global, file: &F, registry: &[u8]) -> Result<Vec<u8>, RewriteFault>
     requires found { F.is_found file.now }
     ensures is_of { (s : List ℕ) → F.has file.now s → IfOk result (λ header. IsHeaderOf registry.now header.items) }
@@ -35,7 +37,8 @@ fn header_of<F: LogFile>(alloc: Global, file: &F, registry: &[u8]) -> Result<Vec
 /// crash count for nothing in it.
 ///
 /// A crash at any moment leaves the old journal under the name, or the smaller one with all its bytes; also where this
-/// fails. A service that is made from the smaller one has the same history as with the old one.
+/// fails. A service that is made from the smaller one has the same history as with the old one. The faults are those of
+/// `compact` of `droid_compaction`.
 pub fn make_smaller<F: LogFile, N: LogFile + Drop, X: Exchange<N>>(
     alloc: Global,
     old: &F,
@@ -68,12 +71,15 @@ pub fn make_smaller<F: LogFile, N: LogFile + Drop, X: Exchange<N>>(
         Err(fault) => return Err(fault),
     };
     let fresh = new_header(alloc, registry, random)?;
+    // Does nothing: it is called for its contract, which the clauses need.
     journal_laws::a_smaller_file_leads_to_the_same_history();
     compact(alloc, old, &header, &fresh, new, exchange)
 }
 
-/// Returns whether more than half of the bytes of a journal are of pieces of finished and abandoned files; its header
-/// has the MD5 of these bytes of a registry.
+/// Returns whether it is worth it to make a journal smaller: more than half of its bytes are of pieces of finished and
+/// abandoned files. Its header has the MD5 of these bytes of a registry.
+///
+/// No clause holds the faults: the one caller, `is_as_it_was` of `compaction.rt`, takes each for "no".
 pub fn is_worth_it<F: LogFile>(
     alloc: Global,
     file: &F,

@@ -1,4 +1,4 @@
-//! A stream of frames, answered by a service of the program.
+//! A stream of frames, answered by a service that keeps everything in memory.
 
 ghost use Rattle.std.specs.Prelude.{◌≡◌};
 ghost use Rattle.droid_core.specs.Standing.{limits_of, registry_of};

@@ -1,4 +1,5 @@
-//! The ending of a command by the table of faults.
+//! The ending of a command by the table of faults, for each form of `Ended`. `told_registry.rt` and `told_journal.rt`
+//! tell two of them.
 
 ghost use Rattle.std.specs.Prelude.{◌≡◌};
 ghost use Rattle.droid_cmd_serve.specs.ToldEndings.{frame_row, port_of, script_row, service_row, told_by, told_port};
@@ -18,7 +19,7 @@ use droid_wire::ServeFault;
 use std::io::ErrorKind;
 
 impl<'a> Ended<'a> {
-    /// Returns the ending by the table.
+    /// Returns the ending by the table: exit status, name and sentence of the fault, and what it is about.
     pub fn told(&self) -> Ending<'a>
         ensures { told result ≡ told_by self.now.ending self.now.used self.now.cause }
     {
@@ -41,7 +42,7 @@ impl<'a> Ended<'a> {
     }
 }
 
-/// Returns the row where no service could be made.
+/// Returns the row where no service could be made: no memory, or its tables were refused.
 fn service_row(fault: StoreFault) -> Row
     ensures { said result ≡ service_row fault }
 {
@@ -51,7 +52,7 @@ fn service_row(fault: StoreFault) -> Row
     }
 }
 
-/// Returns the row of a script that ended early.
+/// Returns the row of a script that ended early, by its fault.
 fn script_row(fault: &ScriptFault) -> Row
     ensures { said result ≡ script_row fault.now }
 {
@@ -63,7 +64,8 @@ fn script_row(fault: &ScriptFault) -> Row
     }
 }
 
-/// Returns the row of a frame of standard input that could not be read.
+/// Returns the row of a frame of standard input that could not be read, which ends `run`. One of a connection to
+/// `serve` ends that connection alone.
 fn frame_row(fault: FrameFault) -> Row
     ensures { said result ≡ frame_row fault }
 {
@@ -76,7 +78,7 @@ fn frame_row(fault: FrameFault) -> Row
     }
 }
 
-/// Returns the port that a command used.
+/// Returns the port that a command used, or 0 for one that used none.
 fn port_of(used: Used<'_>) -> u16
     ensures { result ≡ port_of used.entry }
 {
@@ -87,7 +89,8 @@ fn port_of(used: Used<'_>) -> u16
     }
 }
 
-/// Returns the ending where sending ended early.
+/// Returns the ending where sending ended early: by the lines, the connection or the replies. What is not of the
+/// connection names no port.
 fn told_send<'a>(fault: &SendFault, used: Used<'a>) -> Ending<'a>
     ensures { told result ≡ told_send fault.now (port_of used.entry) }
 {
@@ -106,7 +109,7 @@ fn told_send<'a>(fault: &SendFault, used: Used<'a>) -> Ending<'a>
     }
 }
 
-/// Returns the row of a reply whose frame could not be read.
+/// Returns the row of a reply to `send` whose frame could not be read.
 fn reply_row(fault: FrameFault) -> Row
     ensures { said result ≡ reply_row fault }
 {
@@ -119,7 +122,8 @@ fn reply_row(fault: FrameFault) -> Row
     }
 }
 
-/// Returns the ending where a port could not be used. Without a cause no connection could be accepted.
+/// Returns the ending where a port could not be used: to listen on it or to connect to it, by the cause of the system.
+/// Without a cause no connection could be accepted. The words of another cause are the system's, which no clause holds.
 fn told_port<'a>(used: Used<'a>, cause: Option<ErrorKind>) -> Ending<'a>
     ensures { told result ≡ told_port (port_of used.entry) cause }
 {

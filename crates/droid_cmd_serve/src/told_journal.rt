@@ -1,4 +1,4 @@
-//! The ending by the table of faults where a journal ends the program.
+//! The ending by the table of faults where a journal ends the program, for each form of `JournalFault`.
 
 ghost use Rattle.std.specs.Prelude.{◌≡◌};
 ghost use Rattle.droid_cmd_serve.specs.ToldJournals.{journal_of, told_closed, told_journal, told_not_smaller};
@@ -10,7 +10,7 @@ use droid_journal::Fault;
 use droid_terminal::{About, Detail, Ending, faults};
 use std::io::ErrorKind;
 
-/// Returns the ending where a journal ends the program.
+/// Returns the ending where a journal ends the program: its file, its records, or making it smaller. It names the path.
 pub(crate) fn told_journal<'a>(fault: JournalFault, used: Used<'a>) -> Ending<'a>
     ensures { told result ≡ told_journal fault (journal_of used.entry) }
 {
@@ -27,7 +27,8 @@ pub(crate) fn told_journal<'a>(fault: JournalFault, used: Used<'a>) -> Ending<'a
     }
 }
 
-/// Returns the path of the journal that a command used.
+/// Returns the path of the journal that a command used, or `the journal` if it is not known. `Ended` always has it for
+/// a fault of the journal.
 fn journal_of<'a>(used: Used<'a>) -> &'a str
     ensures { result.now ≡ journal_of used.entry }
 {
@@ -39,6 +40,7 @@ fn journal_of<'a>(used: Used<'a>) -> &'a str
 }
 
 /// Returns the ending where a journal could not be opened, or handles no further request. The header is record 0.
+/// `Damage` has the number of whole records before it, so the damaged one has the next number.
 fn told_closed<'a>(fault: Fault, used: Used<'a>) -> Ending<'a>
     ensures { told result ≡ told_closed fault (journal_of used.entry) }
 {
@@ -58,7 +60,9 @@ fn told_closed<'a>(fault: Fault, used: Used<'a>) -> Ending<'a>
     }
 }
 
-/// Returns the ending where the smaller journal beside the file could not be made, or without a cause not be written.
+/// Returns the ending where the smaller journal beside the file, `PATH.new` (as `put_smaller` of `compaction.rt` names
+/// it), could not be made for this cause of the
+/// system, or without a cause not be written.
 fn told_not_smaller<'a>(cause: Option<ErrorKind>, used: Used<'a>) -> Ending<'a>
     ensures { told result ≡ told_not_smaller cause (journal_of used.entry) }
 {

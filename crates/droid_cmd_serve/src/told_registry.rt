@@ -1,4 +1,4 @@
-//! The ending by the table of faults where a registry could not be read.
+//! The ending by the table of faults where a registry could not be read or is none, for each form of `RegistryFault`.
 
 ghost use Rattle.std.specs.Prelude.{◌≡◌};
 ghost use Rattle.droid_cmd_serve.specs.ToldRegistries.{registry_of, told_registry, told_unread};
@@ -10,7 +10,8 @@ use droid_pronom::RegistryFault;
 use droid_terminal::{About, Detail, Ending, faults};
 use std::io::ErrorKind;
 
-/// Returns the ending where a registry could not be read. The cause is that of a file that could not be opened.
+/// Returns the ending where a registry could not be read or is none. `cause` is why its file could not be opened, or
+/// `None` if it was opened.
 pub(crate) fn told_registry<'a>(
     fault: &RegistryFault,
     used: Used<'a>,
@@ -32,7 +33,8 @@ pub(crate) fn told_registry<'a>(
     }
 }
 
-/// Returns what a sentence calls the registry.
+/// Returns what a sentence calls the registry: the path of its file, or `the built-in registry`, which has no path. So
+/// the sample is called too; an ending by a registry's fault always has one.
 fn registry_of<'a>(used: Used<'a>) -> &'a str
     ensures { result.now ≡ registry_of used.entry }
 {
@@ -45,7 +47,8 @@ fn registry_of<'a>(used: Used<'a>) -> &'a str
     }
 }
 
-/// Returns the ending where a registry file could not be opened, or without a cause not be read.
+/// Returns the ending where a registry file could not be opened for this cause, or without one was opened and not read.
+/// The words of a cause without a row are the system's, which no clause holds.
 fn told_unread<'a>(used: Used<'a>, cause: Option<ErrorKind>) -> Ending<'a>
     ensures { told result ≡ told_unread (registry_of used.entry) cause }
 {

@@ -1,4 +1,5 @@
--- The ending by the table of faults where the service did not answer, or refused (this project's own).
+-- The ending by the table of faults of a submission that ended early after requests were begun, and of an export that
+-- was not read (this project's own).
 use Rattle.std.specs.Prelude.{[], Some, decimal}
 use Rattle.droid_arguments.specs.declared.submit.Destination.{Destination}
 use Rattle.droid_arguments.specs.declared.submit.SubmitOptions.{SubmitOptions}
@@ -47,16 +48,16 @@ told_transfer sending.Restarted to = by table.restarted (of_port to.port)
 told_transfer (sending.Refused refusal) to = by (refusal_row refusal) (of_port to.port)
 told_transfer sending.Busy to = detailed table.busy (of_port to.port) (Some (decimal to.wait))
 
--- where the walk ended early
-abbrev pub told_walking : SubmissionFault → SubmitOptions → Told
-told_walking walking.Memory options = told_transfer sending.Memory options.to
-told_walking walking.Ended options = told_transfer sending.Broken options.to
-told_walking walking.Reply options = by table.strange_reply (of_port options.to.port)
-told_walking (walking.Refused refusal) options = by (refusal_row refusal) (of_port options.to.port)
-told_walking walking.TooLong options = by table.long_request (of_path options.folder.now)
-told_walking walking.Folders options = by table.new_folders (of_path options.folder.now)
+-- of a `SubmissionFault`: where the walk ended early, after requests were begun
+abbrev pub told_submission_fault : SubmissionFault → SubmitOptions → Told
+told_submission_fault walking.Memory options = told_transfer sending.Memory options.to
+told_submission_fault walking.Ended options = told_transfer sending.Broken options.to
+told_submission_fault walking.Reply options = by table.strange_reply (of_port options.to.port)
+told_submission_fault (walking.Refused refusal) options = by (refusal_row refusal) (of_port options.to.port)
+told_submission_fault walking.TooLong options = by table.long_request (of_path options.folder.now)
+told_submission_fault walking.Folders options = by table.new_folders (of_path options.folder.now)
 
 -- where a submission ended early
 abbrev pub told_unsubmitted : RemoteFault → SubmitOptions → Told
-told_unsubmitted (submitting.Walking fault) options = told_walking fault options
+told_unsubmitted (submitting.Walking fault) options = told_submission_fault fault options
 told_unsubmitted (submitting.Sending fault) options = told_transfer fault options.to

@@ -1,4 +1,4 @@
-//! Watchers that hear how much there is before a walk begins.
+//! Watchers that also hear, before a walk begins, how much there is: the progress goes by it.
 
 ghost use Rattle.droid_tree.specs.declared.tree_size.Counted.{Counted};
 ghost use Rattle.droid_terminal.specs.Reporters.{ReporterExpects};
@@ -20,6 +20,7 @@ pub trait Audience: Watcher {
 impl<R: Eprint + Clock> Audience for Reporter<'_, R> {
     ghost expects = { λ old counted new. ReporterExpects old counted new };
 
+    /// Sets the size of the tree, by which the reporter estimates what is left.
     fn hear_count(&mut self, counted: Counted) {
         self.expect(counted);
     }

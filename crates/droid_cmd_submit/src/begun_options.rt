@@ -1,4 +1,7 @@
-//! Which options a submission was begun with.
+//! How the options that a submission was begun with differ from those given now, and the words for that.
+//!
+//! The service was asked for them by `options_of` of `droid_remote`. `tests/program/submissions/submit_begun.py` has
+//! each pair of options and the whole sentence.
 
 ghost use Rattle.std.specs.Prelude.{◌≡◌, false, true};
 ghost use Rattle.droid_cmd_submit.specs.BegunOptions.{begun_of, begun_words, both_words, differing, matching_words};
@@ -21,7 +24,7 @@ pub enum BegunOptions {
 }
 
 /// Returns which options differ. `begun` are the options with which the service takes the submission, or `None` if it
-/// takes none of those that were tried. Returns `None` if they are the given ones.
+/// takes none of those that were tried: then only the limit is left. Returns `None` if nothing differs.
 pub(crate) fn begun_of(given: Options, begun: Option<Options>) -> Option<BegunOptions>
     ensures { result ≡ begun_of given begun }
 {
@@ -33,8 +36,8 @@ pub(crate) fn begun_of(given: Options, begun: Option<Options>) -> Option<BegunOp
     differing(hash, matching, begun)
 }
 
-/// Returns which of hash and matching differ from what the submission was begun with, if one does; each is `true` where
-/// it is the same.
+/// Returns which of hash and matching differ from what the submission was begun with, or `None` if neither does. `hash`
+/// and `matching` are true where it is the same now.
 fn differing(hash: bool, matching: bool, begun: Options) -> Option<BegunOptions>
     ensures { result ≡ differing hash matching begun }
 {
@@ -58,7 +61,7 @@ fn same_hash(given: HashKind, begun: HashKind) -> bool
     }
 }
 
-/// Returns whether two truths are the same.
+/// Returns whether `match_all` is the same in both.
 fn same_truth(given: bool, begun: bool) -> bool
     ensures { result ≡ same_truth given begun }
 {
@@ -66,7 +69,8 @@ fn same_truth(given: bool, begun: bool) -> bool
 }
 
 impl BegunOptions {
-    /// Says which they are.
+    /// Returns the options that the submission was begun with as they are typed, behind `with` or `without`. They stand
+    /// in the fault's sentence.
     pub(crate) fn words(self) -> &'static str
         ensures { result.now ≡ begun_words self }
     {
@@ -80,7 +84,7 @@ impl BegunOptions {
     }
 }
 
-/// Says which hash it is.
+/// Returns `with` and the option for this kind of hash.
 fn hash_words(hash: HashKind) -> &'static str
     ensures { result.now ≡ with_hash hash }
 {
@@ -91,7 +95,7 @@ fn hash_words(hash: HashKind) -> &'static str
     }
 }
 
-/// Says whether extensions also count.
+/// Returns the option `--match-all` behind `with`, or behind `without`.
 fn matching_words(match_all: bool) -> &'static str
     ensures { result.now ≡ matching_words match_all }
 {
@@ -102,7 +106,7 @@ fn matching_words(match_all: bool) -> &'static str
     }
 }
 
-/// Says which hash it is, and that extensions also count.
+/// Returns the option for this kind of hash, and `--match-all`, both behind `with`.
 fn words_with_all(hash: HashKind) -> &'static str
     ensures { result.now ≡ both_words hash true }
 {
@@ -113,7 +117,7 @@ fn words_with_all(hash: HashKind) -> &'static str
     }
 }
 
-/// Says which hash it is, and that extensions do not count too.
+/// Returns the option for this kind of hash behind `with`, and `--match-all` behind `without`.
 fn words_without(hash: HashKind) -> &'static str
     ensures { result.now ≡ both_words hash false }
 {

@@ -1,4 +1,5 @@
-//! Submits a tree, and compares the profile with it.
+//! The whole command over any tree, connection and audience: counts, submits, reads the CSV back, compares. In clauses
+//! 1073741824 is `EXPORT_LIMIT` of `droid_remote`, which says where else it stands.
 
 ghost use Rattle.std.specs.Prelude.{◌≡◌, ◌≤◌, [], None, true, IfErr, IfOk, OnOk, length};
 ghost use Rattle.droid_remote.specs.Calls.{Wherever};
@@ -31,7 +32,8 @@ pub enum CommandFault {
 }
 
 /// Counts what is in a tree, reports that to the watcher, submits the tree, reads the CSV of the profile, and compares
-/// it with the tree as it was submitted.
+/// it with the tree as it was submitted. `limit` is how many folders and files the tree may have: with more it is
+/// `Uncounted`.
 pub fn submit_and_check<T: Tree, C: Connection, W: Audience>(
     upload: &mut Upload<T, Sender<C>, Recorder<W>>,
     options: Options,
@@ -62,7 +64,11 @@ pub fn submit_and_check<T: Tree, C: Connection, W: Audience>(
     }
 }
 
-/// Reads the CSV of a profile and compares it with what was submitted.
+/// Reads the CSV of a profile and compares it with what was submitted. `hash` is the kind of the profile's hashes.
+/// Fails as [`read_export`], or as [`compare_with`], which is the fault `Unchecked`.
+///
+/// If the watcher had no memory for all that was skipped, that is `Unchecked` too, as if memory ran out here. It is
+/// looked at behind the reading: the clause `ended` (`NotFit`) says of this fault that a CSV was read.
 fn check_profile<T: Tree, C: Connection, W: Audience>(
     upload: &mut Upload<T, Sender<C>, Recorder<W>>,
     submitted: Submitted,

@@ -1,4 +1,4 @@
-//! The line for a difference between the profile and the folder.
+//! The line that is printed for a difference between the profile and the folder, with its path.
 
 ghost use Rattle.std.specs.Prelude.{◌≡◌, Some};
 ghost use Rattle.droid_cmd_submit.specs.DifferenceLines.{line_text, path_at, path_of, words_after};
@@ -24,6 +24,7 @@ pub(crate) struct DifferenceLine<'a> {
 impl Display for DifferenceLine<'_> {
     ghost output = { λ line. Some (line_text line) };
 
+    /// Writes the line: the words, the path with control characters shown, and the column and record that differ.
     #[tactic(auto, unfolding(crate::specs::DifferenceLines::line_text))]
     fn fmt<W: Write>(&self, f: &mut Formatter<W>) -> fmt::Result {
         let before = words_before(self.difference);
@@ -46,6 +47,7 @@ struct Rest<'a> {
 impl Display for Rest<'_> {
     ghost output = { λ rest. Some (words_after rest.hash rest.difference.now) };
 
+    /// Writes the column, by its name in this CSV, and the record; nothing where a whole record is missing or too many.
     fn fmt<W: Write>(&self, f: &mut Formatter<W>) -> fmt::Result {
         match self.difference {
             Difference::Other { column, record, .. } => {
@@ -58,7 +60,7 @@ impl Display for Rest<'_> {
     }
 }
 
-/// Returns the words before the path.
+/// Returns the words before the path, by the kind of difference.
 fn words_before(difference: &Difference) -> &'static str
     ensures { result.now ≡ words_before difference.now }
 {
@@ -69,7 +71,8 @@ fn words_before(difference: &Difference) -> &'static str
     }
 }
 
-/// Returns the path that a difference is reported at.
+/// Returns the path that a difference is reported at: that of the submitted folder or file, or, where the profile has
+/// one more, the profile's.
 pub(crate) fn path_of<'a>(known: &'a [Known], difference: &'a Difference) -> &'a [u8]
     ensures { result.now ≡ path_of known.now difference.now }
 {
@@ -80,7 +83,7 @@ pub(crate) fn path_of<'a>(known: &'a [Known], difference: &'a Difference) -> &'a
     }
 }
 
-/// Returns the path of what is known at this place, or an empty one.
+/// Returns the path of what is known at this place, or an empty one past the end, where no difference points.
 fn path_at(known: &[Known], place: usize) -> &[u8]
     ensures { result.now ≡ path_at known.now place }
 {

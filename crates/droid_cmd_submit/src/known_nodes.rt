@@ -1,4 +1,4 @@
-//! What is known of the folders and files of a submission.
+//! What a submission knows of its folders and files, for the comparison; and how many of the files it did not read.
 
 ghost use Rattle.std.specs.Prelude.{◌≡◌, ◌++◌, [], ◌∷◌, cond, IfOk, OnOk};
 ghost use Rattle.droid_cmd_submit.specs.KnownNodes.{known_of_node, known_of_nodes, node_kind, unread_in};
@@ -9,7 +9,8 @@ use droid_tree::EntryKind;
 use droid_upload::Node;
 use std::alloc::{AllocError, Global};
 
-/// Returns what is known of the folders and files that were submitted. Their paths are moved.
+/// Returns what is known of the folders and files that were submitted, in their order. Their paths are moved, not
+/// copied. Fails only if memory runs out.
 pub(crate) fn known_of_nodes(alloc: Global, nodes: Vec<Node>) -> Result<Vec<Known>, AllocError>
     ensures { IfOk result (λ known. known.items ≡ known_of_nodes nodes.items) }
 {
@@ -20,7 +21,7 @@ pub(crate) fn known_of_nodes(alloc: Global, nodes: Vec<Node>) -> Result<Vec<Know
     Ok(known)
 }
 
-/// Appends what is known of a folder or file.
+/// Appends what is known of a folder or file. The caller has reserved room for all.
 fn add_known(known: &mut Vec<Known>, node: Node) -> Result<(), AllocError>
     ensures { OnOk result (known.new.items ≡ known.old.items ++ known_of_node node ∷ []) }
 {
@@ -29,7 +30,7 @@ fn add_known(known: &mut Vec<Known>, node: Node) -> Result<(), AllocError>
     Ok(())
 }
 
-/// Returns what is known of a folder or file.
+/// Returns what is known of a folder or file: all of the node but whether it was read.
 fn known_of_node(node: Node) -> Known
     ensures { result ≡ known_of_node node }
 {
@@ -68,7 +69,8 @@ fn node_kind(kind: EntryKind) -> NodeKind
     }
 }
 
-/// Returns how many files are in the profile and were not read in this run.
+/// Returns how many files are in the profile and were not read in this run, since an earlier one finished them. A
+/// folder counts as read.
 pub(crate) fn unread_in(nodes: &[Node]) -> usize
     ensures { result ≡ unread_in nodes.now }
 {
@@ -79,7 +81,7 @@ pub(crate) fn unread_in(nodes: &[Node]) -> usize
     count
 }
 
-/// Returns 1 if it is true, and 0 if not.
+/// Returns 1 if `truth` is true, and 0 if not: what one node adds to a count.
 fn one_if(truth: bool) -> usize
     ensures { result ≡ cond truth 1 0 }
 {

@@ -1,8 +1,9 @@
 //! Connections to a port of this machine.
 //!
-//! Proved is what [`Open`] asks for: when waiting begins anew, and how pauses grow. What the clock shows and what a
-//! connection delivers is up to the machine: those functions have no contract, and `tests/program/submissions`
-//! (`submit_waits.py`, `submit_broken.py`) tests them.
+//! Proved is what [`Open`] asks for: the settings stay, and how pauses grow, also that they begin anew with the wait.
+//! What the clock shows and what a connection delivers is up to the machine: those functions have no contract, and
+//! `tests/program/submissions` (`submit_waits.py`, `submit_broken.py`) tests them. No clause has the fields `begun`,
+//! `failed`, `has_joined` and `has_printed`: `submit_waits.py` tests the last three.
 
 ghost use Rattle.std.specs.Prelude.{◌≡◌};
 ghost use Rattle.droid_cmd_submit.specs.Waits.{OpensOne, WaitsOn, is_over, next_pause};
@@ -16,10 +17,12 @@ use std::net::{Ipv4Addr, Net, TcpListener, TcpStream};
 use std::time::{Clock, Duration, Instant};
 use std::{io, thread};
 
-/// The shortest pause before another try, in milliseconds.
+/// The shortest pause before another try, in milliseconds: the clause of `new`, and `pause_after`, have 50, which the
+/// prover ties. The help of `submit` (`submit_help.rt` of `droid_arguments`) and docs/PROMISES.md have both pauses, and
+/// nothing ties these; `submit_waits.py` counts on the first five pauses.
 const SHORTEST_PAUSE: u64 = 50;
 
-/// The longest pause, in milliseconds.
+/// The longest pause, in milliseconds: `next_pause` of `specs/Waits.antt` has 2,000, which the prover ties.
 const LONGEST_PAUSE: u64 = 2_000;
 
 /// Where to connect to, and how long to wait.
@@ -79,7 +82,7 @@ impl<'a, R: Clock> Loopback<'a, R> {
         }
     }
 
-    /// Returns the milliseconds since waiting began.
+    /// Returns the milliseconds since waiting began, or `None` if the clock cannot be read.
     fn milliseconds(&self) -> Option<u64> {
         let begun = self.begun?;
         let now = Instant::now(self.runtime).ok()?;
@@ -94,6 +97,8 @@ impl<'a, R: Clock + Eprint + Net<Listener = TcpListener, Stream = TcpStream>> Op
 
     ghost waits = { WaitsOn };
 
+    /// Connects once. Keeps why that failed, for the ending. At the first failure it prints that nobody listens yet,
+    /// if that is the cause and no connection was ever made; at a later one nothing.
     fn open(&mut self) -> Result<Noted<Timely<'a, R>>, Broken> {
         match connect(self.runtime, self.settings) {
             Ok(stream) => {
@@ -112,6 +117,8 @@ impl<'a, R: Clock + Eprint + Net<Listener = TcpListener, Stream = TcpStream>> Op
         }
     }
 
+    /// Sleeps for the pause, and doubles the next one. Returns false, without sleeping, when the time is over. No
+    /// clause holds that it sleeps, or what it returns: `submit_waits.py` tests both.
     fn pause(&mut self) -> bool {
         if self.is_over() {
             return false;
@@ -121,17 +128,21 @@ impl<'a, R: Clock + Eprint + Net<Listener = TcpListener, Stream = TcpStream>> Op
         true
     }
 
+    /// Begins the time of the next frame.
     fn await_frame(&self, stream: &mut Noted<Timely<'a, R>>) {
         stream.stream.await_frame();
     }
 
+    /// Starts the time that may be waited at the clock of now, and the pauses at the shortest. A clause
+    /// (`pause_after`) holds the pause alone. That `begun` is set is held by nothing: where `submit_waits.py` waits the
+    /// time out, little has passed before.
     fn start_wait(&mut self) {
         self.begun = Instant::now(self.runtime).ok();
         self.pause = SHORTEST_PAUSE;
     }
 }
 
-/// Connects to the port. A reply or a write then fails when it takes longer than the timeout.
+/// Connects to the port of this machine, or returns the kind of error, which is what an ending keeps.
 fn connect<R: Clock + Net<Listener = TcpListener, Stream = TcpStream>>(
     rt: &R,
     settings: LoopbackSettings,
@@ -142,7 +153,8 @@ fn connect<R: Clock + Net<Listener = TcpListener, Stream = TcpStream>>(
     }
 }
 
-/// Connects to the port, with the time limits of replies and writes.
+/// Connects to the port. A reply or a write then fails when it takes longer than the settings' timeout: they count in
+/// seconds, `Timely` in milliseconds.
 fn connected<R: Clock + Net<Listener = TcpListener, Stream = TcpStream>>(
     rt: &R,
     settings: LoopbackSettings,
@@ -153,7 +165,8 @@ fn connected<R: Clock + Net<Listener = TcpListener, Stream = TcpStream>>(
     Timely::new(rt, stream, u64::from(settings.timeout) * 1_000)
 }
 
-/// Prints that nobody listens on the port yet, if that is why it could not be connected to.
+/// Prints that nobody listens on the port yet, if that is why it could not be connected to. Prints nothing with
+/// --quiet, and where no time is waited anyway. `submit_waits.py` tests it, but not where no time is waited.
 fn print_waiting<R: Eprint>(rt: &R, settings: LoopbackSettings, cause: ErrorKind) {
     if settings.verbosity == Verbosity::Quiet || settings.wait == 0 {
         return;
@@ -163,14 +176,14 @@ fn print_waiting<R: Eprint>(rt: &R, settings: LoopbackSettings, cause: ErrorKind
     }
 }
 
-/// Returns whether the time that may be waited is over after these milliseconds.
+/// Returns whether `wait` seconds are over after this many milliseconds; 0 seconds are over at once.
 fn is_over(wait: u32, milliseconds: u64) -> bool
     ensures { result ≡ is_over wait milliseconds }
 {
     milliseconds >= u64::from(wait) * 1_000
 }
 
-/// Returns the pause that follows one of this many milliseconds.
+/// Returns the pause that follows one of this many milliseconds: twice as long, and at most [`LONGEST_PAUSE`].
 fn next_pause(pause: u64) -> u64
     ensures { result ≡ next_pause pause }
 {

@@ -1,5 +1,8 @@
 //! The files that a submission writes: each is complete, or as it was before. Nothing here has a contract, since files
-//! are up to the machine: `tests/program/submissions/submit_outputs.py` tests it.
+//! are up to the machine: `tests/program/submissions/submit_outputs.py` tests it,
+//! `tests/program/folders/output_calls.py` each call that fails, and `tests/memory/submissions_refused.py` each
+//! allocation. Nothing tests that a page may not lie in the folder, that the CSV and that of skipped entries may not be
+//! the same, or the order of these checks.
 
 use crate::submission_ending::{OutputFile, SubmissionEnding};
 use droid_arguments::SubmitOptions;
@@ -12,8 +15,9 @@ use droid_terminal::{
 use std::fs::{File, Files};
 use std::time::Clock;
 
-/// Checks that the files can be created, that no two are the same, and that none would lie in the folder with this
-/// absolute path.
+/// Checks, before anything is sent, that no two of the named files are the same, that none would lie in the folder with
+/// this absolute path, and that each can be created. Returns the first ending that forbids it, in this order, or
+/// `NoMemory`.
 pub(crate) fn see_outputs<R: Files<File = File> + AllocGlobal>(
     rt: &R,
     options: SubmitOptions<'_>,
@@ -28,7 +32,8 @@ pub(crate) fn see_outputs<R: Files<File = File> + AllocGlobal>(
     Ok(())
 }
 
-/// Checks that two files are not the same, if both are named. `file` is the second, which the fault names.
+/// Checks that two files are not the same, if both are named: that is the ending `SameFile`. `file` says which of the
+/// three the second is: the ending names it. If memory runs out, it is `NoMemory`.
 fn see_other<R: Files + AllocGlobal>(
     rt: &R,
     first: Option<&str>,
@@ -45,8 +50,9 @@ fn see_other<R: Files + AllocGlobal>(
     }
 }
 
-/// Checks that a file can be created, and that it would not lie in the folder. There it would change the modification
-/// time of the folder around it, and with it the request that adds that folder.
+/// Checks that a file, if one is named, would not lie in the folder, and that it can be created: it is, and is removed.
+/// In the folder it would change the modification time of the folder around it, and with it the request that adds that
+/// folder. The ending is `InFolder` or `NoOutput`, or `NoMemory` if there is none for the absolute path.
 fn see_place<R: Files<File = File> + AllocGlobal>(
     rt: &R,
     absolute: &str,
@@ -71,7 +77,7 @@ fn see_place<R: Files<File = File> + AllocGlobal>(
     }
 }
 
-/// Writes the CSV of the profile, if a file is named for it.
+/// Writes the CSV of the profile, as the service sent it, if a file is named for it. Fails as [`write_file`].
 pub(crate) fn write_export<R: Files<File = File> + AllocGlobal>(
     rt: &R,
     path: Option<&str>,
@@ -83,7 +89,8 @@ pub(crate) fn write_export<R: Files<File = File> + AllocGlobal>(
     }
 }
 
-/// Writes the CSV of what was skipped, if a file is named for it.
+/// Writes the CSV of what was skipped, if a file is named for it. It is written too if nothing was. Fails as
+/// [`write_file`]; without memory for the CSV it is `NoOutput`.
 pub(crate) fn write_skipped<R: Files<File = File> + AllocGlobal>(
     rt: &R,
     path: Option<&str>,
@@ -100,6 +107,7 @@ pub(crate) fn write_skipped<R: Files<File = File> + AllocGlobal>(
 
 /// Writes the page of the profile, if a file is named for it. `absolute` is the absolute path of the folder, whose name
 /// is the title. The page says that it is made from the CSV's file, or from the folder if no file is named for the CSV.
+/// It names no registry: the service's is not known here. Fails as `page_now`, as `put_page`, or with `NoOutput`.
 pub(crate) fn write_report<R: Files<File = File> + Clock + AllocGlobal>(
     rt: &R,
     options: SubmitOptions<'_>,
@@ -118,7 +126,9 @@ pub(crate) fn write_report<R: Files<File = File> + Clock + AllocGlobal>(
     }
 }
 
-/// Writes a file, which is put in its place once it is complete.
+/// Writes a file, which is put in its place once it is complete; if it cannot be, an older one stays there. `file` says
+/// which of the three it is, for the ending: `NoOutput` if it can't be created or put in its place, `Unwritten` if its
+/// bytes can't be written. If only its folder can't be synced, that is `NoOutput` too, and the new file stays.
 fn write_file<R: Files<File = File> + AllocGlobal>(
     rt: &R,
     path: &str,

@@ -1,4 +1,5 @@
-//! Compares the profile of a submission with what was submitted.
+//! Compares the profile of a submission with what was submitted. In clauses 1073741824 is `EXPORT_LIMIT` of
+//! `droid_remote`, which says where else it stands.
 
 ghost use Rattle.std.specs.Prelude.{◌≡◌, ◌≤◌, [], None, IfErr, IfNone, IfOk, IfSome, length};
 ghost use Rattle.droid_lists.specs.TextReading.{IsFaultOf};
@@ -15,7 +16,10 @@ use droid_terminal::SkippedEntry;
 use droid_upload::Submitted;
 use std::alloc::Global;
 
-/// How often an export is begun, if other requests come between its parts.
+/// How often an export is begun, if other requests come between its parts. `EndsReading` has the number too: the
+/// prover refuses a lower one here, and `BEGINNINGS` of `submit_disturbed.py` any other. The sentence and the help of
+/// the fault Disturbed (`faults.rt` of `droid_terminal`, `submit_help.rt` of `droid_arguments`) have it in words;
+/// nothing ties it to these.
 const BEGINNINGS: u32 = 100;
 
 /// A submission whose profile was compared with what was submitted.
@@ -52,7 +56,8 @@ pub enum ComparisonFault {
     Unchecked(TextFault),
 }
 
-/// Reads the CSV of a profile, again from the start while other requests come between its parts.
+/// Reads the CSV of a profile, again from the start while other requests come between its parts. After [`BEGINNINGS`]
+/// it is the fault `Disturbed`; other faults are those of [`read_once`].
 pub(crate) fn read_export<C: Connection>(
     alloc: Global,
     sender: &mut Sender<C>,
@@ -79,7 +84,8 @@ pub(crate) fn read_export<C: Connection>(
     Err(ComparisonFault::Disturbed)
 }
 
-/// Reads the CSV of a profile once. Returns `None` if other requests came between its parts.
+/// Reads the CSV of a profile once. Returns `None` if other requests came between its parts. Any fault of the export
+/// ends the comparison, under the name that it has here: no memory for the text is `Unchecked`.
 fn read_once<C: Connection>(
     alloc: Global,
     sender: &mut Sender<C>,
@@ -111,7 +117,8 @@ fn read_once<C: Connection>(
     }
 }
 
-/// Compares the CSV of a profile with what was submitted.
+/// Compares the CSV of a profile with what was submitted. `skipped` are the entries that were reported as skipped,
+/// `hash` is the kind of the profile's hashes. Fails if memory runs out, or with the first record that no profile has.
 pub(crate) fn compare_with(
     alloc: Global,
     skipped: &[SkippedEntry],

@@ -12,7 +12,8 @@ use droid_terminal::{SkippedEntry, SkippedPaths, holds_above, paths_of};
 use droid_tree::Skipped;
 use std::alloc::{AllocError, Global};
 
-/// Returns of each difference whether it is reported: unless its path, or a folder above it, was reported as skipped.
+/// Returns of each difference, in order, whether it is reported: unless its path, or a folder above it, was reported as
+/// skipped. Fails only if memory runs out.
 pub(crate) fn reported_in(
     alloc: Global,
     skipped: &[SkippedEntry],
@@ -29,7 +30,7 @@ pub(crate) fn reported_in(
     Ok(reported)
 }
 
-/// Appends whether a difference is reported.
+/// Appends whether a difference is reported. `paths` are those of the skipped entries.
 fn add_reported(
     reported: &mut Vec<bool>,
     paths: &SkippedPaths<'_>,
@@ -45,7 +46,7 @@ fn add_reported(
     Ok(())
 }
 
-/// Returns whether another --name is suggested: the profile has a folder or file that was skipped as it was before.
+/// Returns whether another --name is suggested: something was skipped that the profile has as it was in an earlier run.
 pub(crate) fn is_suggested(skipped: &[SkippedEntry]) -> bool
     ensures { result ≡ is_suggested skipped.now }
 {
@@ -56,7 +57,8 @@ pub(crate) fn is_suggested(skipped: &[SkippedEntry]) -> bool
     suggested
 }
 
-/// Returns whether the profile has the folder or file that was skipped as it was before.
+/// Returns whether the reason of a skip shows that the profile has the folder or file as it was in an earlier run: its
+/// number or name is used for what it was, or its hash is another.
 fn is_older(why: Skipped) -> bool
     ensures { result ≡ is_older why }
 {

@@ -1,5 +1,10 @@
 //! The submission of a folder of this machine to a service on a port. `submit_and_check` is proved. What is here joins
-//! it to the machine, without contracts, and is tested by `tests/program/submissions`.
+//! it to the machine, without contracts. Which words and statuses an ending has is proved again (`submission_told.rt`).
+//!
+//! Modules of `tests/program/submissions` test it: `submit_outputs.py` the profile's number and which files are
+//! written after which ending; `submit_lies.py` and `submit_texts.py` the lines of differences; `submit_check.py` and
+//! `submit_states.py` the summary, the former also the advice; `submit_whole.py`, `submit_waits.py` and
+//! `submit_begun.py` the endings without a folder, without a connection and with other options.
 
 use crate::begun_options::begun_of;
 use crate::checked_submission::{CommandFault, submit_and_check};
@@ -23,7 +28,7 @@ use std::fs::{File, Files};
 use std::net::{Net, TcpListener, TcpStream};
 use std::time::Clock;
 
-/// What to do where the profile has a folder or file as it was before.
+/// What to do where the profile has a folder or file as it was before. `submit_check.py` has these words (`ADVICE`).
 const ANOTHER_NAME: &str =
     "a file differs: give another --name to submit the folder as it is now, as a new profile";
 
@@ -61,7 +66,8 @@ where
     }
 }
 
-/// Makes all that the submission works with. Connects to nothing yet.
+/// Makes all that the submission works with: name, folder, client and watcher. Connects to nothing yet. Fails only if
+/// memory runs out.
 fn upload_of<'a, R>(
     rt: &'a R,
     options: SubmitOptions<'_>,
@@ -89,7 +95,7 @@ where
     })
 }
 
-/// Submits the folder, and reports how its profile differs.
+/// Submits the folder, and reports how that ended. Takes the upload apart, so that the client outlives the rest.
 fn submit_by<'a, R>(
     rt: &'a R,
     upload: FolderUpload<'a, R>,
@@ -111,7 +117,9 @@ where
     end_checked(rt, &mut client, watcher, options, absolute, checked)
 }
 
-/// Reports how a submission ended, and how the profile differs. The client is lent, so that it is dropped at one place.
+/// Ends the progress, prints and writes what there is by how the submission ended, and returns the ending. If the
+/// folder could not be counted, there is no progress yet: the watcher has heard nothing. Where the submission ended
+/// early, no file is written. The client is lent, so that it is dropped at one place.
 fn end_checked<R>(
     rt: &R,
     client: &mut PortSender<'_, R>,
@@ -154,7 +162,8 @@ fn end_progress<R: Eprint + Clock>(reporter: Reporter<'_, R>, begun: bool) {
     }
 }
 
-/// Prints the profile's number and how the profile differs, and writes the files.
+/// Prints the profile's number and how the profile differs, and writes the files that are named: the skipped entries,
+/// the CSV, the page. The first that fails is the ending, and those behind it are not written.
 fn end_compared<R>(
     rt: &R,
     watcher: &Recorder<Reporter<'_, R>>,
@@ -178,7 +187,8 @@ where
     SubmissionEnding::of(compared.whole).with_page(page)
 }
 
-/// Prints the profile's number, and writes what was skipped, if that is known.
+/// Prints the profile's number, and writes what was skipped, if all of that is known. The ending is why the profile
+/// could not be compared, also where that file cannot be written.
 fn end_uncompared<R>(
     rt: &R,
     watcher: &Recorder<Reporter<'_, R>>,
@@ -202,14 +212,15 @@ fn print_profile<R: Print>(rt: &R, profile: u32) {
     let _ = println!(rt; "profile {profile}");
 }
 
-/// Prints a line for each difference that is reported.
+/// Prints a line on standard error for each difference that is reported, in their order.
 fn print_differences<R: Eprint>(rt: &R, options: SubmitOptions<'_>, compared: &Compared) {
     for place in 0..compared.differences.len() {
         print_difference(rt, options, compared, place);
     }
 }
 
-/// Prints a line for the difference at this place, if it is reported.
+/// Prints the line for the difference at this place, counted from 0, if it is reported. A line that cannot be printed
+/// changes nothing.
 fn print_difference<R: Eprint>(
     rt: &R,
     options: SubmitOptions<'_>,
@@ -232,7 +243,8 @@ fn print_difference<R: Eprint>(
     }
 }
 
-/// Prints how many files were not read, and what to do where the profile has the folder as it was before.
+/// Prints how many files were not read in this run, and the advice for where the profile has the folder as it was
+/// before. Prints nothing with --quiet.
 fn print_unread<R: Eprint>(rt: &R, options: SubmitOptions<'_>, compared: &Compared) {
     if options.quiet {
         return;
@@ -243,7 +255,8 @@ fn print_unread<R: Eprint>(rt: &R, options: SubmitOptions<'_>, compared: &Compar
     }
 }
 
-/// Returns how a submission ends that ended early.
+/// Returns the ending of a submission that ended early. Two faults say more when looked at: a broken connection, and a
+/// number that is used.
 fn unsubmitted<R>(
     client: &mut PortSender<'_, R>,
     options: Options,
@@ -263,7 +276,8 @@ where
     }
 }
 
-/// Returns how a submission ends when its connection broke. If no connection was ever made, it says so.
+/// Returns the ending of a submission whose connection broke. If no connection was ever made, it says why the last try
+/// failed.
 fn broken<R>(opener: &Loopback<'_, R>, fault: RemoteFault) -> SubmissionEnding {
     match opener.failed {
         Some(cause) if !opener.has_joined => SubmissionEnding::NoConnection(cause),
@@ -271,8 +285,9 @@ fn broken<R>(opener: &Loopback<'_, R>, fault: RemoteFault) -> SubmissionEnding {
     }
 }
 
-/// Returns how a submission ends when one of its numbers is used for another request. If this is the number of the
-/// request for the profile, the submission was begun with other options.
+/// Returns the ending of a submission of which a number is used for another request. If it is the number of the request
+/// for the profile, which no reply has come for yet, the submission was begun with other options, and the service is
+/// asked which. If that is not found out, the ending names the fault alone.
 fn with_other_options<R>(
     client: &mut PortSender<'_, R>,
     options: Options,

@@ -1,4 +1,4 @@
-//! How the submission of a folder ends.
+//! How the submission of a folder ends: all forms, and those that a comparison or a page leads to.
 
 ghost use Rattle.std.specs.Prelude.{◌≡◌};
 ghost use Rattle.droid_cmd_submit.specs.SubmissionEndings.{ending_of, unchecked, uncompared, with_page};
@@ -74,7 +74,7 @@ impl SubmissionEnding {
         }
     }
 
-    /// Returns the ending after the page.
+    /// Returns the ending after the page: this one, or `NoPage` in its place if the page was not written.
     pub(crate) fn with_page(self, page: Result<(), PageFault>) -> SubmissionEnding
         ensures { result ≡ with_page self page }
     {
@@ -84,7 +84,7 @@ impl SubmissionEnding {
         }
     }
 
-    /// Returns the ending of a submission whose profile could not be compared.
+    /// Returns the ending of a submission whose profile could not be compared: its export was not read, or is wrong.
     pub(crate) fn uncompared(fault: ComparisonFault) -> SubmissionEnding
         ensures { result ≡ uncompared fault }
     {
@@ -97,7 +97,8 @@ impl SubmissionEnding {
     }
 }
 
-/// Returns the ending of a submission whose CSV could not be compared.
+/// Returns the ending where the export was read and its text could not be compared: memory ran out, or a record is
+/// wrong.
 fn unchecked(fault: TextFault) -> SubmissionEnding
     ensures { result ≡ unchecked fault }
 {

@@ -1,4 +1,5 @@
-//! The ending of a submission by the table of faults.
+//! The ending of a submission by the table of faults, for each form of `SubmissionEnding`. What was refused or not
+//! answered is told by `told_transfer.rt`.
 
 ghost use Rattle.std.specs.Prelude.{◌≡◌, Some, decimal};
 ghost use Rattle.droid_cmd_submit.specs.BegunOptions.{begun_words};
@@ -19,7 +20,8 @@ use std::fs::Files;
 use std::io::ErrorKind;
 
 impl SubmissionEnding {
-    /// Returns the ending by the table, given the options of the command.
+    /// Returns the ending by the table: exit status, name and sentence of the fault, and what it is about. The options
+    /// have the paths and the port; `rt` looks again at a folder or file that could not be opened.
     pub fn told<'a, R: Files + AllocGlobal>(self, rt: &R, options: SubmitOptions<'a>) -> Ending<'a>
         ensures { Tells self options.entry (told result) }
     {
@@ -69,7 +71,8 @@ impl SubmissionEnding {
     }
 }
 
-/// Returns the path of a file that a submission writes.
+/// Returns the path of a file that a submission writes, or `the export` if none is named. That is so only of the CSV
+/// that a page is made of.
 fn path_of<'a>(options: SubmitOptions<'a>, file: OutputFile) -> &'a str
     ensures { result.now ≡ path_of options.entry file }
 {
@@ -81,7 +84,8 @@ fn path_of<'a>(options: SubmitOptions<'a>, file: OutputFile) -> &'a str
     path.unwrap_or("the export")
 }
 
-/// Returns the ending where no connection was ever made.
+/// Returns the ending where no connection was ever made: nobody listens on the port, or another cause, which is
+/// printed. No clause holds the words of such a cause: they are the system's, and no test has one.
 fn told_no_connection<'a>(cause: ErrorKind, options: SubmitOptions<'a>) -> Ending<'a>
     ensures { told result ≡ told_no_connection cause options.entry.to.port }
 {
@@ -92,7 +96,8 @@ fn told_no_connection<'a>(cause: ErrorKind, options: SubmitOptions<'a>) -> Endin
     }
 }
 
-/// Returns the row where the folder could not be counted.
+/// Returns the row where the folder could not be counted, before any request. What ends the walk later is a
+/// `SubmissionFault`, which `told_transfer.rt` tells.
 fn walk_row(fault: WalkFault) -> Row
     ensures { said result ≡ walk_row fault }
 {
@@ -105,7 +110,7 @@ fn walk_row(fault: WalkFault) -> Row
     }
 }
 
-/// Returns the ending where the submission was begun with other options.
+/// Returns the ending where the submission was begun with other options, with their words.
 fn told_other_options<'a>(begun: BegunOptions, options: SubmitOptions<'a>) -> Ending<'a>
     ensures { told result ≡ detailed table.other_options (of_port options.entry.to.port) (Some (begun_words begun)) }
 {
@@ -116,7 +121,7 @@ fn told_other_options<'a>(begun: BegunOptions, options: SubmitOptions<'a>) -> En
     )
 }
 
-/// Returns the ending where the profile's CSV has too many bytes.
+/// Returns the ending where the profile's CSV has too many bytes, with their number.
 fn told_long_export<'a>(total: u64, options: SubmitOptions<'a>) -> Ending<'a>
     ensures { told result ≡ detailed table.long_export (of_port options.entry.to.port) (Some (decimal total)) }
 {
@@ -127,7 +132,8 @@ fn told_long_export<'a>(total: u64, options: SubmitOptions<'a>) -> Ending<'a>
     )
 }
 
-/// Returns the ending where the CSV that came is that of no profile.
+/// Returns the ending where the CSV that came is that of no profile: record `number` is the first that is wrong, in the
+/// column at place `column`, counted from 0.
 fn told_wrong_export<'a>(number: u64, column: u8, options: SubmitOptions<'a>) -> Ending<'a>
     ensures { told result ≡ told_wrong_export number column options.entry }
 {

@@ -1,4 +1,4 @@
-//! What the options of `submit` become.
+//! What the options of `submit` become: settings of the walk and of the connection, the name, the client.
 
 ghost use Rattle.std.specs.Prelude.{◌≡◌, IfOk, option_map};
 ghost use Rattle.droid_remote.specs.SenderCalls.{IsFresh};
@@ -12,7 +12,7 @@ use droid_terminal::Verbosity;
 use droid_upload::Options;
 use std::alloc::{AllocError, Global};
 
-/// Returns how the tree is submitted.
+/// Returns how the tree is submitted: the options that reach its requests, and whether finished files are read again.
 pub(crate) fn walk_options(options: SubmitOptions<'_>) -> Options
     ensures { result ≡ walk_options options.entry }
 {
@@ -25,7 +25,7 @@ pub(crate) fn walk_options(options: SubmitOptions<'_>) -> Options
     }
 }
 
-/// Returns where to connect to, and how long to wait.
+/// Returns where to connect to, how many seconds to wait, and whether waiting is printed.
 pub(crate) fn connection_of(to: Destination, verbosity: Verbosity) -> LoopbackSettings
     ensures { result ≡ connection_of to verbosity }
 {
@@ -37,7 +37,7 @@ pub(crate) fn connection_of(to: Destination, verbosity: Verbosity) -> LoopbackSe
     }
 }
 
-/// Returns the name of the submission. `absolute` is the folder's absolute path.
+/// Copies the name of the submission. `absolute` is the folder's absolute path. Fails only if memory runs out.
 pub(crate) fn submission_name(
     alloc: Global,
     options: SubmitOptions<'_>,
@@ -58,7 +58,8 @@ fn name_of<'a>(name: Option<&'a str>, absolute: &'a str) -> &'a str
     }
 }
 
-/// Makes the client of a submission of this name.
+/// Makes the client of a submission of this name, by the number that `--client` gives. It connects with its first
+/// request.
 pub(crate) fn sender_of<C: Connection>(
     alloc: Global,
     connection: C,

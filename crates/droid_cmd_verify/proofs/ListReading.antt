@@ -10,9 +10,9 @@ use Rattle.droid_lists.specs.declared.list_form.ListForm.TheVariants.{Profile, C
 use Rattle.droid_lists.specs.declared.list_content.Listed.{Listed}
 use Rattle.droid_lists.specs.declared.list_content.UnreadList.{UnreadList}
 use Rattle.droid_lists.specs.declared.list_content.UnreadList.TheVariants as unread
-use Rattle.droid_cmd_verify.specs.Lists.{AreRows, GivesLists, ListsSay, may_measure}
+use Rattle.droid_cmd_verify.specs.Lists.{AreRows, GivesComparedList, IsComparedList, may_measure}
 use Rattle.droid_cmd_verify.specs.VerifyEndings.{unlisted}
-use Rattle.droid_cmd_verify.specs.declared.lists.Lists.{Lists}
+use Rattle.droid_cmd_verify.specs.declared.lists.ComparedList.{ComparedList}
 use Rattle.droid_cmd_verify.specs.declared.verify_ending.VerifyEnding.{VerifyEnding}
 use Rattle.droid_cmd_verify.specs.declared.verify_ending.VerifyEnding.TheVariants.{Same, Differing, NoFolder, Unopened, NoList, HasHashes, NoFormats, NoMemory, Numbers, Twice, Unwritten}
 
@@ -23,8 +23,8 @@ rows_are true (Checksum form) text rows fits has = cc
 rows_are false form text rows fits has = tt
 
 module _ (in_bag : Bool) (how : Measure) (identify : Bool) (text : List ℕ) where
-  pub says_by : (listed : Listed) (rows : Vec FormatRow Global) (result : Result Lists VerifyEnding) → ListSays in_bag identify text (Ok listed) → HasFormats identify (form_of in_bag text) text rows.items
-      → may_measure how listed.hash ≡ true → GivesLists how identify listed rows result → ListsSay in_bag how identify text result
+  pub says_by : (listed : Listed) (rows : Vec FormatRow Global) (result : Result ComparedList VerifyEnding) → ListSays in_bag identify text (Ok listed) → HasFormats identify (form_of in_bag text) text rows.items
+      → may_measure how listed.hash ≡ true → GivesComparedList how identify listed rows result → IsComparedList in_bag how identify text result
   says_by listed rows (Ok lists) says has may gives =
       let fits : (identify && names_files_alone (form_of in_bag text)) ≡ false = ap (λ (form : ListForm). identify && names_files_alone form) (sym says.0) ∙ gives.3 in
       let are = subst (AreRows identify text) (sym gives.1) (rows_are identify (form_of in_bag text) text rows fits has) in
@@ -41,7 +41,7 @@ module _ (in_bag : Bool) (how : Measure) (identify : Bool) (text : List ℕ) whe
   says_by listed rows (Err Twice) says has may gives = gives
   says_by listed rows (Err Unwritten) says has may gives = gives
 
-  pub unlisted_says : (fault : UnreadList) → ListSays in_bag identify text (Err fault) → ListsSay in_bag how identify text (Err (unlisted fault))
+  pub unlisted_says : (fault : UnreadList) → ListSays in_bag identify text (Err fault) → IsComparedList in_bag how identify text (Err (unlisted fault))
   unlisted_says unread.Memory says = tt
   unlisted_says (unread.Profile fault) says = says
   unlisted_says (unread.Manifest fault) says = says

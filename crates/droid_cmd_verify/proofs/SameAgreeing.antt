@@ -23,7 +23,7 @@ use Rattle.droid_cmd_verify.proofs.Agreeing.{agree, all_readable}
 use Rattle.droid_cmd_verify.specs.Outcomes.{IsOutcome, WritesOutcome, changes_by}
 use Rattle.droid_cmd_verify.specs.Verifications.{FindsAgreement, Finishes, Read, Reported, Unread, Unreported, VerifiesTree, without_report}
 use Rattle.droid_cmd_verify.specs.VerifyEndings.{unchecked}
-use Rattle.droid_cmd_verify.specs.declared.lists.Lists.{Lists}
+use Rattle.droid_cmd_verify.specs.declared.lists.ComparedList.{ComparedList}
 use Rattle.droid_cmd_verify.specs.declared.outcome.Outcome.{Outcome}
 use Rattle.droid_cmd_verify.specs.declared.verification.Verified.{Verified}
 use Rattle.droid_cmd_verify.specs.declared.verify_ending.VerifyEnding.{VerifyEnding}
@@ -48,7 +48,7 @@ fault_differs faults.Memory is = cc
 fault_differs faults.Numbers is = cc
 fault_differs (faults.Twice same) is = cc
 
-module _ {T W O : Type 0} (observes : T → Observation → T → Type 0) (hears : W → Heard → W → Type 0) (contents : O → Option (List ℕ)) (registry : Contents) (options : Options) (lists : Lists)
+module _ {T W O : Type 0} (observes : T → Observation → T → Type 0) (hears : W → Heard → W → Type 0) (contents : O → Option (List ℕ)) (registry : Contents) (options : Options) (lists : ComparedList)
     (old new : Profiler T (Recorder W) ItemKeeper) (before after : O) (verified : Verified) (same : verified.ending ≡ Same) (how : lists.how ≡ Hashes) where
   abbrev Checks : Checked → Type 0
   Checks checked = ChecksTree observes hears registry (options_for options lists.listed.hash) (names_files_alone lists.listed.form) (is_some lists.rows) lists.listed.items checked old new

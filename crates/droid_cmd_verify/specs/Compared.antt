@@ -9,45 +9,45 @@ use Rattle.droid_fixity.specs.declared.pair.FilePair.{FilePair}
 use Rattle.droid_cmd_verify.specs.declared.measure.Measure.{Measure}
 use Rattle.droid_cmd_verify.specs.declared.measure.Measure.TheVariants.{Hashes, Sizes, Moments}
 
--- modification times are compared
+-- whether modification times are compared
 abbrev pub by_moments : Measure → Bool
 by_moments Hashes = false
 by_moments Sizes = false
 by_moments Moments = true
 
--- hashes are compared
+-- whether hashes are compared
 abbrev pub by_hashes : Measure → Bool
 by_hashes Hashes = true
 by_hashes Sizes = false
 by_hashes Moments = false
 
--- both items are there and have a hash of one kind
+-- whether both items are there and have a hash of one kind
 abbrev pub hashed_by : Option Item → Option Item → Bool
 hashed_by (Some a) (Some b) = both_hashed a b
 hashed_by (Some a) None = false
 hashed_by None b = false
 
--- both items are there and have a length
+-- whether both items are there and have a length
 abbrev pub sized_by : Option Item → Option Item → Bool
 sized_by (Some a) (Some b) = both_sized a b
 sized_by (Some a) None = false
 sized_by None b = false
 
--- both items are there and differ in what both have
+-- whether both items are there and differ in what both have
 abbrev pub differ_by : Option Item → Option Item → Bool
 differ_by (Some a) (Some b) = is_any (changes_between a b)
 differ_by (Some a) None = false
 differ_by None b = false
 
--- both files of a pair have a hash of one kind
+-- whether both files of a pair have a hash of one kind
 abbrev pub is_hashed : List Item → List Item → FilePair → Bool
 is_hashed listed found pair = hashed_by (slice_get listed pair.listed) (slice_get found pair.found)
 
--- both files of a pair have a length
+-- whether both files of a pair have a length
 abbrev pub is_sized : List Item → List Item → FilePair → Bool
 is_sized listed found pair = sized_by (slice_get listed pair.listed) (slice_get found pair.found)
 
--- both files of a pair differ in what both have
+-- whether both files of a pair differ in what both have
 abbrev pub differs : List Item → List Item → FilePair → Bool
 differs listed found pair = differ_by (slice_get listed pair.listed) (slice_get found pair.found)
 

@@ -35,23 +35,23 @@ abbrev pub IsSilentAt : Measure → List Item → List Item → List ℕ → Dif
 IsSilentAt how listed found path difference =
     is_reported how found difference ≡ true → ¬ (path_of listed found difference ≡ path)
 
--- what is not about formats
+-- the finding of this kind at this path, which is not about formats
 abbrev pub finding_at : List ℕ → Kind → Finding
 finding_at path kind = record { path = path; kind = kind; formats = []; found_formats = [] }
 
--- a difference, at the path of the list, if the list has it
+-- the finding of a difference, at the path of the list, if the list has it
 abbrev pub difference_at : List Item → List Item → Difference → Finding
 difference_at listed found difference = finding_at (path_of listed found difference) (Differs difference)
 
--- a file that was not compared, at its path
+-- the finding of a file that was not compared, at its path
 abbrev pub unchecked_at : List Item → FilePair → Finding
 unchecked_at listed pair = finding_at (path_at listed pair.listed) (Unchecked pair)
 
--- an unreadable entry
+-- the finding of an unreadable entry, at its path
 abbrev pub unreadable_at : SkippedEntry → Finding
 unreadable_at entry = finding_at entry.path (Unreadable entry.why)
 
--- a file with other formats
+-- the finding of a file with other formats, at its path
 abbrev pub format_at : FormatChange → Finding
 format_at change = record { path = change.path; kind = Formats; formats = change.listed; found_formats = change.found }
 

@@ -15,12 +15,12 @@ use Rattle.droid_lists.specs.declared.list_form.ListForm.{ListForm}
 use Rattle.droid_lists.specs.declared.list_form.ListForm.TheVariants.{Profile, Checksum}
 use Rattle.droid_lists.specs.declared.list_content.Listed.{Listed}
 use Rattle.droid_fixity.specs.declared.checksum_lists.form.ManifestForm.TheVariants as forms
-use Rattle.droid_cmd_verify.specs.declared.lists.Lists.{Lists}
+use Rattle.droid_cmd_verify.specs.declared.lists.ComparedList.{ComparedList}
 use Rattle.droid_cmd_verify.specs.declared.verify_ending.VerifyEnding.{VerifyEnding}
 use Rattle.droid_cmd_verify.specs.declared.verify_ending.VerifyEnding.TheVariants.{HasHashes, NoList, NoFormats}
 use Rattle.droid_cmd_verify.specs.declared.verify_ending.VerifyEnding.TheVariants.{NoMemory}
 
--- by what files are compared
+-- by what files are compared, as `--quick` and `--sizes-only` say
 abbrev pub measure_of : Bool → Bool → Measure
 measure_of true sizes_only = Moments
 measure_of false true = Sizes
@@ -53,22 +53,24 @@ AreRows false text (Some rows) = ⊥
 AreRows false text None = ⊤
 
 -- a list comes with its rows, if formats are compared; a list that names files alone has none for that
-abbrev pub GivesLists : Measure → Bool → Listed → Vec FormatRow Global → Result Lists VerifyEnding → Type 0
-GivesLists how identify listed rows (Ok lists) =
+abbrev pub GivesComparedList : Measure → Bool → Listed → Vec FormatRow Global → Result ComparedList VerifyEnding
+    → Type 0
+GivesComparedList how identify listed rows (Ok lists) =
     (lists.listed ≡ listed) × (lists.rows ≡ (if identify then Some rows else None)) × (lists.how ≡ how)
     × ((identify && names_files_alone listed.form) ≡ false)
-GivesLists how identify listed rows (Err NoFormats) = (identify ≡ true) × (names_files_alone listed.form ≡ true)
-GivesLists how identify listed rows (Err _) = ⊥
+GivesComparedList how identify listed rows (Err NoFormats) = (identify ≡ true) × (names_files_alone listed.form ≡ true)
+GivesComparedList how identify listed rows (Err _) = ⊥
 
--- What comes of a text: the list that it is, with its rows; or why it is none. Sizes alone are not compared where it
--- has a hash.
-abbrev pub ListsSay : Bool → Measure → Bool → List ℕ → Result Lists VerifyEnding → Type 0
-ListsSay in_bag how identify text (Ok lists) =
+-- What `read_lists` makes of a text: the list that it is (`ListSays` of `droid_lists`), with its rows and its measure;
+-- or why it is none, or may not be compared so. Sizes alone are not compared where it has a hash.
+abbrev pub IsComparedList : Bool → Measure → Bool → List ℕ → Result ComparedList VerifyEnding → Type 0
+IsComparedList in_bag how identify text (Ok lists) =
     ListSays in_bag identify text (Ok lists.listed) × AreRows identify text lists.rows × (lists.how ≡ how)
     × (may_measure how lists.listed.hash ≡ true)
-ListsSay in_bag how identify text (Err HasHashes) =
+IsComparedList in_bag how identify text (Err HasHashes) =
     (listed : Listed) × ListSays in_bag identify text (Ok listed) × (may_measure how listed.hash ≡ false)
-ListsSay in_bag how identify text (Err (NoList fault)) = ListSays in_bag identify text (Err fault)
-ListsSay in_bag how identify text (Err NoFormats) = (identify ≡ true) × (names_files_alone (form_of in_bag text) ≡ true)
-ListsSay in_bag how identify text (Err NoMemory) = ⊤
-ListsSay in_bag how identify text (Err _) = ⊥
+IsComparedList in_bag how identify text (Err (NoList fault)) = ListSays in_bag identify text (Err fault)
+IsComparedList in_bag how identify text (Err NoFormats) =
+    (identify ≡ true) × (names_files_alone (form_of in_bag text) ≡ true)
+IsComparedList in_bag how identify text (Err NoMemory) = ⊤
+IsComparedList in_bag how identify text (Err _) = ⊥

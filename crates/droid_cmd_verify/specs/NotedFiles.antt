@@ -15,7 +15,7 @@ use Rattle.droid_lists.specs.Nodes.{item_of}
 use Rattle.droid_core_spec.specs.Conditions.{is_moment}
 use Rattle.droid_cmd_verify.specs.declared.noted_files.NotedFiles.{NotedFiles}
 
--- a regular file
+-- whether an entry is a regular file
 abbrev pub is_regular : EntryKind → Bool
 is_regular kinds.Folder = false
 is_regular kinds.File = true
@@ -39,7 +39,7 @@ items_of_entry path entry = if is_noted entry then noted_item path entry ∷ [] 
 abbrev pub items_listed : List ℕ → List FolderEntry → List Item
 items_listed path entries = flat_map (items_of_entry path) entries
 
--- an entry that is left to the walk
+-- whether an entry is left to the walk
 abbrev pub is_left : FolderEntry → Bool
 is_left entry = not (is_noted entry)
 

@@ -26,7 +26,7 @@ use Rattle.droid_frame.specs.declared.hash_kind.HashKind.TheVariants.{Nothing}
 use Rattle.droid_cmd_verify.specs.Outcomes.{IsOutcome, WritesOutcome}
 use Rattle.droid_cmd_verify.specs.VerifyEndings.{unchecked}
 use Rattle.droid_cmd_verify.specs.WalkOptions.{walk_options}
-use Rattle.droid_cmd_verify.specs.declared.lists.Lists.{Lists}
+use Rattle.droid_cmd_verify.specs.declared.lists.ComparedList.{ComparedList}
 use Rattle.droid_cmd_verify.specs.declared.outcome.Outcome.{Outcome}
 use Rattle.droid_cmd_verify.specs.declared.verification.Verified.{Verified}
 use Rattle.droid_cmd_verify.specs.declared.verify_ending.VerifyEnding.{VerifyEnding}
@@ -48,7 +48,7 @@ pub data Finishes {O : Type 0} (contents : O → Option (List ℕ)) (how : Measu
       → Finishes contents how rows formats checked unreadable old new verified
 
 module _ {T W O : Type 0} (observes : T → Observation → T → Type 0) (hears : W → Heard → W → Type 0)
-    (contents : O → Option (List ℕ)) (registry : Contents) (options : Options) (lists : Lists) where
+    (contents : O → Option (List ℕ)) (registry : Contents) (options : Options) (lists : ComparedList) where
   -- A tree that was read: compared to its end and reported; or the comparison ended early, and nothing was written.
   pub data VerifiesTree (old new : Profiler T (Recorder W) ItemKeeper) (before after : O) (verified : Verified)
       : Type 0 where
@@ -113,7 +113,7 @@ module _ {T W O : Type 0} (observes : T → Observation → T → Type 0) (hears
 -- The tree was listed if moments are compared, and otherwise read, with the limit and the matching of the options where
 -- formats are compared.
 abbrev pub VerifiesAs : {T W O : Type 0} → (T → Observation → T → Type 0) → (W → Heard → W → Type 0)
-    → (O → Option (List ℕ)) → Contents → VerifyOptions → Lists → T → W → O → O → Verified → Type 0
+    → (O → Option (List ℕ)) → Contents → VerifyOptions → ComparedList → T → W → O → O → Verified → Type 0
 VerifiesAs observes hears contents registry options lists tree watcher before after verified =
     let walk = walk_options (is_some lists.rows) options.limit options.match_all in
     MatchBool (by_moments lists.how)

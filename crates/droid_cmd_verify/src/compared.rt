@@ -37,7 +37,7 @@ pub fn compared_amount(how: Measure, checked: &Checked) -> Amount
     with_moved(pairs, found, checked.differences.as_slice())
 }
 
-/// Counts the files of both sides that were compared.
+/// Counts the files that both sides have under one path, as far as they were compared.
 fn amount_of_pairs(how: Measure, listed: &[Item], found: &[Item], pairs: &[FilePair]) -> Amount
     ensures files { result.files ≡ files_from 0 (filter_map (compared.compared_at how listed.now found.now) pairs.now) }
     ensures bytes { result.bytes
@@ -50,7 +50,7 @@ fn amount_of_pairs(how: Measure, listed: &[Item], found: &[Item], pairs: &[FileP
     amount
 }
 
-/// Counts the files that moved, too.
+/// Counts the files that moved, too, on top of the amount before. Other differences add nothing.
 fn with_moved(before: Amount, found: &[Item], differences: &[Difference]) -> Amount
     ensures files { result.files ≡ files_from before.files (filter_map compared.moved_to differences.now) }
     ensures bytes { result.bytes ≡ bytes_from found.now before.bytes (filter_map compared.moved_to differences.now) }
@@ -62,7 +62,7 @@ fn with_moved(before: Amount, found: &[Item], differences: &[Difference]) -> Amo
     amount
 }
 
-/// Counts the file at a place, if there is one.
+/// Counts the file at a place among the items found, if there is a place. A length that is not known counts as 0.
 fn with_place(amount: Amount, found: &[Item], place: Option<usize>) -> Amount
     ensures files { result.files ≡ files_from amount.files (option_to_list place) }
     ensures bytes { result.bytes ≡ bytes_from found.now amount.bytes (option_to_list place) }
@@ -86,7 +86,7 @@ fn length_at(items: &[Item], place: usize) -> u64
     }
 }
 
-/// Returns the place of a file of both sides, if it was compared.
+/// Returns the place, among the items found, of a file of both sides, or `None` if it was not compared.
 fn compared_at(how: Measure, listed: &[Item], found: &[Item], pair: FilePair) -> Option<usize>
     ensures { result ≡ compared.compared_at how listed.now found.now pair }
 {
@@ -97,7 +97,7 @@ fn compared_at(how: Measure, listed: &[Item], found: &[Item], pair: FilePair) ->
     }
 }
 
-/// Returns the place of a file that moved.
+/// Returns the place, among the items found, of a file that moved; `None` for any other difference.
 fn moved_to(difference: Difference) -> Option<usize>
     ensures { result ≡ compared.moved_to difference }
 {
@@ -118,7 +118,7 @@ pub(crate) fn is_unchecked(how: Measure, listed: &[Item], found: &[Item], pair: 
     by_hashes(how) && !is_hashed(listed, found, pair) && !differs(listed, found, pair)
 }
 
-/// Returns whether a file of both sides was compared.
+/// Returns whether a file of both sides was compared: by their hashes, if that is asked for, and else by their sizes.
 fn is_compared(how: Measure, listed: &[Item], found: &[Item], pair: FilePair) -> bool
     ensures { result ≡ compared.is_compared how listed.now found.now pair }
 {
@@ -143,7 +143,7 @@ fn is_sized(listed: &[Item], found: &[Item], pair: FilePair) -> bool
     sized_by(listed.get(pair.listed), found.get(pair.found))
 }
 
-/// Returns whether the two sides of a pair differ in what both have.
+/// Returns whether the two sides of a pair differ in what both have: kind, size or hash. The moment does not count.
 fn differs(listed: &[Item], found: &[Item], pair: FilePair) -> bool
     ensures { result ≡ compared.differs listed.now found.now pair }
 {
@@ -170,7 +170,7 @@ fn sized_by(item: Option<&Item>, other: Option<&Item>) -> bool
     }
 }
 
-/// Returns whether both items are there and differ in what both have.
+/// Returns whether both items are there and differ in what both have, as `changes_to` of `droid_frame` says.
 fn differ_by(item: Option<&Item>, other: Option<&Item>) -> bool
     ensures { result ≡ compared.differ_by (option_copied item.entry) (option_copied other.entry) }
 {

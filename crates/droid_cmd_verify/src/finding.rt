@@ -1,4 +1,4 @@
-//! What is reported of a tree beside a list.
+//! Finds what is reported of a tree beside a list: gathers it from four sources, and sorts it by path.
 
 ghost use Rattle.std.specs.Prelude.{◌≡◌, ◌++◌, [], ◌∷◌, IfOk, OnOk, filter, map};
 ghost use Rattle.std.specs.Ordering.{nat_cmp};
@@ -48,7 +48,9 @@ pub enum Kind {
 
 /// Returns what is reported, in order of path: the differences, the files that were not compared, all that is
 /// unreadable, and the files with other formats. Differences of the moment alone are reported only if moments are
-/// compared, and of files. Files that were not compared are reported only if they are to be compared by hashes.
+/// compared, and of files. Files that were not compared are reported only if they are to be compared by hashes. Where
+/// two are at one path, as other bytes and other formats, no clause and no test says which comes first. Fails only if
+/// memory runs out, as all here; nothing is promised of the findings then, and they are dropped.
 pub fn findings_of(
     alloc: Global,
     how: Measure,
@@ -79,14 +81,14 @@ pub fn findings_of(
     Ok(findings)
 }
 
-/// Compares the paths of two findings.
+/// Compares the paths of two findings, byte by byte, for the order of the report.
 fn order_of(first: &Finding, second: &Finding) -> Ordering
     ensures { result ≡ slice_cmp nat_cmp first.now.path second.now.path }
 {
     first.path.as_slice().cmp(second.path.as_slice())
 }
 
-/// Appends the differences that are reported.
+/// Appends the differences that are reported, in their order.
 fn add_differences(
     alloc: Global,
     how: Measure,
@@ -131,7 +133,7 @@ fn add_difference(
     Ok(())
 }
 
-/// Returns a finding that is not about formats.
+/// Returns a finding of this kind at this path that is not about formats: its formats are empty.
 fn finding_of(alloc: Global, path: &[u8], kind: Kind) -> Result<Finding, AllocError>
     ensures { IfOk result (λ finding. finding ≡ finding_at path.now kind) }
 {
@@ -146,7 +148,7 @@ fn finding_of(alloc: Global, path: &[u8], kind: Kind) -> Result<Finding, AllocEr
     })
 }
 
-/// Returns whether a difference is reported.
+/// Returns whether a difference is reported: each is, but another moment only of a file, and if moments are compared.
 fn is_reported(how: Measure, found: &[Item], difference: Difference) -> bool
     ensures { result ≡ is_reported how found.now difference }
 {
@@ -159,7 +161,7 @@ fn is_reported(how: Measure, found: &[Item], difference: Difference) -> bool
     }
 }
 
-/// Returns whether the item at this place is a file.
+/// Returns whether the item at this place is a file. False if the place is behind the end.
 fn is_file_at(items: &[Item], place: usize) -> bool
     ensures { result ≡ is_file_at items.now place }
 {
@@ -169,7 +171,7 @@ fn is_file_at(items: &[Item], place: usize) -> bool
     }
 }
 
-/// Appends the files that were not compared, if they are reported.
+/// Appends those of these files, which both sides have, that were not compared, if such are reported.
 fn add_unchecked(
     alloc: Global,
     how: Measure,
@@ -189,7 +191,7 @@ fn add_unchecked(
     Ok(())
 }
 
-/// Appends a file, if it was not compared.
+/// Appends a file that both sides have, if it was not compared and such are reported.
 fn add_pair(
     alloc: Global,
     how: Measure,
@@ -211,7 +213,7 @@ fn add_pair(
     Ok(())
 }
 
-/// Appends all that is unreadable.
+/// Appends all that is unreadable, with the reason of each.
 fn add_unreadable(
     alloc: Global,
     findings: &mut Vec<Finding>,
@@ -225,7 +227,7 @@ fn add_unreadable(
     Ok(())
 }
 
-/// Appends that an entry could not be read.
+/// Appends that an entry could not be read, at its path and for its reason.
 fn add_entry(
     alloc: Global,
     findings: &mut Vec<Finding>,
@@ -238,7 +240,7 @@ fn add_entry(
     Ok(())
 }
 
-/// Appends the files with other formats.
+/// Appends the files with other formats, in their order.
 fn add_changes(
     alloc: Global,
     findings: &mut Vec<Finding>,
@@ -252,7 +254,7 @@ fn add_changes(
     Ok(())
 }
 
-/// Appends that a file has other formats.
+/// Appends that a file has other formats: those of the list, and those that were found.
 fn add_change(
     alloc: Global,
     findings: &mut Vec<Finding>,
@@ -272,7 +274,7 @@ fn add_change(
     Ok(())
 }
 
-/// Returns the path by which a difference is sorted.
+/// Returns the path by which a difference is sorted: that of the list, if the list has it.
 fn path_of<'a>(listed: &'a [Item], found: &'a [Item], difference: Difference) -> &'a [u8]
     ensures { result.now ≡ path_of listed.entry.now found.entry.now difference }
 {

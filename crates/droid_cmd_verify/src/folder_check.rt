@@ -1,10 +1,12 @@
-//! The comparison of a folder of this machine. `verify_as` is proved. What is here joins it to the machine's files,
-//! mostly without contracts, and is tested by `tests/program/folders` (`verify_*.py`).
+//! The command `verify` for a folder of this machine: reads its list, finds the folder that the list names, and prints
+//! the summary. `verify_as` is proved. What is here joins it to the machine's files, mostly without contracts, and is
+//! tested in `tests/program/folders`: lists, bags and folders by `verify_lists.py`, what is printed beside the CSV by
+//! `verify_unchecked.py`; and in `tests/memory` by `commands_refused.py`, where memory runs out.
 
 ghost use Rattle.std.specs.Prelude.{◌≡◌, ◌++◌, IfOk, codes, string_bytes};
 ghost use Rattle.droid_cmd_verify.specs.Lists.{is_identified, listed_folder};
 
-use crate::lists::{Lists, read_lists};
+use crate::lists::{ComparedList, read_lists};
 use crate::measure::{Measure, measure_of};
 use crate::verification::{ClearLine, Verified, verify_as};
 use crate::verify_ending::VerifyEnding;
@@ -27,14 +29,16 @@ use std::{fs, io};
 type FolderTree<'a, R> = Folder<System<'a, R>>;
 
 impl<R: Eprint + Clock> ClearLine for Reporter<'_, R> {
+    /// Removes it by [`Reporter::clear`], which does so on a terminal alone. No test runs `verify` on one.
     fn clear_line(&self) {
         self.clear();
     }
 }
 
 /// Compares a folder of this machine with a list, and writes what differs to standard output as a CSV. By which
-/// registry, and what is skipped, is printed on standard error. Nothing in the folder is read before the list was.
-/// Formats are compared if that is asked for and files are read; then there has to be a registry.
+/// registry, and what is skipped, is printed on standard error. Nothing in the folder is read before the list was, but
+/// that it is a folder is seen first. Formats are compared if that is asked for and files are read; then there has to
+/// be a registry.
 pub fn verify_folder<R>(
     rt: &R,
     registry: Option<&NamedRegistry<'_>>,
@@ -61,12 +65,12 @@ where
     }
 }
 
-/// Compares the folder, by a registry without formats.
+/// Compares the folder where no registry is given, since formats are not compared: the walk gets one without formats.
 fn verify_without<R>(
     rt: &R,
     options: VerifyOptions<'_>,
     verbosity: Verbosity,
-    lists: Lists,
+    lists: ComparedList,
 ) -> VerifyEnding
 where
     R: Files<File = File> + Env + Clock + Print + Eprint + AllocGlobal,
@@ -77,15 +81,16 @@ where
     }
 }
 
-/// Returns whether formats are compared.
+/// Returns whether formats are compared: that is asked for, and files are read.
 fn is_identified(options: VerifyOptions<'_>) -> bool
     ensures { result ≡ is_identified options.entry }
 {
     options.identify && !options.quick
 }
 
-/// Reads the file of the list, and what it says. An unreadable file ends the command.
-fn lists_of<R>(rt: &R, options: VerifyOptions<'_>) -> Result<Lists, VerifyEnding>
+/// Reads the file of the list whole, and what it says. Fails with the ending of the command: memory ran out, the file
+/// could not be opened or read, or `read_lists` refused it.
+fn lists_of<R>(rt: &R, options: VerifyOptions<'_>) -> Result<ComparedList, VerifyEnding>
 where
     R: Files<File = File> + AllocGlobal,
 {
@@ -103,7 +108,8 @@ where
     }
 }
 
-/// Returns whether a folder is a bag: it has a file `bagit.txt` (RFC 8493, section 2.1.1).
+/// Returns whether a folder is a bag: it has a file `bagit.txt` (RFC 8493, section 2.1.1). One that can't be looked at
+/// counts as none. Fails only if memory runs out.
 fn is_bag<R: Files + AllocGlobal>(rt: &R, folder: &str) -> Result<bool, AllocError> {
     let path = bag_file(rt.alloc(), folder)?;
     match fs::metadata(rt, path.as_str()) {
@@ -112,20 +118,21 @@ fn is_bag<R: Files + AllocGlobal>(rt: &R, folder: &str) -> Result<bool, AllocErr
     }
 }
 
-/// Returns the path of the file that makes a folder a bag.
+/// Returns the path of the file that makes a folder a bag. Fails only if memory runs out.
 fn bag_file(alloc: Global, folder: &str) -> Result<String, AllocError>
     ensures { IfOk result (λ path. string_bytes path ≡ folder.now ++ codes "/bagit.txt") }
 {
     format!(in alloc; "{folder}/bagit.txt")
 }
 
-/// Compares the folder, and reports what differs.
+/// Compares the folder that the list names, and reports what differs: the CSV to standard output, the rest to standard
+/// error.
 fn verify_with<R>(
     rt: &R,
     registry: &Registry,
     options: VerifyOptions<'_>,
     verbosity: Verbosity,
-    lists: Lists,
+    lists: ComparedList,
 ) -> VerifyEnding
 where
     R: Files<File = File> + Env + Clock + Print + Eprint + AllocGlobal,
@@ -143,8 +150,9 @@ where
     }
 }
 
-/// Says before the walk, which may take long, that no file can be compared by its hash.
-fn warn_of_no_hash<R: Eprint>(rt: &R, options: VerifyOptions<'_>, lists: &Lists) {
+/// Says on standard error before the walk, which may take long, that no file can be compared by its hash. Says nothing
+/// with `--quiet`. `test_no_hash_at_all` of `verify_unchecked.py` holds when it is said, not that this is before.
+fn warn_of_no_hash<R: Eprint>(rt: &R, options: VerifyOptions<'_>, lists: &ComparedList) {
     if !options.quiet && has_no_hash(lists) {
         let list = Shown(options.against.as_bytes());
         let _ = eprintln!(rt;
@@ -154,7 +162,7 @@ fn warn_of_no_hash<R: Eprint>(rt: &R, options: VerifyOptions<'_>, lists: &Lists)
 }
 
 /// Returns whether files are to be compared by their hashes, and the list has files and no hash.
-fn has_no_hash(lists: &Lists) -> bool {
+fn has_no_hash(lists: &ComparedList) -> bool {
     lists.how == Measure::Hashes
         && lists.listed.hash == HashKind::Nothing
         && has_file(lists.listed.items.as_slice())
@@ -165,7 +173,7 @@ fn has_file(items: &[Item]) -> bool {
     items.iter().any(|item| item.kind == NodeKind::File)
 }
 
-/// Returns the folder whose files the list names.
+/// Returns the folder whose files a list of this form names, ready to be walked. Fails only if memory runs out.
 fn folder_of<'a, R>(
     rt: &'a R,
     folder: &str,
@@ -178,7 +186,8 @@ where
     Folder::new(rt.alloc(), System::new(rt), path.as_str())
 }
 
-/// Returns the path of the folder whose files a list names: for the manifest of a bag, the folder `data` of it.
+/// Returns the path of the folder whose files a list of this form names: for the manifest of a bag, the folder `data`
+/// of it. Fails only if memory runs out.
 fn listed_folder(alloc: Global, folder: &str, form: ListForm) -> Result<String, AllocError>
     ensures { IfOk result (λ path. string_bytes path ≡ listed_folder folder.now form) }
 {
@@ -190,7 +199,8 @@ fn listed_folder(alloc: Global, folder: &str, form: ListForm) -> Result<String, 
     }
 }
 
-/// Prints the summary, if there is a report, and returns the ending.
+/// Prints the summary to standard error, if there is a report and that is not to be quiet, and returns the ending. The
+/// clause holds the ending; what is printed, `verify_unchecked.py` and `test_quiet` of `verify_lists.py`.
 fn print_summary<R: Eprint>(rt: &R, verbosity: Verbosity, verified: Verified) -> VerifyEnding
     ensures { result ≡ verified.ending }
 {

@@ -1,4 +1,4 @@
-//! Keeps the items of a tree's records, and the formats of its files.
+//! A recipient of a walk that keeps the items of a tree's records, and the formats of its files.
 
 ghost use Rattle.std.specs.Prelude.{◌≡◌, ◌++◌, [], ◌∷◌, IfOk, IsTrue, OnErr, OnOk};
 ghost use Rattle.droid_core_spec.specs.Conditions.{is_moment};
@@ -19,9 +19,9 @@ pub struct ItemKeeper {
     pub files_only: bool,
     /// Whether the formats of files are kept.
     pub identify: bool,
-    /// The items.
+    /// The items, in the order of the records.
     pub items: Vec<Item>,
-    /// The files and their formats.
+    /// The files and their formats, in the order of the records. Empty if they are not kept.
     pub formats: Vec<FileFormats>,
 }
 
@@ -43,6 +43,7 @@ impl ItemKeeper {
     }
 }
 
+// The formats come first: after a fault there may be those of a record without its item, and no report is made then.
 impl Recipient for ItemKeeper {
     ghost takes = { Keeps };
 
@@ -60,7 +61,8 @@ impl Recipient for ItemKeeper {
     }
 }
 
-/// Appends the formats of a record, if it is a file's and formats are kept.
+/// Appends the path and the formats of a record, if it is a file's and formats are kept (`identify`). Fails only if
+/// memory runs out; nothing is promised of the formats then.
 fn keep_formats(
     alloc: Global,
     identify: bool,
@@ -76,7 +78,7 @@ fn keep_formats(
     Ok(())
 }
 
-/// Appends the item of a record, unless it is a folder's and files alone are kept.
+/// Appends the item of a record, unless it is a folder's and files alone are kept. Fails only if memory runs out.
 fn keep(
     alloc: Global,
     files_only: bool,
@@ -94,7 +96,7 @@ fn keep(
     add_item(items, item)
 }
 
-/// Appends an item.
+/// Appends an item. If memory runs out, the items are as before.
 fn add_item(items: &mut Vec<Item>, item: Item) -> Result<(), AllocError>
     ensures kept { OnOk result (items.new.items ≡ items.old.items ++ item ∷ []) }
     ensures unchanged { OnErr result (items.new.items ≡ items.old.items) }
@@ -103,7 +105,8 @@ fn add_item(items: &mut Vec<Item>, item: Item) -> Result<(), AllocError>
     Ok(())
 }
 
-/// Returns the item of a record. There always is one, since the moment of its last change can be written.
+/// Returns the item of a record. There always is one, since the moment of its last change can be written. Fails only if
+/// memory runs out.
 #[tactic(auto, using(crate::proofs::Moments::moment_written))]
 fn item_of(alloc: Global, next: &Record) -> Result<Item, AllocError>
     requires { IsTrue (is_moment next.now.modified) }

@@ -25,7 +25,7 @@ pub use compared::Amount;
 pub use finding::Kind;
 pub use folder_check::verify_folder;
 pub use item_keeper::ItemKeeper;
-pub use lists::{Lists, read_lists};
+pub use lists::{ComparedList, read_lists};
 pub use measure::Measure;
 pub use outcome::{Outcome, outcome_of, write_outcome};
 pub use verification::{ClearLine, Verified, verify_as, verify_listing, verify_tree};

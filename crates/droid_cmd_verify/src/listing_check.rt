@@ -1,4 +1,5 @@
-//! Compares a tree with a list, by the sizes and moments of its files.
+//! Compares a tree with a list by the sizes and moments of its files, which are listed and not read. The comparison by
+//! their bytes is in `tree_check.rt`.
 
 ghost use Rattle.std.specs.Prelude.{◌≡◌, ◌≤◌, ◌++◌, IfErr, IfOk};
 ghost use Rattle.droid_cmd_verify.specs.CheckedTrees.{Compares, IsAfterWalk, options_for};
@@ -20,6 +21,7 @@ use std::alloc::{AllocError, Global};
 
 /// Lists a tree as its profile is made, without reading a file, and compares what is known of its files then with a
 /// list. Afterwards the recorder has what is unreadable: all that was skipped, symbolic links and repeated names aside.
+/// Whatever recipient the profiler has is replaced. Fails as `check_tree` does.
 pub fn check_listing<T: Tree, W: Watcher>(
     profiler: &mut Profiler<NotedFiles<T>, Recorder<W>, ItemKeeper>,
     registry: &Registry,
@@ -54,7 +56,8 @@ pub fn check_listing<T: Tree, W: Watcher>(
     }
 }
 
-/// Compares the items of a list with files and folders. The recorder then keeps what is unreadable.
+/// Compares the items of a list with the files that were noted and the folders that the walk found. The recorder then
+/// keeps what is unreadable. Fails with `Memory`, or with `Twice` if a path was found twice.
 fn compare_listed<W>(
     alloc: Global,
     recorder: &mut Recorder<W>,
@@ -75,7 +78,7 @@ fn compare_listed<W>(
     }
 }
 
-/// Returns the items of both lists.
+/// Returns the items of both lists, those of the first before. Fails only if memory runs out.
 fn joined(first: Vec<Item>, second: Vec<Item>) -> Result<Vec<Item>, AllocError>
     ensures { IfOk result (λ items. items.items ≡ first.items ++ second.items) }
 {

@@ -1,4 +1,4 @@
-//! By what files are compared.
+//! By what files are compared: hashes, sizes or moments.
 
 ghost use Rattle.std.specs.Prelude.{◌≡◌};
 ghost use Rattle.droid_cmd_verify.specs.Compared as compared;
@@ -15,7 +15,7 @@ pub enum Measure {
     Moments,
 }
 
-/// Returns whether modification times are compared.
+/// Returns whether modification times are compared, so that no file is read.
 pub fn by_moments(how: Measure) -> bool
     ensures { result ≡ compared.by_moments how }
 {
@@ -26,7 +26,7 @@ pub fn by_moments(how: Measure) -> bool
     }
 }
 
-/// Returns whether files are compared by their hashes.
+/// Returns whether files are compared by their hashes, so that one without is reported as unchecked.
 pub fn by_hashes(how: Measure) -> bool
     ensures { result ≡ compared.by_hashes how }
 {
@@ -37,7 +37,8 @@ pub fn by_hashes(how: Measure) -> bool
     }
 }
 
-/// Returns by what files are compared, as the options say.
+/// Returns by what files are compared, as `--quick` and `--sizes-only` say: by hashes without either. The command line
+/// refuses both together.
 pub(crate) fn measure_of(quick: bool, sizes_only: bool) -> Measure
     ensures { result ≡ measure_of quick sizes_only }
 {

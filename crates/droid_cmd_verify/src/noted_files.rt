@@ -25,6 +25,7 @@ pub struct NotedFiles<T> {
     pub files: Vec<Item>,
 }
 
+// The trait says what each call does. Only a listing differs: it notes files, and the walk does not see them.
 impl<T: Tree> Tree for NotedFiles<T> {
     ghost observes = { λ old observed new. NotesFiles T.observes old observed new };
 
@@ -55,7 +56,8 @@ impl<T: Tree> Tree for NotedFiles<T> {
 /// Notes the files among these entries of the folder at this path, and removes them.
 ///
 /// They are sorted by name first, for speed alone: the names of one folder take less time than whole paths, and the
-/// comparison then meets files in order. No clause needs the order.
+/// comparison then meets files in order. No clause needs the order. Fails only if memory runs out, as all here: then no
+/// listing is returned.
 fn take_files(
     alloc: Global,
     files: &mut Vec<Item>,
@@ -70,14 +72,14 @@ fn take_files(
     Ok(())
 }
 
-/// Removes the files that are noted.
+/// Removes the entries that are noted, and leaves the others to the walk in their order.
 fn keep_left(entries: &mut Vec<FolderEntry>)
     ensures { entries.new.items ≡ filter is_left entries.old.items }
 {
     entries.retain(|entry| is_left(entry));
 }
 
-/// Returns whether an entry is left to the walk.
+/// Returns whether an entry is left to the walk: a folder, or what the walk skips with its reason.
 fn is_left(entry: &FolderEntry) -> bool
     ensures { result ≡ is_left entry.now }
 {
@@ -126,7 +128,7 @@ fn noted_item(alloc: Global, path: &str, entry: &FolderEntry) -> Result<Item, Al
     Ok(item)
 }
 
-/// Returns the path of this name in a folder.
+/// Returns the path of this name in a folder: the folder's path, `/` and the name.
 fn path_in(alloc: Global, folder: &str, name: &[u8]) -> Result<Blob, AllocError>
     ensures { IfOk result (λ path. path ≡ below folder.now name.now) }
 {
@@ -138,7 +140,8 @@ fn path_in(alloc: Global, folder: &str, name: &[u8]) -> Result<Blob, AllocError>
     Ok(Blob::from(path))
 }
 
-/// Returns the item of a file at this path, which it takes over.
+/// Returns the item of a file at this path, which it takes over: its length and moment, and no hash. There always is
+/// one, since its moment can be written.
 #[tactic(auto, using(crate::proofs::Moments::moment_written))]
 fn item_at(alloc: Global, path: Blob, entry: &FolderEntry) -> Result<Item, AllocError>
     requires { IsTrue (is_moment entry.now.modified) }
@@ -171,7 +174,7 @@ fn is_noted(entry: &FolderEntry) -> bool
     is_regular(entry.kind) && has_text(entry) && is_moment(entry.modified)
 }
 
-/// Returns whether an entry is a regular file.
+/// Returns whether an entry of this kind is a regular file.
 fn is_regular(kind: EntryKind) -> bool
     ensures { result ≡ is_regular kind }
 {
@@ -184,7 +187,7 @@ fn is_regular(kind: EntryKind) -> bool
     }
 }
 
-/// Returns whether the name of an entry is text.
+/// Returns whether the name of an entry is text: UTF-8.
 #[tactic(auto, using(crate::proofs::Noting::is_text, crate::proofs::Noting::is_no_text))]
 fn has_text(entry: &FolderEntry) -> bool
     ensures { result ≡ is_utf8 entry.now.name }

@@ -30,7 +30,7 @@ pub struct Outcome {
 }
 
 /// Returns what a comparison came to. `rows` are those of the list, if formats are compared, and `formats` those that
-/// were found. `how` says by what files were compared.
+/// were found. `how` says by what files were compared. Fails only if memory runs out, as all that makes an outcome.
 pub fn outcome_of(
     alloc: Global,
     how: Measure,
@@ -47,7 +47,7 @@ pub fn outcome_of(
     Ok(outcome)
 }
 
-/// Returns the files with other formats, if formats are compared.
+/// Returns the files with other formats than the rows of the list give them: none if formats are not compared.
 fn changes_by(
     alloc: Global,
     rows: &Option<Vec<FormatRow>>,
@@ -64,7 +64,7 @@ fn changes_by(
     }
 }
 
-/// Returns what a comparison with these findings came to.
+/// Returns what a comparison with these findings came to: their CSV, the summary, and whether there are any.
 fn outcome_by(
     alloc: Global,
     how: Measure,
@@ -90,7 +90,8 @@ fn outcome_by(
     })
 }
 
-/// Writes the report, and returns how the command ends.
+/// Writes the report, and returns how the command ends. Interrupted writes are tried again, at most 64 times, by
+/// `write_all` of `droid_frame`.
 pub fn write_outcome<O: SteadyWrite>(output: &mut O, outcome: &Outcome) -> VerifyEnding
     // All of the report was written, or the writer stopped; the ending says which.
     ensures written { WritesOutcome (O.contents output.old) (O.contents output.new) outcome.now result }
@@ -103,7 +104,7 @@ pub fn write_outcome<O: SteadyWrite>(output: &mut O, outcome: &Outcome) -> Verif
     }
 }
 
-/// Returns the ending where the report was written.
+/// Returns the ending where the report was written, by whether it has anything.
 fn ending_by(differs: bool) -> VerifyEnding
     ensures { result ≡ ending_by differs }
 {

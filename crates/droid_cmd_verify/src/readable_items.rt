@@ -1,4 +1,4 @@
-//! The items that could be read, of a list and of what was found.
+//! Leaves out, on both sides, the items that could not be read: those of a list and those that were found.
 
 ghost use Rattle.std.specs.Prelude.{◌≡◌, ◌++◌, ℕ, List, [], ◌∷◌, IfOk, OnOk, map};
 ghost use Rattle.droid_terminal.specs.SkippedPaths.{has_path, is_held};
@@ -12,7 +12,8 @@ use droid_frame::{Blob, Item};
 use droid_terminal::{SkippedEntry, SkippedPaths, holds_above, paths_of};
 use std::alloc::{AllocError, Global};
 
-/// Returns the items that are neither unreadable nor below an unreadable folder.
+/// Returns the items of a list that are neither unreadable nor below an unreadable folder. Fails only if memory runs
+/// out.
 #[tactic(auto, using(crate::proofs::ReadableItems::some_in_order))]
 pub(crate) fn readable_of(
     alloc: Global,
@@ -30,7 +31,7 @@ pub(crate) fn readable_of(
     Ok(inventory_of(readable))
 }
 
-/// Returns the inventory of items that are in order of path.
+/// Returns the inventory of items that are in order of path, as the prover knows: no path is there twice.
 fn inventory_of(items: Vec<Item>) -> Inventory
     requires { AreInOrder (map (λ item. item.path) items.items) }
     ensures { IsInventory items.items result }
@@ -45,7 +46,7 @@ fn inventory_of(items: Vec<Item>) -> Inventory
     }
 }
 
-/// Copies the items that are neither unreadable nor below an unreadable folder.
+/// Copies the items that are neither unreadable nor below an unreadable folder. Fails only if memory runs out.
 fn readable_in(
     alloc: Global,
     unreadable: &[SkippedEntry],
@@ -61,7 +62,8 @@ fn readable_in(
     Ok(readable)
 }
 
-/// Removes the items that are unreadable, and those below an unreadable folder.
+/// Removes the items that are unreadable, and those below an unreadable folder. Fails only if memory runs out; nothing
+/// is promised of the items then, and the caller drops them.
 pub(crate) fn keep_readable(
     alloc: Global,
     unreadable: &[SkippedEntry],
@@ -76,7 +78,8 @@ pub(crate) fn keep_readable(
     Ok(())
 }
 
-/// Removes the items that could not be read.
+/// Removes the items whose path, or that of a folder above, is among these. The clauses here are about any entries that
+/// have just these paths, since the map alone does not say of which it was made.
 fn retain_readable(paths: &SkippedPaths<'_>, items: &mut Vec<Item>)
     ensures { (unreadable : List SkippedEntry) → ((path : List ℕ) → is_held paths.now path ≡ has_path unreadable path)
         → items.new.items ≡ readable_in unreadable items.old.items }
@@ -84,7 +87,7 @@ fn retain_readable(paths: &SkippedPaths<'_>, items: &mut Vec<Item>)
     items.retain(|item| is_readable(paths, item));
 }
 
-/// Returns whether an item could be read.
+/// Returns whether an item could be read: neither its path nor that of a folder above is among these.
 fn is_readable(paths: &SkippedPaths<'_>, item: &Item) -> bool
     ensures { (unreadable : List SkippedEntry) → ((path : List ℕ) → is_held paths.now path ≡ has_path unreadable path)
         → result ≡ is_readable unreadable item.now }
@@ -92,7 +95,7 @@ fn is_readable(paths: &SkippedPaths<'_>, item: &Item) -> bool
     !holds_above(paths, item.path.as_slice())
 }
 
-/// Appends a copy of an item, if it could be read.
+/// Appends a copy of an item, if it could be read. Fails only if memory runs out; `readable_in` drops the copies then.
 fn add_readable(
     alloc: Global,
     readable: &mut Vec<Item>,
@@ -111,7 +114,7 @@ fn add_readable(
     Ok(())
 }
 
-/// Copies an item.
+/// Copies an item, with its path. Fails only if memory runs out.
 fn copy_of(alloc: Global, item: &Item) -> Result<Item, AllocError>
     ensures { IfOk result (λ copy. copy ≡ item.now) }
 {

@@ -1,4 +1,4 @@
-//! The CSV of what is reported.
+//! The CSV of what is reported: a header, and a record of ten fields for each finding.
 
 ghost use Rattle.std.specs.Prelude.{◌≡◌, ◌++◌, ℕ, List, [], ◌∷◌, IfOk, OnOk, option_copied, string_bytes};
 ghost use Rattle.droid_export.specs.Csv.{line};
@@ -14,7 +14,8 @@ use droid_frame::{HashValue, Item};
 use droid_terminal::{cause, finish_csv, new_csv, write_record};
 use std::alloc::{AllocError, Global};
 
-/// Returns the CSV of these findings, with each field between double quotes.
+/// Returns the CSV of these findings, in their order, with each field between double quotes. Fails only if memory runs
+/// out, as all here.
 pub fn report_text(
     alloc: Global,
     checked: &Checked,
@@ -32,7 +33,9 @@ pub fn report_text(
     finish_csv(writer)
 }
 
-/// Writes the names of the columns.
+/// Appends the names of the columns: ten, in the order of the fields in `write_fields`. The definitions `column_names`
+/// and `record_with` have these orders, which the prover compares with the code; `COLUMNS` of `verify_lists.py` and the
+/// help have the names.
 fn write_names(writer: &mut Writer<Vec<u8>>) -> Result<(), AllocError>
     ensures { OnOk result ((text : List ℕ) → Holds writer.old text
         → Holds writer.new (text ++ line texts.column_names)) }
@@ -52,7 +55,7 @@ fn write_names(writer: &mut Writer<Vec<u8>>) -> Result<(), AllocError>
     write_record(writer, &names)
 }
 
-/// Writes the record of a finding.
+/// Appends the record of a finding. Its places are those of items on both sides.
 fn write_finding(
     alloc: Global,
     writer: &mut Writer<Vec<u8>>,
@@ -68,7 +71,7 @@ fn write_finding(
     write_items(alloc, writer, finding, before, after)
 }
 
-/// Writes the record of a finding, by the item of the list and that of the tree.
+/// Appends the record of a finding, by the item of the list (`before`) and that of the tree (`after`), if it has one.
 fn write_items(
     alloc: Global,
     writer: &mut Writer<Vec<u8>>,
@@ -95,7 +98,7 @@ fn write_items(
     )
 }
 
-/// Writes the record of a finding with these sizes and hashes.
+/// Appends the record of a finding with these texts of the item of the list, and of the item found.
 fn write_fields<'a>(
     writer: &mut Writer<Vec<u8>>,
     finding: &'a Finding,
@@ -124,7 +127,7 @@ fn write_fields<'a>(
     write_record(writer, &fields)
 }
 
-/// Returns the item of the list that a finding is about.
+/// Returns the item of the list that a finding is about, whose size and hash it shows; `None` if it is about none.
 fn listed_of(listed: &[Item], kind: Kind) -> Option<&Item>
     ensures { option_copied result ≡ texts.listed_of listed.now kind }
 {
@@ -140,7 +143,7 @@ fn listed_of(listed: &[Item], kind: Kind) -> Option<&Item>
     }
 }
 
-/// Returns the item of the tree that a finding is about.
+/// Returns the item of the tree that a finding is about, whose path, size and hash it shows; `None` if there is none.
 fn found_of(found: &[Item], kind: Kind) -> Option<&Item>
     ensures { option_copied result ≡ texts.found_of found.now kind }
 {
@@ -156,7 +159,7 @@ fn found_of(found: &[Item], kind: Kind) -> Option<&Item>
     }
 }
 
-/// Returns the name of a finding.
+/// Returns the word for the kind of a finding: the field `difference`. Another moment is `changed` too.
 fn name_of(finding: &Finding) -> &[u8]
     ensures { result.now ≡ texts.name_of finding.now.kind }
 {
@@ -172,7 +175,7 @@ fn name_of(finding: &Finding) -> &[u8]
     }
 }
 
-/// Returns why an entry could not be read, or a file not compared.
+/// Returns why an entry could not be read, or a file not compared: the field `reason`, empty for other findings.
 fn reason_of(finding: &Finding) -> &[u8]
     ensures { result.now ≡ texts.reason_of finding.now.kind }
 {
@@ -184,7 +187,7 @@ fn reason_of(finding: &Finding) -> &[u8]
     }
 }
 
-/// Returns the length of an item, if it is known.
+/// Returns the length of an item in decimal digits, or an empty text if there is no item or it has none.
 fn size_text(alloc: Global, item: Option<&Item>) -> Result<String, AllocError>
     ensures { IfOk result (λ text. string_bytes text ≡ texts.size_text (option_copied item.entry)) }
 {
@@ -207,7 +210,7 @@ fn length_text(alloc: Global, length: Option<u64>) -> Result<String, AllocError>
     }
 }
 
-/// Returns the digits of an item's hash, if it is known.
+/// Returns the hexadecimal digits of an item's hash: none if there is no item or it has no hash.
 fn hash_text(item: Option<&Item>) -> HashText
     ensures { result ≡ texts.hash_text (option_copied item.entry) }
 {

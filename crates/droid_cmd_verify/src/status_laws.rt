@@ -8,7 +8,7 @@ ghost use Rattle.droid_terminal.specs.declared.skipped.recorder.Recorder.{Record
 ghost use Rattle.droid_profile.specs.declared.profiler.Profiler.{Profiler};
 ghost use Rattle.droid_profile.specs.declared.options.Options.{Options};
 ghost use Rattle.droid_cmd_verify.specs.Verifications.{FindsAgreement, VerifiesTree};
-ghost use Rattle.droid_cmd_verify.specs.declared.lists.Lists.{Lists};
+ghost use Rattle.droid_cmd_verify.specs.declared.lists.ComparedList.{ComparedList};
 ghost use Rattle.droid_cmd_verify.specs.declared.verification.Verified.{Verified};
 ghost use Rattle.droid_cmd_verify.specs.declared.verify_ending.VerifyEnding.TheVariants.{Same};
 
@@ -19,8 +19,8 @@ use droid_tree::{Tree, Watcher};
 /// each folder and file of the list was found, each that was found is in the list, and each file has an equal hash on
 /// both sides.
 pub fn same_is_agreement<T: Tree, W: Watcher, O: SteadyWrite>()
-    ensures { (registry : Contents) (options : Options) (lists : Lists) (old new : Profiler T (Recorder W) ItemKeeper)
-        (before after : O) (verified : Verified)
+    ensures { (registry : Contents) (options : Options) (lists : ComparedList)
+        (old new : Profiler T (Recorder W) ItemKeeper) (before after : O) (verified : Verified)
         → VerifiesTree T.observes W.hears O.contents registry options lists old new before after verified
         → verified.ending ≡ Same → lists.how ≡ Hashes
         → FindsAgreement T.observes W.hears O.contents registry options lists old new }

@@ -1,4 +1,5 @@
-//! The summary of a comparison.
+//! The summary of a comparison: counts findings by kind, and prints the lines. The words are those of
+//! `specs/Summaries.antt`, which the prover compares.
 
 ghost use Rattle.std.specs.Prelude.{◌≡◌, Some};
 ghost use Rattle.droid_cmd_verify.specs.Summaries as summaries;
@@ -44,7 +45,7 @@ pub struct Summary {
 }
 
 impl KindCounts {
-    /// Counts findings.
+    /// Counts these findings by their kinds.
     pub fn of(findings: &[Finding]) -> KindCounts
         ensures { result ≡ summaries.counts_of findings.now }
     {
@@ -63,7 +64,7 @@ impl KindCounts {
         counts
     }
 
-    /// Counts one more finding.
+    /// Counts one more finding of this kind. Another moment counts as changed.
     fn with_kind(self, kind: Kind) -> KindCounts
         ensures { result ≡ summaries.with_kind self kind }
     {
@@ -82,14 +83,14 @@ impl KindCounts {
     }
 }
 
-/// Adds one, up to the greatest number of 64 bits.
+/// Adds one; the greatest number of 64 bits stays as it is.
 pub(crate) fn one_more(count: u64) -> u64
     ensures { result ≡ summaries.one_more count }
 {
     count.saturating_add(1)
 }
 
-/// A name and a number, in a line.
+/// A name and a number. Prints as a line, with `: ` between.
 #[derive(Clone, Copy)]
 struct CountLine {
     name: &'static str,
@@ -105,7 +106,7 @@ impl Display for CountLine {
     }
 }
 
-/// The line of what was not compared, if files were compared by hashes.
+/// The line of what was not compared. Prints nothing if files were not compared by hashes.
 #[derive(Clone, Copy)]
 struct UncheckedLine {
     how: Measure,
@@ -126,7 +127,7 @@ impl Display for UncheckedLine {
     }
 }
 
-/// The line of formats, if they were compared.
+/// The line of formats. Prints nothing if they were not compared.
 #[derive(Clone, Copy)]
 struct FormatLine {
     identify: bool,
@@ -147,7 +148,7 @@ impl Display for FormatLine {
     }
 }
 
-/// Makes a line of the summary.
+/// Makes a line of the summary of this name and number.
 fn line(name: &'static str, count: u64) -> CountLine
     ensures name { result.name.now ≡ name.now }
     ensures count { result.count ≡ count }
@@ -155,7 +156,7 @@ fn line(name: &'static str, count: u64) -> CountLine
     CountLine { name, count }
 }
 
-/// Names the number of files.
+/// Names the number of files, by what they were compared.
 fn files_name(how: Measure) -> &'static str
     ensures { result.now ≡ summaries.files_name how }
 {
@@ -166,7 +167,7 @@ fn files_name(how: Measure) -> &'static str
     }
 }
 
-/// Names the number of bytes.
+/// Names the number of bytes of the files that were compared: whether these bytes were compared too, or not even read.
 fn bytes_name(how: Measure) -> &'static str
     ensures { result.now ≡ summaries.bytes_name how }
 {
@@ -177,6 +178,7 @@ fn bytes_name(how: Measure) -> &'static str
     }
 }
 
+// Prints a line for each number, in this order.
 impl Display for Summary {
     ghost output = { λ summary. Some (summaries.summary_text summary) };
 

@@ -1,4 +1,5 @@
-//! Compares a tree with a list.
+//! Compares a tree with a list by what is read of its files, and finds what differs. `listing_check.rt` ends with the
+//! same `compare_found`.
 
 ghost use Rattle.std.specs.Prelude.{◌≡◌, ◌≤◌, IfErr, IfOk};
 ghost use Rattle.droid_cmd_verify.specs.CheckedTrees.{ChecksTree, Compares, EndsCheck, IsAfterWalk, fault_of};
@@ -38,12 +39,13 @@ pub struct Checked {
 pub enum CheckFault {
     /// Out of memory.
     Memory,
-    /// There are more than 4,294,967,295 folders and files.
+    /// There are more than 4,294,967,295 folders and files: `Numbers` of the walk (`droid_profile`).
     Numbers,
     /// A path was found twice.
     Twice(SamePath),
 }
 
+// The `ghost` line of `from` is its contract.
 impl From<AllocError> for CheckFault {
     ghost use Rattle.droid_cmd_verify.specs.declared.tree_check.CheckFault.TheVariants.{Memory};
 
@@ -56,7 +58,8 @@ impl From<AllocError> for CheckFault {
 
 /// Reads a tree as its profile is made, and compares it with a list. Each file gets a hash of the list's kind, whatever
 /// the options say. Afterwards the recorder has what is unreadable: all that was skipped, symbolic links and repeated
-/// names aside. With `identify` the recipient has the formats of the files.
+/// names aside. With `identify` the recipient has the formats of the files. Whatever recipient the profiler has is
+/// replaced. Fails as the walk does (`fault_of`), or as `compare_found`.
 pub fn check_tree<T: Tree, W: Watcher>(
     profiler: &mut Profiler<T, Recorder<W>, ItemKeeper>,
     registry: &Registry,
@@ -91,14 +94,14 @@ pub fn check_tree<T: Tree, W: Watcher>(
     }
 }
 
-/// Takes the items out.
+/// Takes the items out of where they were kept, which stays without any.
 pub(crate) fn take_items(alloc: Global, items: &mut Vec<Item>) -> Vec<Item>
     ensures { result.items ≡ items.old.items }
 {
     mem::replace(items, Vec::new(alloc))
 }
 
-/// Returns the options with this kind of hash.
+/// Returns the options with this kind of hash, which is that of the list.
 pub(crate) fn options_for(options: Options, hash: HashKind) -> Options
     ensures { result ≡ options_for options hash }
 {
@@ -120,7 +123,9 @@ pub(crate) fn fault_of(fault: ProfileFault) -> CheckFault
     }
 }
 
-/// Compares the items of a list with those that were found. The recorder then keeps what is unreadable.
+/// Compares the items of a list with those that were found. The recorder then keeps what is unreadable. Fails with
+/// `Memory` if that ran out, here or when an entry was skipped, or with `Twice` if a path was found twice; what the
+/// recorder has then is not promised.
 pub(crate) fn compare_found<W>(
     alloc: Global,
     recorder: &mut Recorder<W>,
@@ -165,6 +170,8 @@ fn is_unreadable(why: Skipped) -> bool
 }
 
 /// Compares the items of a list that could be read with those that were found. What is unreadable is on neither side.
+/// Fails with `Memory`, or with `Twice` if a path was found twice, which is looked for after what is unreadable was
+/// left out.
 fn compare_readable(
     alloc: Global,
     unreadable: &[SkippedEntry],

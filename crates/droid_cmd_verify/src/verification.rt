@@ -1,4 +1,4 @@
-//! The comparison of any tree with a list, and its report.
+//! The comparison of any tree with a list, and its report to any writer: what is proved of the command.
 
 ghost use Rattle.std.specs.Prelude.{◌≡◌, ◌≤◌, ℕ};
 ghost use Rattle.droid_frame.specs.Seen.{Counts};
@@ -8,7 +8,7 @@ ghost use Rattle.droid_cmd_verify.specs.Verifications.{VerifiesTree, without_rep
 
 use crate::item_keeper::ItemKeeper;
 use crate::listing_check::check_listing;
-use crate::lists::Lists;
+use crate::lists::ComparedList;
 use crate::measure::{Measure, by_moments};
 use crate::noted_files::NotedFiles;
 use crate::outcome::{outcome_of, write_outcome};
@@ -28,7 +28,7 @@ use std::alloc::Global;
 
 /// Removes the line of progress, before something else is printed.
 pub trait ClearLine {
-    /// Removes it.
+    /// Removes it. Without a contract, as all that is printed to standard error; so no clause holds that it is called.
     fn clear_line(&self);
 }
 
@@ -50,7 +50,7 @@ pub fn verify_as<T: Tree + Drop, W: Watcher + ClearLine + Drop, O: SteadyWrite>(
     output: &mut O,
     registry: &Registry,
     options: VerifyOptions<'_>,
-    lists: Lists,
+    lists: ComparedList,
 ) -> Verified
     // The tree is listed if moments are compared, and otherwise read; it is searched as the options say.
     ensures verified { VerifiesAs T.observes W.hears O.contents registry.now options.entry lists tree watcher output.old
@@ -66,7 +66,8 @@ pub fn verify_as<T: Tree + Drop, W: Watcher + ClearLine + Drop, O: SteadyWrite>(
     }
 }
 
-/// Compares a tree by the hashes or sizes of its files.
+/// Makes what a walk that reads files needs, and compares the tree by their hashes or sizes. The recipient is only to
+/// be there: `check_tree` puts its own in its place.
 fn read_files<T: Tree + Drop, W: Watcher + ClearLine + Drop, O: SteadyWrite>(
     alloc: Global,
     tree: T,
@@ -74,7 +75,7 @@ fn read_files<T: Tree + Drop, W: Watcher + ClearLine + Drop, O: SteadyWrite>(
     output: &mut O,
     registry: &Registry,
     options: Options,
-    lists: Lists,
+    lists: ComparedList,
 ) -> Verified
     requires { options.scan_limit ≤ 65536 }
     ensures verified { ReadsTree T.observes W.hears O.contents registry.now options lists tree watcher output.old
@@ -93,7 +94,8 @@ fn read_files<T: Tree + Drop, W: Watcher + ClearLine + Drop, O: SteadyWrite>(
     verify_tree(&mut profiler, output, registry, options, lists)
 }
 
-/// Compares a tree by the sizes and moments of its files.
+/// Makes what a walk that only lists files needs, and compares the tree by their sizes and moments. The recipient is
+/// only to be there: `check_listing` puts its own in its place.
 fn list_files<T: Tree + Drop, W: Watcher + ClearLine + Drop, O: SteadyWrite>(
     alloc: Global,
     tree: T,
@@ -101,7 +103,7 @@ fn list_files<T: Tree + Drop, W: Watcher + ClearLine + Drop, O: SteadyWrite>(
     output: &mut O,
     registry: &Registry,
     options: Options,
-    lists: Lists,
+    lists: ComparedList,
 ) -> Verified
     requires { options.scan_limit ≤ 65536 }
     ensures verified { ListsTree T.observes W.hears O.contents registry.now options lists tree watcher output.old
@@ -123,12 +125,13 @@ fn list_files<T: Tree + Drop, W: Watcher + ClearLine + Drop, O: SteadyWrite>(
 }
 
 /// Reads a tree, compares it with a list, and writes what differs. Formats are compared if the list has rows for that.
+/// The line of progress is removed after the walk, before anything is written.
 pub fn verify_tree<T: Tree, W: Watcher + ClearLine, O: SteadyWrite>(
     profiler: &mut Profiler<T, Recorder<W>, ItemKeeper>,
     output: &mut O,
     registry: &Registry,
     options: Options,
-    lists: Lists,
+    lists: ComparedList,
 ) -> Verified
     requires { options.scan_limit ≤ 65536 }
     // The report has exactly what differs between the list and the tree as it was read, and was written, or its writer
@@ -139,7 +142,7 @@ pub fn verify_tree<T: Tree, W: Watcher + ClearLine, O: SteadyWrite>(
         → ReportsUnwritten start (O.seen output.new) (O.room output.new) result.ending }
 {
     let alloc = profiler.alloc;
-    let Lists { listed, rows, how } = lists;
+    let ComparedList { listed, rows, how } = lists;
     match check_tree(profiler, registry, options, listed, rows.is_some()) {
         Ok(checked) => {
             profiler.watcher.watcher.clear_line();
@@ -154,13 +157,13 @@ pub fn verify_tree<T: Tree, W: Watcher + ClearLine, O: SteadyWrite>(
     }
 }
 
-/// Lists a tree, compares the sizes and moments of its files with a list, and writes what differs.
+/// Lists a tree, compares the sizes and moments of its files with a list, and writes what differs, as `verify_tree`.
 pub fn verify_listing<T: Tree, W: Watcher + ClearLine, O: SteadyWrite>(
     profiler: &mut Profiler<NotedFiles<T>, Recorder<W>, ItemKeeper>,
     output: &mut O,
     registry: &Registry,
     options: Options,
-    lists: Lists,
+    lists: ComparedList,
 ) -> Verified
     requires { options.scan_limit ≤ 65536 }
     // The same of the tree as it was listed. No formats are compared.
@@ -170,7 +173,7 @@ pub fn verify_listing<T: Tree, W: Watcher + ClearLine, O: SteadyWrite>(
         → ReportsUnwritten start (O.seen output.new) (O.room output.new) result.ending }
 {
     let alloc = profiler.alloc;
-    let Lists { listed, how, .. } = lists;
+    let ComparedList { listed, how, .. } = lists;
     match check_listing(profiler, registry, options, listed) {
         Ok(checked) => {
             profiler.watcher.watcher.clear_line();
@@ -186,7 +189,8 @@ pub fn verify_listing<T: Tree, W: Watcher + ClearLine, O: SteadyWrite>(
     }
 }
 
-/// Makes the report of a comparison, and writes it.
+/// Makes the report of a comparison, and writes it: of the formats too, if the list has `rows`. `formats` are those
+/// that were found. If there is no memory for the report, nothing is written.
 fn finish<O: SteadyWrite>(
     alloc: Global,
     output: &mut O,
@@ -213,7 +217,7 @@ fn finish<O: SteadyWrite>(
     }
 }
 
-/// Returns what the command ends with where no report was written.
+/// Returns what the command ends with where there is no report: this ending, and no summary.
 fn without_report(ending: VerifyEnding) -> Verified
     ensures { result ≡ without_report ending }
 {

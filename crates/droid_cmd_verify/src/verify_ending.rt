@@ -1,4 +1,4 @@
-//! How the comparison of a folder ends.
+//! How the command `verify` ends, and what is told of it.
 
 ghost use Rattle.std.specs.Prelude.{◌≡◌};
 ghost use Rattle.droid_cmd_verify.specs.VerifyEndings.{Tells, told_no_list, told_no_manifest, told_unopened};
@@ -32,7 +32,8 @@ pub enum VerifyEnding {
     NoFormats,
     /// Out of memory.
     NoMemory,
-    /// There are more than 4,294,967,295 folders and files.
+    /// There are more than 4,294,967,295 folders and files: `Numbers` of the walk (`droid_profile`). The help has the
+    /// number too.
     Numbers,
     /// A path was found twice.
     Twice,
@@ -41,7 +42,7 @@ pub enum VerifyEnding {
 }
 
 impl VerifyEnding {
-    /// Returns the ending where the list cannot be read.
+    /// Returns the ending where the list was opened, but is none, for this reason, or where memory ran out.
     pub(crate) fn unlisted(fault: UnreadList) -> VerifyEnding
         ensures { result ≡ unlisted fault }
     {
@@ -53,7 +54,7 @@ impl VerifyEnding {
         }
     }
 
-    /// Returns the ending where the tree could not be compared.
+    /// Returns the ending where the tree could not be compared. Which path was found twice is not told.
     pub(crate) fn unchecked(fault: CheckFault) -> VerifyEnding
         ensures { result ≡ unchecked fault }
     {
@@ -64,7 +65,8 @@ impl VerifyEnding {
         }
     }
 
-    /// Returns the ending by the table, given the paths of the list and of the folder.
+    /// Returns the ending by the table of faults, given the paths of the list and of the folder, of which one is at
+    /// fault. Looks at the folder again if it was none.
     pub fn told<'a, R: Files + AllocGlobal>(
         &'a self,
         rt: &R,
@@ -93,7 +95,8 @@ impl VerifyEnding {
     }
 }
 
-/// Returns the ending where a list could not be opened or read.
+/// Returns the ending where the list at this path could not be opened or read: that it is missing, or the system's
+/// reason.
 fn told_unopened<'a>(kind: ErrorKind, list: &'a str) -> Ending<'a>
     ensures { told result ≡ told_unopened kind list.now }
 {
@@ -104,7 +107,7 @@ fn told_unopened<'a>(kind: ErrorKind, list: &'a str) -> Ending<'a>
     }
 }
 
-/// Returns the ending where a list is none.
+/// Returns the ending where the file at this path is no list, by the form that it was read in.
 fn told_no_list<'a>(fault: &'a UnreadList, list: &'a str) -> Ending<'a>
     ensures { told result ≡ told_no_list fault.now list.now }
 {
@@ -120,7 +123,7 @@ fn told_no_list<'a>(fault: &'a UnreadList, list: &'a str) -> Ending<'a>
     }
 }
 
-/// Returns the ending where a list of checksums is malformed or names no file.
+/// Returns the ending where the list of checksums at this path is malformed, which names the line, or names no file.
 fn told_no_manifest<'a>(fault: ManifestFault, list: &'a str) -> Ending<'a>
     ensures { told result ≡ told_no_manifest fault list.now }
 {

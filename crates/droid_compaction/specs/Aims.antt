@@ -1,4 +1,4 @@
--- For proofs: what the smaller journal depends on beside the records.
+-- For inner clauses and proofs: what the smaller journal depends on beside the records.
 use Rattle.std.specs.Prelude.{ℕ, Bool, List}
 
 -- the header of the new file, and which files have ended

@@ -26,11 +26,11 @@ abbrev pub with_body : List ℕ → ℕ → List ℕ → List ℕ
 with_body request kind body =
     slice_index request 0 ∷ kind ∷ (take 12 (drop 2 request) ++ (u32_bytes (length body) ++ body))
 
--- of the frames of a piece and its reply
+-- the bytes of the bare frame, of the frames of a piece and its reply
 abbrev pub bare_piece_bytes : List ℕ → List ℕ → List ℕ
 bare_piece_bytes request reply =
     with_body request 68 (mark_of (slice_index request 1) (drop 18 request) ++ drop 18 reply)
 
--- of the frames of a Finish and its reply
+-- the bytes of the bare frame, of the frames of a Finish and its reply
 abbrev pub bare_finish_bytes : List ℕ → List ℕ → List ℕ
 bare_finish_bytes request reply = with_body request 69 (drop 18 request ++ drop 18 reply)

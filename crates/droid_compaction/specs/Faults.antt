@@ -1,4 +1,4 @@
--- For proofs: which faults come of taking and of reading records.
+-- For inner clauses and proofs: which faults come of taking and of reading records.
 use Rattle.droid_compaction.specs.declared.rewrite_fault.RewriteFault.{RewriteFault}
 use Rattle.droid_compaction.specs.declared.rewrite_fault.RewriteFault.TheVariants as faults
 

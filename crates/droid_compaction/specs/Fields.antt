@@ -8,7 +8,7 @@ use Rattle.std.specs.Int.{w32, w64, from_be_bytes}
 abbrev pub client_at : List ℕ → ℕ
 client_at bytes = from_be_bytes w32 (take 4 bytes)
 
--- one of eight bytes
+-- a big-endian number of eight bytes
 abbrev pub number_at : List ℕ → ℕ
 number_at bytes = from_be_bytes w64 (take 8 bytes)
 

@@ -1,4 +1,4 @@
--- For proofs: what was noted of the records so far.
+-- For inner clauses and proofs: what was noted of the records so far.
 use Rattle.std.specs.Prelude.{◌≡◌, ℕ, [], List}
 use Rattle.droid_journal.specs.Records.{Record}
 use Rattle.droid_compaction.specs.Numbers.{has_number}

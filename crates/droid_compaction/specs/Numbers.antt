@@ -1,4 +1,4 @@
--- For proofs: which numbers were seen.
+-- For inner clauses and proofs: which numbers were seen.
 use Rattle.std.specs.Prelude.{ℕ, Bool}
 use Rattle.std.specs.BTreeSet.{contains}
 use Rattle.std.specs.Ordering.{nat_cmp}

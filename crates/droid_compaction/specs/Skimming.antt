@@ -1,4 +1,4 @@
--- For proofs: the fields at the front of a record.
+-- For inner clauses and proofs: the fields at the front of a record.
 use Rattle.std.specs.Prelude.{◌≡◌, ◌≤◌, ℕ, List, length, slice_index}
 use Rattle.droid_compaction.specs.Fields.{file_in, stamp_in}
 use Rattle.droid_compaction.specs.declared.skim.Front.{Front}

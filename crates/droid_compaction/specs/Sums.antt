@@ -1,4 +1,4 @@
--- For proofs: checksums of requests that were computed side by side.
+-- For inner clauses and proofs: checksums of requests that were computed side by side.
 use Rattle.std.specs.Prelude.{◌≡◌, ◌<◌, ◌≤◌, ℕ, List, [], ◌++◌, ◌-◌, Option, Some, None, drop, length, slice_index}
 use Rattle.std.specs.Prelude.{slice_index_or, take}
 use Rattle.droid_journal.specs.Reading.{request_in}
@@ -30,10 +30,10 @@ abbrev pub request_or_none : Option (List ℕ) → List ℕ
 request_or_none (Some request) = request
 request_or_none None = []
 
--- the byte of its kind
+-- the byte of the kind of the request at the front, or none
 abbrev pub kind_in : Form → List ℕ → List ℕ
 kind_in form bytes = take 1 (drop 1 (request_or_none (request_in form bytes)))
 
--- its body
+-- the body of the request at the front, or no bytes
 abbrev pub body_in : Form → List ℕ → List ℕ
 body_in form bytes = drop 18 (request_or_none (request_in form bytes))

@@ -1,4 +1,4 @@
--- For proofs: records of a file that were taken one after another.
+-- For inner clauses and proofs: records of a file that were taken one after another.
 use Rattle.std.specs.Prelude.{◌≡◌, ℕ, List, ◌++◌, drop}
 use Rattle.droid_journal.specs.Chains.{BeginsNoRecord, chain_bytes, place_behind}
 use Rattle.droid_journal.specs.Records.{AllFit, Record}
@@ -23,11 +23,11 @@ pub record Passes {S T : Type 0} (took : S → T → List Record → Type 0) (ke
   pub to_is : to ≡ place_behind key from its
   pub taken : (setting : S) (before : List Record) → took setting old before → took setting new (before ++ its)
 
--- they stand in the file, from the one place to the other
+-- these records stand in the file, from the one place to the other
 abbrev pub StandIn : Key → List ℕ → Place → Place → List Record → Type 0
 StandIn key file from to its = drop from.at file ≡ chain_bytes key from its ++ drop to.at file
 
--- and behind the other place none follows
+-- these records stand in the file, from the one place to the other, and behind that none follows
 pub record StandThere (key : Key) (file : List ℕ) (from to : Place) (its : List Record) : Type 0 where
   pub joined : StandIn key file from to its
   pub ends : BeginsNoRecord key to (drop to.at file)

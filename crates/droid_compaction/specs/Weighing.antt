@@ -1,4 +1,4 @@
--- For proofs: the bytes that the pieces of some files have so far.
+-- For inner clauses and proofs: the bytes that the pieces of some files have so far.
 use Rattle.std.specs.Prelude.{◌≡◌, ℕ, Bool, List}
 use Rattle.std.specs.List.{sum_by}
 use Rattle.droid_journal.specs.Records.{Record}

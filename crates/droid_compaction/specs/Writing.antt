@@ -1,4 +1,4 @@
--- For proofs: records of the smaller journal that were written.
+-- For inner clauses and proofs: records of the smaller journal that were written.
 use Rattle.std.specs.Prelude.{◌≡◌, ℕ, List, ◌++◌, length}
 use Rattle.droid_journal.specs.Chains.{journal_bytes, key_of, last_place}
 use Rattle.droid_journal.specs.Records.{AllFit, Record}

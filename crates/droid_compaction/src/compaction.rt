@@ -12,7 +12,7 @@ use droid_journal::LogFile;
 use std::alloc::Global;
 
 /// Writes the smaller journal into an empty file, under a new header, syncs it, and gives it the name of the old one.
-/// Returns the new file, and the sizes of both.
+/// Returns the new file, and the sizes of both. Fails as `rewrite` does, or with Exchange.
 ///
 /// A crash at any moment leaves the old journal under the name, or the smaller one with all its bytes; also where this
 /// fails.

@@ -1,4 +1,5 @@
-//! Which files have ended.
+//! Which files have ended: were finished or abandoned. A file is its profile and its own number, as one number; a stamp
+//! is a request's client and number, as one number.
 
 ghost use Rattle.std.specs.Prelude.{◌≡◌, ◌++◌, ◌∷◌, Bool, ℕ, [], IfErr, IfOk, List, OnOk, length};
 ghost use Rattle.droid_journal.specs.Records.{Record, made};
@@ -18,14 +19,15 @@ use std::alloc::Global;
 /// The files that ended so far.
 #[derive(Drop)]
 pub(crate) struct Ended {
+    /// Their profiles and numbers.
     pub(crate) files: Numbers,
     /// The clients and numbers of the requests so far.
     pub(crate) stamps: Numbers,
 }
 
 impl Ended {
-    /// Notes the next record, by the fields at its front and the length of its reply. A request that came again ends no
-    /// file.
+    /// Notes the next record, by the fields at its front and the length of its reply's frame (`reply`). A request that
+    /// came again ends no file. Fails only if memory runs out, and then nothing is promised of what was noted.
     pub(crate) fn note(&mut self, front: Front, reply: u32) -> Result<(), RewriteFault>
         ensures noted { (before : List Record) (first : Bool) (ahead : ℕ) (request answer : List ℕ)
             → AreNoted self.old.files self.old.stamps before → IsFrontOf ahead request front → reply ≡ length answer
@@ -52,8 +54,9 @@ impl Ended {
     }
 }
 
-/// Returns the files that have ended in a journal with this header. A request that came again ends none. For a file
-/// that is no such journal the result means nothing.
+/// Returns the files that have ended in a journal with this header. A request that came again ends none. Of the header
+/// only the form and the length are used: that the file has it is checked as it is read again (`take_whole`), and for a
+/// file that is no such journal the result means nothing. Fails with Read or Memory.
 pub(crate) fn ended_in<F: LogFile>(
     alloc: Global,
     file: &F,

@@ -31,6 +31,7 @@ pub trait Exchange<F: LogFile> {
 /// Syncs a new file, gives it the name of the old one, and syncs the folder.
 ///
 /// A crash at any moment leaves the old file under the name, or the new one with all its bytes; also where this fails.
+/// The first step that fails is the last one: before the sync of the new file no name may lead to it.
 pub fn replace<F: LogFile, X: Exchange<F>>(new: &mut F, exchange: &mut X) -> Result<(), FileError>
     ensures replaced { (s bytes : List ℕ) → F.has new.old s → OnOk result (X.may_lead exchange.new bytes → bytes ≡ s) }
     ensures at_any_moment { (s bytes : List ℕ) → F.has new.old s → X.may_lead exchange.new bytes

@@ -18,7 +18,8 @@ pub struct Folder<'a, R> {
 }
 
 impl<'a, R: Files<File = File>> Folder<'a, R> {
-    /// Names the file, and the new file. Both must be in one folder.
+    /// Names the file, and the new file. Both must be in one folder, since only that of `path` is synced. Nothing
+    /// checks that: `compaction.rt` of `droid_cmd_serve` makes the one name of the other.
     pub fn new(runtime: &'a R, path: &'a str, beside: &'a str) -> Folder<'a, R> {
         Folder {
             runtime,
@@ -28,7 +29,7 @@ impl<'a, R: Files<File = File>> Folder<'a, R> {
     }
 }
 
-/// Drops the system's reason of a failed call.
+/// Drops the system's reason of a failed call: `RewriteFault` does not name it.
 fn file_result(answer: io::Result<()>) -> Result<(), FileError> {
     match answer {
         Ok(()) => Ok(()),
@@ -43,11 +44,12 @@ impl<'a, F: LogFile, R: Files<File = File>> Exchange<F> for Folder<'a, R> {
 
     ghost may_lead = { λ folder bytes. ⊥ };
 
-    /// Renames by name: the new file must be the one beside the old.
+    /// Renames by name: the new file must be the one at `beside`, which the caller of `compact` opened there.
     fn rename(&mut self, _new: &F) -> Result<(), FileError> {
         file_result(fs::rename(self.runtime, self.beside, self.path))
     }
 
+    /// Syncs the folder of `path`.
     fn sync_folder(&mut self) -> Result<(), FileError> {
         file_result(sync_folder(self.runtime, self.path))
     }

@@ -1,4 +1,9 @@
-//! Writing bare frames.
+//! Making bare frames, which stand in a smaller journal in the place of a piece or a Finish. The reader of these is
+//! `droid_recovery`; docs/FORMATS.md has the bytes.
+//!
+//! In clauses 18 is `HEADER_LENGTH`. 8388608 is the most bytes of a journal's record: `LIMIT` in `record_reader.rt` of
+//! `droid_journal` and in `skim.rt` here, and `Fits` of `droid_journal`. 8388624 is that and the 16 of a mark. Here
+//! both only see to it that the length fits four bytes; a bare record fits by `most` of `bare_of` in `rewriter.rt`.
 
 ghost use Rattle.std.specs.Prelude.{◌≡◌, ◌+◌, ◌≤◌, ◌++◌, IfOk, drop, length, slice_index};
 ghost use Rattle.droid_frame.specs.Frames.{frame_bytes, mark_of};
@@ -11,14 +16,16 @@ ghost use Rattle.droid_compaction.specs.BareFrames.{bare_finish_bytes, bare_piec
 use droid_frame::HEADER_LENGTH;
 use std::alloc::{AllocError, Global};
 
-/// The kind of a bare piece.
+/// The kind of a bare piece: that of a piece, 4, and 64. No request has it, as `a_bare_frame_spells_no_request` of
+/// `bare_laws.rt` says, which also ties it to the 68 of the definitions.
 pub const BARE_PIECE: u8 = 68;
 
-/// The kind of a bare Finish.
+/// The kind of a bare Finish: that of a Finish, 5, and 64. The same law ties it to the 69 of the definitions.
 pub const BARE_FINISH: u8 = 69;
 
 /// Makes the bytes of the bare frame of a piece, of the bytes of its request's and its reply's frame and of the
-/// request's mark. Fails only when out of memory.
+/// request's mark, which the caller has: to compute it would cost as much as to read the piece. Fails only when out of
+/// memory.
 pub fn bare_piece(
     alloc: Global,
     request: &[u8],
@@ -55,8 +62,9 @@ pub fn bare_finish(alloc: Global, request: &[u8], reply: &[u8]) -> Result<Vec<u8
     )
 }
 
-/// Makes a frame with the version, client and number of a request's. Its body is `front` and then the body of the
-/// reply.
+/// Makes a frame of the kind `kind` with the version, client and number of a request's. Its body is `front` and then
+/// the body of the reply. Fails only when out of memory. In the header of 18 bytes the version is byte 0, the kind byte
+/// 1, client and number are bytes 2 to 13, and the rest is the length of the body.
 fn spell(
     alloc: Global,
     request: &[u8],

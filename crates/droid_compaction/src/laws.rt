@@ -11,8 +11,9 @@ ghost use Rattle.droid_compaction.specs.Shortening.{has_ended, once, shortened, 
 ghost use Rattle.droid_compaction.specs.Sizes.{size_of};
 
 /// A smaller journal has at most the bytes of its header, of its mark and of one record for each record of the old
-/// journal. The record of a piece of an ended file has 85 bytes, since the reply to a piece has 22. The record of a
-/// Finish has its finding twice. No other record becomes longer.
+/// journal. The record of a piece of an ended file has 85 bytes: the bare frame 38 (header 18, mark 16, the reply's
+/// body 4), the reply 22, and 25 around them; docs/PROMISES.md has the number too. The record of a Finish has its
+/// finding twice. No other record becomes longer.
 pub fn a_smaller_journal_is_small()
     ensures record { (key : Key) (place : Place) (it : Record) → it.first ≡ false
         → length (record_bytes key place it) ≡ size_of it }

@@ -1,4 +1,8 @@
-//! Writing a smaller journal into another file.
+//! Writing a smaller journal into another file: first which files have ended, and then record by record. After a fault
+//! nothing is promised of the new file: it is dropped, and no name leads to it but its own.
+//!
+//! Each function fails with Memory, Read, Write, Header or Behind; clauses say of the last two when. In clauses
+//! 16777216 is `WINDOW` of `droid_journal`.
 
 ghost use Rattle.std.specs.Prelude.{◌≡◌, ℕ, Bool, [], List, IfOk, IsErrOf, length};
 ghost use Rattle.droid_journal.specs.Opening.{HasHeader};
@@ -28,7 +32,9 @@ pub struct Smaller<N> {
     pub after: Size,
 }
 
-/// Writes each record of a journal into an empty file, those of the ended files without their bytes.
+/// Writes each record of a journal into an empty file, those of the files in `ended` without their bytes, and the mark
+/// of the last turn. Checks the old file, which has the header `header`, on the way. The new header is collected like a
+/// record: it is written with the first of them.
 fn write_anew<F: LogFile, N: LogFile + Drop>(
     alloc: Global,
     old: &F,
@@ -83,7 +89,7 @@ fn write_anew<F: LogFile, N: LogFile + Drop>(
     }
 }
 
-/// Writes the smaller journal, and reads the old one through this buffer.
+/// Does the work of [`rewrite`], and reads the old file through this buffer.
 fn rewrite_by<F: LogFile, N: LogFile + Drop>(
     alloc: Global,
     old: &F,

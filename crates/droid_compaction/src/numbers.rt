@@ -1,4 +1,4 @@
-//! Numbers that were seen: of files, or of requests.
+//! A set of numbers that were seen: of files, or of requests (stamps).
 
 ghost use Rattle.std.specs.Prelude.{◌≡◌, ◌==◌, ◌||◌, ℕ, false, OnOk};
 ghost use Rattle.droid_compaction.specs.Numbers.{has_number};
@@ -29,7 +29,8 @@ impl Numbers {
         self.set.contains(&number)
     }
 
-    /// Notes a number.
+    /// Notes a number; nothing changes if it was seen. Fails only if memory runs out, and then nothing is promised of
+    /// what was noted: both callers end with it.
     #[tactic(auto, using(crate::proofs::SameNumbers::same_number))]
     pub(crate) fn add(&mut self, number: u128) -> Result<(), AllocError>
         ensures { OnOk result ((n : ℕ) → has_number self.new n ≡ ((number == n) || has_number self.old n)) }

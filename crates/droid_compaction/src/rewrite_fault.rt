@@ -7,11 +7,11 @@ use std::alloc::AllocError;
 /// Why a journal could not be made smaller.
 #[derive(Clone, Copy)]
 pub enum RewriteFault {
-    /// Out of memory.
+    /// Out of memory. (Also where the weight of pieces would need more than 64 bits.)
     Memory,
-    /// The old file could not be read.
+    /// The old file could not be read. Also where a place in it would need more than 64 bits, which no file reaches.
     Read,
-    /// The new file could not be written.
+    /// The new file could not be written, or would be longer than 64 bits can say.
     Write,
     /// The old file begins with another header.
     Header,

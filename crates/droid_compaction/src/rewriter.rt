@@ -1,4 +1,5 @@
-//! Writing the records of the smaller journal.
+//! Writing the records of the smaller journal, one after another, as the old file is read. After a fault nothing is
+//! promised of what was spelled or written: `new_file.rt` drops it.
 
 ghost use Rattle.std.specs.Prelude.{◌≡◌, ◌+◌, ◌≤◌, ◌++◌, ℕ, [], List, IfErr, IfOk, IfSome, MatchOption, OnOk, false};
 ghost use Rattle.std.specs.Prelude.{length};
@@ -16,10 +17,12 @@ use droid_frame::kinds::{FINISH, PIECE};
 use droid_journal::{Key, LogFile, Place, checksum_of, put_record};
 use std::alloc::{AllocError, Global};
 
-/// The most bytes of a record beside its two frames.
+/// The most bytes of a record beside its two frames, its mark among them: `OVERHEAD` of `record_reader.rt` in
+/// `droid_journal`. `put_record` requires so much room, and the prover refuses a smaller number. Clauses have it as 41,
+/// beside 8388608, the most bytes of a record (`LIMIT` of `skim.rt`).
 const AROUND: usize = 41;
 
-/// The bytes that are collected before they are written.
+/// The bytes that are collected before they are written: this many or more. For speed; no clause holds it.
 const COLLECTED: usize = 1_048_576;
 
 /// Writes the records of the smaller journal into a file.
@@ -40,7 +43,9 @@ pub(crate) struct Rewriter<N: LogFile> {
     pub(crate) bytes: u64,
 }
 
-/// Returns the bare form of a request that only an unfinished file needs whole, or `None` if the request stays.
+/// Returns the bare frame that stands for a piece or a Finish of one of the files in `ended`, or `None` if the request
+/// stays as it is. `sum` is the request's checksum, which is its mark. Fails only if memory runs out. By `least` and
+/// `most` the bare frame makes a record.
 fn bare_of(
     alloc: Global,
     ended: &Numbers,
@@ -75,7 +80,8 @@ fn bare_of(
     Ok(Some(bare))
 }
 
-/// Appends a record that begins no turn to a buffer, and returns its check value.
+/// Appends a record that begins no turn to a buffer, as all records of a smaller journal, and returns its check value.
+/// Fails only if memory runs out.
 fn append_record(
     out: &mut Vec<u8>,
     key: Key,
@@ -95,7 +101,9 @@ fn append_record(
     Ok(put_record(out, key, place, false, request, &sum, reply))
 }
 
-/// Appends the record of a request to a buffer, bare if its file has ended, and returns its check value.
+/// Appends the record of a request to a buffer, bare if its file has ended, and returns its check value. `stands` is
+/// the new journal's key, and the place of the record in it; `sum` is the checksum of the request as it was. Fails only
+/// if memory runs out.
 fn spell(
     alloc: Global,
     ended: &Numbers,
@@ -130,7 +138,8 @@ fn spell(
     }
 }
 
-/// Appends what was collected to the file, and returns how many bytes it then has.
+/// Appends what was collected (`out`) to the file, which has `bytes` bytes, and returns how many it then has. Nothing
+/// is collected after that.
 pub(crate) fn flush<N: LogFile>(
     file: &mut N,
     out: &mut Vec<u8>,
@@ -161,7 +170,8 @@ impl<N: LogFile> Taker for Rewriter<N> {
 
     ghost took = { λ aim rewriter its. IsWriting N.has aim rewriter its };
 
-    /// Leaves out a request that came again. Writes once enough was collected.
+    /// Leaves out a request that came again. Writes once enough was collected: when, no clause holds, only that what
+    /// was written and what is collected are the smaller journal so far.
     fn take(&mut self, request: &[u8], sum: [u8; 16], reply: &[u8]) -> Result<(), RewriteFault> {
         let stamp = stamp_of(request);
         if self.stamps.has(stamp) {

@@ -1,4 +1,4 @@
-//! The size of a journal.
+//! The size of a journal, in records and in bytes.
 
 /// The size of a journal.
 #[derive(Clone, Copy)]

@@ -1,4 +1,8 @@
 //! Which files have ended, by a few bytes of each record of a journal: its lengths, and the front of its request.
+//!
+//! Each `RewriteFault` here is Read, or Memory where something is noted. Read also stands for a number past 64 bits,
+//! which no file reaches. In clauses 25 is `AROUND` of `weight.rt`: no record has fewer bytes, and behind the records
+//! of a journal stand fewer, nothing or a mark.
 
 ghost use Rattle.std.specs.Prelude.{◌≡◌, ◌≤◌, ◌<◌, ◌+◌, ◌^◌, ◌++◌, ◌∷◌, ℕ, [], None, Some, List, IfErr, IfOk};
 ghost use Rattle.std.specs.Prelude.{MatchOption, OnOk, drop, if◌then◌else◌, length, nat_lt, take, true};
@@ -16,16 +20,20 @@ use crate::fields::{file_of, stamp_of};
 use crate::rewrite_fault::RewriteFault;
 use droid_journal::{Form, LogFile, MARK};
 
-/// The bytes that are read at the front of a record.
+/// The bytes that are read at the front of a record: more than its beginning (at most `MARK`, 17) and `LEAST`, 59 in
+/// all, as the prover sees to. Clauses have it as 80.
 const READ: usize = 80;
 
-/// The least bytes of a record behind its beginning.
+/// The least bytes of a record behind its beginning: two lengths of four bytes, the header of the request (18), and a
+/// check value (16). All fields of a [`Front`] lie within them.
 const LEAST: usize = 42;
 
-/// The least bytes of a request.
+/// The least bytes of a request: the header of its frame, `HEADER_LENGTH` of `droid_frame`. A larger number the prover
+/// refuses, in `can_be`.
 const LEAST_REQUEST: u32 = 18;
 
-/// The most bytes of a record.
+/// The most bytes of a record, 8 MiB: `LIMIT` of `record_reader.rt` in `droid_journal`. The clause of `can_be` ties it
+/// to that of `Fits`: a smaller number the prover refuses.
 const LIMIT: u64 = 8_388_608;
 
 /// The fields at the front of a record.
@@ -43,7 +51,7 @@ pub(crate) struct Front {
     pub(crate) file: u128,
 }
 
-/// Reads the number in the first four bytes.
+/// Reads the big-endian number in the first four bytes; `None` if they are fewer.
 pub(crate) fn length_in(bytes: &[u8]) -> Option<u32>
     ensures { result ≡ (if nat_lt (length bytes.now) 4 then None else Some (from_be_bytes w32 (take 4 bytes.now))) }
 {
@@ -54,7 +62,7 @@ pub(crate) fn length_in(bytes: &[u8]) -> Option<u32>
     Some(u32::from_be_bytes([front[0], front[1], front[2], front[3]]))
 }
 
-/// Reads the number in the four bytes at a place. `None`: the file ends before.
+/// Reads the number in the four bytes at a place of the file. `None`: the file ends before it is whole.
 fn length_at<F: LogFile>(file: &F, at: u64) -> Result<Option<u32>, RewriteFault>
     requires found { F.is_found file.now }
     ensures there { (s rest : List ℕ) (n : ℕ) → F.has file.now s → n < 2 ^ 32 → drop at s ≡ to_be_bytes w32 n ++ rest
@@ -68,7 +76,8 @@ fn length_at<F: LogFile>(file: &F, at: u64) -> Result<Option<u32>, RewriteFault>
     }
 }
 
-/// Returns how many bytes the beginning of a record has: its first byte, and its mark if it is the first of a turn.
+/// Returns how many bytes the beginning of a record has: its first byte, and in version 4 its mark if it is the first
+/// of a turn; 1 or 17. Also 1 if there is no byte.
 pub(crate) fn ahead_in(form: Form, bytes: &[u8]) -> usize
     ensures least { 1 ≤ result }
     ensures bound { result ≤ 17 }
@@ -131,7 +140,8 @@ fn front_at<F: LogFile>(file: &F, form: Form, at: u64) -> Result<Option<Front>, 
 }
 
 /// Returns whether a record can have a request and a reply of these lengths. Of those that none has, no clause needs
-/// the answer.
+/// the answer; false ends the reading of a file that is no journal. The 25 bytes beside the frames are those of a
+/// record without a mark, so up to 16 bytes more than `Fits` allows, with 41, are let through.
 fn can_be(request: u32, reply: u32) -> bool
     ensures { 18 ≤ request → request + reply + 25 ≤ 8388608 → result ≡ true }
 {
@@ -141,7 +151,8 @@ fn can_be(request: u32, reply: u32) -> bool
     u64::from(request) + u64::from(reply) + 25 <= LIMIT
 }
 
-/// Notes the record at a place, and returns where the next one begins. `None`: no record is there.
+/// Notes the record at a place, and returns where the next one begins. `None`: no record is there, or its lengths are
+/// none of a record (`can_be`); then nothing is noted.
 fn skim_one<F: LogFile>(
     file: &F,
     form: Form,
@@ -191,7 +202,8 @@ fn skim_one<F: LogFile>(
     }
 }
 
-/// Notes the records of a journal from a place on. A file that is no journal is read as if it were one.
+/// Notes the records of a journal from a place on, to the first that is not whole. A file that is no journal is read as
+/// if it were one. After a fault nothing is promised of what was noted: `ended_in` drops it.
 pub(crate) fn skim<F: LogFile>(
     file: &F,
     form: Form,

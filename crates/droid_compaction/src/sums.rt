@@ -1,6 +1,6 @@
 //! Checksums of eight long requests, computed side by side. This is for speed; no clause needs it. Where the functions
 //! that choose the eight requests have no contract, only the time depends on them: a checksum is used only where
-//! exactly as many bytes are left as where it was computed.
+//! exactly as many bytes are left as where it was computed. Eight is the number of lanes of `Md5Lanes`.
 
 ghost use Rattle.std.specs.Prelude.{◌≡◌, ◌<◌, ◌++◌, ℕ, [], IfSome, length, slice_index, slice_index_or};
 ghost use Rattle.droid_compaction.specs.Sums.{AreSumsIn, body_in, kind_in, last_in, request_or_none};
@@ -12,14 +12,15 @@ use droid_frame::HEADER_LENGTH;
 use droid_hash::Md5Lanes;
 use droid_journal::{Form, request_of};
 
-/// The bytes of a length.
+/// The bytes of a length in a record. Only `left_behind` goes by it and by `CHECK`: with others the checksums of fewer
+/// requests are found.
 const LENGTH: usize = 4;
 
 /// How many bytes a check value has.
 const CHECK: usize = 16;
 
 /// The least bytes of a request whose checksum is computed beside others. One busy lane beside seven idle ones takes
-/// longer than the usual MD5.
+/// longer than the usual MD5. Nothing holds the number.
 const LONG: usize = 1_024;
 
 /// The checksums of the long requests of up to eight records.
@@ -41,7 +42,7 @@ fn request_at(form: Form, bytes: &[u8]) -> &[u8]
     }
 }
 
-/// Returns the byte of the kind of the request at the front, if it has one.
+/// Returns the byte of the kind of the request at the front, or no byte if there is none.
 fn kind_at(form: Form, bytes: &[u8]) -> &[u8]
     ensures { result.now ≡ kind_in form bytes.now }
 {
@@ -52,7 +53,7 @@ fn kind_at(form: Form, bytes: &[u8]) -> &[u8]
     &request[1..2]
 }
 
-/// Returns the body of the request at the front.
+/// Returns the body of the request at the front, or no bytes if there is none.
 fn body_at(form: Form, bytes: &[u8]) -> &[u8]
     ensures { result.now ≡ body_in form bytes.now }
 {
@@ -63,7 +64,7 @@ fn body_at(form: Form, bytes: &[u8]) -> &[u8]
     &request[HEADER_LENGTH..]
 }
 
-/// Returns the last `count` bytes.
+/// Returns the last `count` bytes, or all of them if they are fewer.
 fn last_of(bytes: &[u8], count: usize) -> &[u8]
     ensures { result.now ≡ last_in bytes.now count }
 {
@@ -96,7 +97,8 @@ pub(crate) fn is_long(form: Form, bytes: &[u8]) -> bool {
     request_at(form, bytes).len() >= LONG
 }
 
-/// Returns how many bytes are left where the next record with a long request begins, or 0 if there is none.
+/// Returns how many bytes are left where the next record with a long request begins, or 0 if there is none. The search
+/// begins where `left` bytes are left. Each step leaves fewer bytes, so the bound of the loop is enough.
 fn next_long(form: Form, bytes: &[u8], left: usize) -> usize {
     let mut left = left;
     for _ in 0..bytes.len() {
@@ -108,7 +110,8 @@ fn next_long(form: Form, bytes: &[u8], left: usize) -> usize {
     left
 }
 
-/// Returns how many bytes are left where each of the next eight records with a long request begins.
+/// Returns how many bytes are left where each of the next eight records with a long request begins; 0 for each that is
+/// not there.
 fn places_of(form: Form, bytes: &[u8]) -> [usize; 8] {
     let first = next_long(form, bytes, bytes.len());
     let second = next_long(form, bytes, left_behind(form, bytes, first));
@@ -121,7 +124,8 @@ fn places_of(form: Form, bytes: &[u8]) -> [usize; 8] {
     [first, second, third, fourth, fifth, sixth, seventh, eighth]
 }
 
-/// Computes the checksums of the requests that begin where these numbers of bytes are left.
+/// Computes the checksums of the requests whose records begin where these numbers of bytes are left: the MD5 of kind
+/// and body, all eight in one pass. Where no request is, it is the MD5 of nothing, which is not used.
 fn digests_of(form: Form, bytes: &[u8], left: [usize; 8]) -> [[u8; 16]; 8]
     ensures { (lane : ℕ) → lane < 8
         → slice_index_or result lane []
@@ -154,7 +158,8 @@ fn digests_of(form: Form, bytes: &[u8], left: [usize; 8]) -> [[u8; 16]; 8]
 }
 
 impl Sums {
-    /// Computes the checksums of the next eight long requests.
+    /// Computes the checksums of the first eight long requests of the records in these bytes, at whose front a record
+    /// begins.
     pub(crate) fn of(form: Form, bytes: &[u8]) -> Sums
         ensures { AreSumsIn form bytes.now result }
     {
@@ -165,7 +170,8 @@ impl Sums {
         }
     }
 
-    /// Returns the checksum of the request at the front, if it was computed.
+    /// Returns the checksum of the request at the front, if it was computed: if a record begins where as many bytes are
+    /// left as `bytes` has. `None` is always allowed: then the reader of the record computes it.
     pub(crate) fn at(&self, bytes: &[u8]) -> Option<[u8; 16]>
         ensures { IfSome result (λ sum.
             (lane : ℕ) × (lane < 8) × (slice_index self.now.left lane ≡ length bytes.now)

@@ -1,4 +1,8 @@
-//! Taking the records of a file, one window at a time.
+//! Handing the records of a file to a taker, one window of 16 MiB at a time. After a fault nothing is promised of the
+//! taker: its maker drops it.
+//!
+//! In clauses 16777216 is the window, `WINDOW` of `droid_journal`, 18446744073709551616 is 2^64, and 25 the bytes of a
+//! record beside its frames (`AROUND` of `weight.rt`). What reads the file fails with Read, and as the taker does.
 
 ghost use Rattle.std.specs.Prelude.{◌≡◌, ◌*◌, ◌+◌, ◌<◌, ◌≤◌, ℕ, List, [], IfErr, IfNone, IfOk, IfSome, drop, length};
 ghost use Rattle.droid_journal.specs.Chains.{BeginsNoRecord, BeginsWith};
@@ -12,8 +16,8 @@ use crate::sums::{Sums, is_long};
 use crate::taker::Taker;
 use droid_journal::{Found, Key, LogFile, Place, record_by};
 
-/// Reads the record at the front of bytes. If its request is long and its checksum isn't computed, first computes those
-/// of the next eight long requests, for speed.
+/// Reads the record at the front of bytes; `None` if no whole one is there. If its request is long and its checksum
+/// isn't computed, first computes those of the next eight long requests: for speed alone, no clause holds it.
 fn next_of<'a>(key: Key, place: Place, bytes: &'a [u8], sums: &mut Sums) -> Option<Found<'a>>
     requires sums { AreSumsIn key.form bytes.now sums.old }
     requires at { place.at + length bytes.now < 18446744073709551616 }
@@ -31,7 +35,8 @@ fn next_of<'a>(key: Key, place: Place, bytes: &'a [u8], sums: &mut Sums) -> Opti
     record_by(key, place, bytes, sum)
 }
 
-/// Takes each record at the front of bytes that stand at a place, and returns the place behind them.
+/// Hands on each record at the front of bytes that stand at a place, and returns the place behind them: `from` if there
+/// is none. Fails only as the taker does.
 fn take_records<T: Taker>(
     taker: &mut T,
     key: Key,
@@ -57,7 +62,8 @@ fn take_records<T: Taker>(
     Ok(place)
 }
 
-/// Takes the records from a place on that are whole in one window.
+/// Hands on the records from a place on that are whole in one window, and returns the place behind them: `from` if
+/// there is none. What was in the buffer counts for nothing.
 fn take_some<F: LogFile, T: Taker>(
     file: &F,
     taker: &mut T,
@@ -88,7 +94,8 @@ fn take_some<F: LogFile, T: Taker>(
     }
 }
 
-/// Takes all records from a place on.
+/// Hands on all records from a place on, and returns the place behind them. A record has at least 25 bytes beside its
+/// frames, so their number never overflows.
 pub(crate) fn take_all<F: LogFile, T: Taker>(
     file: &F,
     taker: &mut T,

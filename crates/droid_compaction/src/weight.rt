@@ -1,4 +1,8 @@
 //! How much of a journal belongs to files that have ended.
+//!
+//! What reads the journal fails with Memory, Read, Header or Behind, and returns Write never, as nothing is written;
+//! but only of Header and Behind clauses say when. In clauses 16777216 is `WINDOW` of `droid_journal`, and 41 `AROUND`
+//! of `rewriter.rt`.
 
 ghost use Rattle.std.specs.Prelude.{◌≡◌, ◌+◌, ◌*◌, ◌<◌, ◌≤◌, ◌↔◌, ℕ, Bool, List, IfOk, IsErrOf, IsTrue, length};
 ghost use Rattle.std.specs.List.{sum_by};
@@ -18,7 +22,8 @@ use droid_frame::kinds::PIECE;
 use droid_journal::{LogFile, WINDOW};
 use std::alloc::Global;
 
-/// The bytes of a record beside its two frames.
+/// The bytes of a record beside its two frames, without a mark: a first byte, two lengths of four, a check value of 16.
+/// `size_of` of `specs/Sizes.antt` has them, and the prover ties both.
 const AROUND: usize = 25;
 
 /// How many bytes the pieces of some files have so far.
@@ -28,7 +33,7 @@ pub(crate) struct Weight {
     pub(crate) bytes: u64,
 }
 
-/// Returns how many bytes a record has if it is a piece of one of these files, and 0 for any other.
+/// Returns how many bytes a record has, without a mark, if it is a piece of one of these files, and 0 for any other.
 fn weight_of(files: &Numbers, request: &[u8], reply: &[u8]) -> u64
     requires { length request.now + length reply.now + 41 ≤ 8388608 }
     ensures { (first : Bool) → result ≡ piece_bytes (has_number files.now) (made first request.now reply.now) }
@@ -50,10 +55,10 @@ impl Taker for Weight {
 
     ghost took = { λ files weight its. AreWeighed files weight.files weight.bytes its };
 
-    /// Adds the bytes of the record if it is a piece of one of the files.
+    /// Adds the bytes of the record if it is a piece of one of the files. The checksum is not needed.
     fn take(&mut self, request: &[u8], _sum: [u8; 16], reply: &[u8]) -> Result<(), RewriteFault> {
         let weight = weight_of(&self.files, request, reply);
-        // No file is so long that this fails.
+        // No file is so long that this fails. Of the faults of a taker, Memory is the nearer one.
         match self.bytes.checked_add(weight) {
             Some(bytes) => self.bytes = bytes,
             None => return Err(RewriteFault::Memory),
@@ -62,14 +67,15 @@ impl Taker for Weight {
     }
 }
 
-/// Returns whether a part is more than half of a whole.
+/// Returns whether a part is more than half of a whole. In 128 bits, since twice a part may need more than 64.
 fn is_more_than_half(part: u64, whole: u64) -> bool
     ensures { IsTrue result ↔ (whole < 2 * part) }
 {
     u128::from(whole) < 2 * u128::from(part)
 }
 
-/// Returns whether these files' pieces have more than half of the bytes of a journal.
+/// Returns whether these files' pieces have more than half of the bytes of a journal with this header. Reads all of it
+/// through this buffer.
 fn weighs_more<F: LogFile>(
     alloc: Global,
     file: &F,
@@ -95,8 +101,7 @@ fn weighs_more<F: LogFile>(
     }
 }
 
-/// Returns whether more than half of a journal's bytes are of pieces of files that have ended. Reads through this
-/// buffer.
+/// Does the work of [`is_mostly_ended`], and reads through this buffer.
 fn is_mostly_ended_by<F: LogFile>(
     alloc: Global,
     file: &F,

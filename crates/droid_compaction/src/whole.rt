@@ -1,4 +1,7 @@
-//! Taking all records of a journal with nothing behind them.
+//! Handing all records of a journal to a taker, and checking its header before and its end behind them: nothing may
+//! stand there but the beginning of the next turn: a byte and a mark, `MARK` of `droid_journal`, 17 bytes.
+//!
+//! What reads the file fails with Read; in clauses 16777216 is `WINDOW` of `droid_journal`.
 
 ghost use Rattle.std.specs.Prelude.{◌≡◌, ◌≢◌, ◌+◌, ◌↔◌, if◌then◌else◌, ℕ, List, [], IfErr, IfNone, IfOk, IfSome};
 ghost use Rattle.std.specs.Prelude.{IsErrOf, IsTrue, drop, length, take, true};
@@ -15,7 +18,7 @@ use crate::walk::take_all;
 use droid_journal::{Form, Key, LogFile, MARK, first_place, is_same, key_of, turn_mark};
 use std::alloc::Global;
 
-/// Reads as many bytes as the header has, and compares them with it.
+/// Reads as many bytes as the header has into `front`, and returns whether they are the header.
 fn is_header<F: LogFile>(file: &F, header: &[u8], front: &mut [u8]) -> Result<bool, RewriteFault>
     requires found { F.is_found file.now }
     requires room { length front.old ≡ length header.now }
@@ -28,7 +31,7 @@ fn is_header<F: LogFile>(file: &F, header: &[u8], front: &mut [u8]) -> Result<bo
     Ok(is_same(&front[..count], header))
 }
 
-/// Returns whether a file begins with this header.
+/// Returns whether a file begins with this header. Fails with Read or Memory.
 fn has_header<F: LogFile>(alloc: Global, file: &F, header: &[u8]) -> Result<bool, RewriteFault>
     requires found { F.is_found file.now }
     ensures header { (s : List ℕ) → F.has file.now s → IfOk result (λ has. IsTrue has ↔ HasHeader header.now s) }
@@ -58,7 +61,8 @@ fn end_at<F: LogFile>(file: &F, key: Key, at: u64) -> Result<Option<bool>, Rewri
     Ok(end)
 }
 
-/// Does the work of [`end_at`] with the bytes that were read, of which there are at most 18.
+/// Does the work of [`end_at`] with the bytes that were read, of which there are at most 18: one more than `MARK`, so
+/// that a mark with anything behind it is seen. In version 3 any byte is something else.
 fn end_in(key: Key, at: u64, seen: &[u8]) -> Option<bool>
     ensures there { (rest : List ℕ) → seen.now ≡ take 18 rest
         → IfSome result (λ ahead. rest ≡ (if ahead then turn_mark key at else [])) }
@@ -79,8 +83,8 @@ fn end_in(key: Key, at: u64, seen: &[u8]) -> Option<bool>
     Some(true)
 }
 
-/// Returns where a file ends: behind its records, and the beginning of the next turn if that is there. `None` if the
-/// number is too large.
+/// Returns where a file ends: behind its records, which end at `at`, and the beginning of the next turn if that is
+/// there (`ahead`). `None` if the number is too large, which no file's is.
 fn size_of(at: u64, ahead: bool) -> Option<u64>
     ensures { IfSome result (λ end. end ≡ at + (if ahead then 17 else 0)) }
 {
@@ -93,8 +97,10 @@ fn size_of(at: u64, ahead: bool) -> Option<u64>
     Some(end)
 }
 
-/// Takes all records of a file with this header, checks that nothing is behind them but perhaps the beginning of the
-/// next turn, and returns the file's size.
+/// Hands on all records of a file with this header, checks that nothing is behind them but perhaps the beginning of the
+/// next turn, and returns the file's size. The fault is [`RewriteFault::Header`] or [`RewriteFault::Behind`] where the
+/// file is not so, else Read, Memory or what the taker fails with; after each nothing is promised of the taker, which
+/// its maker drops.
 pub(crate) fn take_whole<F: LogFile, T: Taker>(
     alloc: Global,
     file: &F,

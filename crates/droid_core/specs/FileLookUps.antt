@@ -1,5 +1,4 @@
--- What the look-ups of a file and of an unfinished file find of a world. No public clause of the service names these:
--- they only serve proofs.
+-- For inner clauses and proofs: what the look-ups of a file and of an unfinished file find of a world.
 use Rattle.std.specs.Prelude.{◌≡◌, ℕ, ℤ, true, false, if◌then◌else◌, List, Option, None, Some, MatchBool, ⊤, Result, Ok}
 use Rattle.std.specs.Prelude.{Err}
 use Rattle.std.specs.List.{slice_get}

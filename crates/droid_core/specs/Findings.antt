@@ -1,4 +1,4 @@
--- The finding of a file that is finished: what the checks say of it, and how it is kept. No public clause names these.
+-- For inner clauses and proofs: the finding of a file that is finished, what the checks say of it, and how it is kept.
 use Rattle.std.specs.Prelude.{◌≡◌, ◌<◌, ◌^◌, ℕ, true, false, Option, None}
 use Rattle.droid_assembly.specs.State.{State}
 use Rattle.droid_core.specs.Identifying.{IsWellFormed}

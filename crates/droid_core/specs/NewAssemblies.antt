@@ -1,4 +1,4 @@
--- The assembly of a new file. No public clause names it: it only serves proofs.
+-- For inner clauses and proofs: the assembly of a new file.
 use Rattle.std.specs.Prelude.{◌≡◌, ◌≤◌, ℕ, [], None}
 use Rattle.droid_assembly.specs.State.{State, StandsFor, hash_kind_of}
 use Rattle.droid_frame.specs.declared.hash_kind.HashKind.{HashKind}

@@ -1,4 +1,4 @@
--- What is found of the place of a new node, and of its folder. No public clause names these: they only serve proofs.
+-- For inner clauses and proofs: what is found of the place of a new node, and of its folder.
 use Rattle.std.specs.Prelude.{◌≡◌, ℕ, ◌∷◌, ◌++◌, Bool, false, List, Option, Some, None, is_some, Result, Ok, Err}
 use Rattle.std.specs.Prelude.{MatchBool, ⊤}
 use Rattle.droid_frame.specs.declared.refusal.Refusal.{Refusal}

@@ -29,7 +29,8 @@ pub struct FileRow {
 }
 
 impl FileRow {
-    /// Returns whether the file is unfinished.
+    /// Returns whether the file is unfinished: pieces of it may still come. A `FileRow` that [`file_of`] made is never
+    /// of a folder.
     pub fn is_unfinished(&self) -> bool
         ensures { result ≡ is_unfinished self.now.node.state }
     {
@@ -51,7 +52,9 @@ pub struct UnfinishedRow {
     pub place: usize,
 }
 
-/// Looks up the unfinished file with this number in this profile. Between two requests no piece of it is pending.
+/// Looks up the unfinished file of this number in this profile: its rows, and the place of its assembly. Refuses with
+/// NoSuchProfile, NoSuchNode, NotAFile or AlreadyFinished, in this order, or with Memory. Between two requests no piece
+/// of it is pending.
 pub fn unfinished_file(
     store: &mut Store,
     files: &UnfinishedFiles,
@@ -77,7 +80,8 @@ pub fn unfinished_file(
     Ok(UnfinishedRow { row, place })
 }
 
-/// Looks up the file with this number in this profile.
+/// Looks up the file with this number in this profile. Refuses with NoSuchProfile, NoSuchNode or NotAFile, in this
+/// order, or with Memory.
 pub fn file_of(store: &mut Store, profile: u32, file: u32) -> Result<FileRow, Refusal>
     ensures same { store.new ≡ store.old }
     ensures open { IfOk result (λ row. row.node.state ≡ Unfinished → IsOpen profile file store.old) }
@@ -96,8 +100,8 @@ pub fn file_of(store: &mut Store, profile: u32, file: u32) -> Result<FileRow, Re
     }
 }
 
-/// Returns the node from what the store found, or refuses the request if it is not there or was abandoned. The store
-/// fails only if memory runs out.
+/// Returns the node from what the store's look-up returned, or NoSuchNode if it is not there or was abandoned. The
+/// store fails only if memory runs out, which becomes the refusal Memory.
 pub fn node_of(found: Result<Option<NodeRow>, StoreFault>) -> Result<NodeRow, Refusal>
     requires memory { IfErr found (λ fault. fault ≡ StoreFault.Memory) }
     ensures reported { result ≡ node_in found }
@@ -111,8 +115,8 @@ pub fn node_of(found: Result<Option<NodeRow>, StoreFault>) -> Result<NodeRow, Re
     }
 }
 
-/// Returns the place of a file's assembly, counted from 0. It cannot happen that an unfinished file has none; the code
-/// would answer Store.
+/// Returns the place of an unfinished file's assembly in the list of assemblies, counted from 0. It cannot happen that
+/// an unfinished file has none; the code would answer Store.
 pub fn place_of_file(files: &UnfinishedFiles, profile: u32, file: u32) -> Result<usize, Refusal>
     ensures place { IfOk result (λ place. slice_get files.now.files place ≡ open_at profile file files.now.files) }
     ensures within { IfOk result (λ place. place < length files.now.files) }

@@ -1,4 +1,4 @@
-//! What a service holds.
+//! What a service holds, without its caches: all that its history made.
 
 use crate::limits::Limits;
 use crate::unfinished::files::UnfinishedFiles;
@@ -20,7 +20,8 @@ pub struct Holdings {
     pub files: UnfinishedFiles,
 }
 
-// Written by hand, so that the crates above do not prove again how each part is dropped.
+// Frees its five fields, as a derived `Drop` would. Written by hand, so that the crates above do not prove again how
+// each part is dropped. No clause says more.
 impl Drop for Holdings {
     fn drop(self) {
         let Holdings {

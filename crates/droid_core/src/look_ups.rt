@@ -12,8 +12,8 @@ ghost use Rattle.droid_store.specs.declared.fault.StoreFault.TheVariants.{Memory
 use droid_frame::Refusal;
 use droid_store::{ProfileRow, StoreFault};
 
-/// Returns the profile from what the store found, or refuses the request if there is none. The store fails only if
-/// memory runs out.
+/// Returns the profile from what the store's look-up returned, or NoSuchProfile if there is none. The store fails only
+/// if memory runs out, which becomes the refusal Memory.
 pub fn profile_of(found: Result<Option<ProfileRow>, StoreFault>) -> Result<ProfileRow, Refusal>
     requires memory { IfErr found (λ fault. fault ≡ Memory) }
     ensures reported { result ≡ profile_in found }

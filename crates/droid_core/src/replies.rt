@@ -1,4 +1,4 @@
-//! The rows of kept replies, and the answers that they give.
+//! The rows of kept replies, and the answers that they give; and the reply in a call's result.
 
 ghost use Rattle.std.specs.Prelude.{◌≡◌, ◌≢◌, false, IfOk, IfErr, MatchBool, ⊤};
 ghost use Rattle.droid_core.specs.Changes.{again, answered, is_row_of, stamped};
@@ -35,11 +35,12 @@ pub fn entry_of(alloc: Global, stamp: Stamp, reply: &Reply) -> Result<Entry, Ref
 }
 
 /// Answers the request with this stamp by the row that is kept under its number: with the kept reply if the versions
-/// and the marks are equal, and else with NumberReused. Only the list of a `Finished` takes memory.
+/// and the marks are equal, and else with NumberReused. Only the list of a `Finished` takes memory. It cannot happen
+/// that the row's body is malformed; the code would answer Store.
 pub fn answer_again(alloc: Global, entry: Entry, stamp: Stamp) -> Reply
     ensures kept { (kept : Reply) → SpellsReply entry.version entry.kind entry.body kept
         → MatchBool (is_out_of_memory result) ⊤ (result ≡ again entry stamp kept) }
-    // Memory may run out only while a Finished is read.
+    // Memory may run out only while a Finished is read, of which 132 is the kind (`reply_kind` of droid_frame).
     ensures reused { is_row_of entry stamp ≡ false → result ≡ Refused refusals.NumberReused }
     ensures exact { (kept : Reply) → SpellsReply entry.version entry.kind entry.body kept → entry.kind ≢ 132
         → result ≡ again entry stamp kept }
@@ -62,14 +63,15 @@ pub fn answer_again(alloc: Global, entry: Entry, stamp: Stamp) -> Reply
     }
 }
 
-/// Returns whether the row has the version and the mark of this stamp.
+/// Returns whether the row has the version and the mark of this stamp: whether its request is sent again. Client and
+/// number were compared when the row was looked up.
 fn is_row_of(entry: &Entry, stamp: Stamp) -> bool
     ensures { result ≡ is_row_of entry.now stamp }
 {
     entry.version == stamp.version && entry.mark.as_slice() == stamp.mark.as_slice()
 }
 
-/// Returns the reply, or the refusal as a reply.
+/// Returns the reply of a call's result; a refusal becomes the reply Refused.
 pub fn reply_from(outcome: Result<Reply, Refusal>) -> Reply
     ensures { result ≡ answered outcome }
 {

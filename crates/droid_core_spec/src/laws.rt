@@ -1,4 +1,5 @@
-//! Laws of histories. Each is the contract of a function that does nothing, and is proved with it.
+//! Laws of histories: what the definitions of `specs/` come to. Each is the contract of a function that does nothing,
+//! and is proved with it. Where a definition changes so that a law fails, the prover refuses the law.
 
 ghost use Rattle.std.specs.Prelude.{◌≡◌, ◌≢◌, ◌+◌, ◌↔◌, ℕ, true, false, List, [], length, None, Some, IsSome};
 ghost use Rattle.std.specs.List.{AllByRecursion, Contains};

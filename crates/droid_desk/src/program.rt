@@ -1,6 +1,10 @@
 //! Reads the command line, runs the command that it asks for, and returns the exit status.
 //!
-//! Nothing here has a contract: each command and each ending has its own, and `tests/program` runs the program.
+//! Nothing here has a contract: each command and each ending has its own. That the right command is called, with its
+//! own options, ending and status, `tests/program` holds, which runs the program: `folders/profile_*.py` and
+//! `folders/verify_*.py`, `submissions/submit_*.py`, `identify/names.py` and `forms.py`, `report/check_report.py`,
+//! `signatures/registry_command.py`, `cases.sh` (`script`, the helps, and words that are no command), `run_command.py`,
+//! `serve_command.py` and `send_faults.py` of `wire`, and `journal/journal_compact.py`.
 
 use droid_arguments::{
     Asked, IdentifyOptions, NoCommand, ProfileOptions, RegistryOptions, RegistrySource,
@@ -19,7 +23,8 @@ use droid_terminal::Ending;
 use std::process::ExitCode;
 use std::{env, io};
 
-/// Runs the program. `on_terminal` says whether standard error is a terminal.
+/// Runs the program, and returns its exit status. `on_terminal` says whether standard error is a terminal: the commands
+/// over folders print their progress by it, as one line that is replaced or as a line now and then.
 pub fn run(rt: &HostRuntime, on_terminal: bool) -> ExitCode {
     let words = match words(rt) {
         Ok(words) => words,
@@ -31,13 +36,15 @@ pub fn run(rt: &HostRuntime, on_terminal: bool) -> ExitCode {
     }
 }
 
-/// Returns the words of the command line.
+/// Returns the words of the command line, the program's own name first. Fails if one is not UTF-8 (the case
+/// `word_no_text`), or memory runs out.
 fn words(rt: &HostRuntime) -> io::Result<Vec<String>> {
     let words = env::args(rt)?.collect(rt.alloc())?;
     Ok(words)
 }
 
-/// Runs the command that is asked for.
+/// Runs the command that is asked for, prints how it ended, and returns the status. Only `identify` also needs the
+/// `words`: they name its files.
 fn fulfil(rt: &HostRuntime, words: &[String], asked: Asked<'_>, on_terminal: bool) -> ExitCode {
     match asked {
         Asked::Profile(options) => profile(rt, options, on_terminal),
@@ -67,7 +74,8 @@ fn fulfil(rt: &HostRuntime, words: &[String], asked: Asked<'_>, on_terminal: boo
     }
 }
 
-/// Runs `profile`.
+/// Runs `profile` by the registry that is named, if it can be read; otherwise the command ends by the registry's fault,
+/// before the folder is looked at (`test_registry_first` of `profile_arguments.py`).
 fn profile(rt: &HostRuntime, options: ProfileOptions<'_>, on_terminal: bool) -> ExitCode {
     match named_registry(rt, options.registry) {
         Ok(registry) => {
@@ -78,7 +86,8 @@ fn profile(rt: &HostRuntime, options: ProfileOptions<'_>, on_terminal: bool) -> 
     }
 }
 
-/// Reads the registry of a file, or else that of everyday formats.
+/// Reads the registry of the file at a path, or else the built-in one of everyday formats, and keeps its name for what
+/// is printed. Notes on standard error if a file has no formats. The error is how the command ends without it.
 fn named_registry<'a>(
     rt: &HostRuntime,
     path: Option<&'a str>,
@@ -99,7 +108,9 @@ fn named_registry<'a>(
     }
 }
 
-/// Identifies the files that the words name.
+/// Runs `identify` over the files that the words name, unless memory runs out for their list or the registry cannot be
+/// read. The status is its own: it may be 1, which no other command has. Only a fault of `--why` names a PUID, so
+/// without that option the empty text is never printed.
 fn identify(rt: &HostRuntime, words: &[String], options: IdentifyOptions<'_>) -> ExitCode {
     let files = match named_files(rt.alloc(), words) {
         Ok(files) => files,
@@ -115,7 +126,8 @@ fn identify(rt: &HostRuntime, words: &[String], options: IdentifyOptions<'_>) ->
     }
 }
 
-/// Runs `identify` by this registry, whose name it gives with the answer.
+/// Runs `identify` over these files by this registry. The name of the registry is printed with the answer, so it is
+/// made a text first: without memory for that the command ends by `Memory`.
 fn identify_by(
     rt: &HostRuntime,
     registry: &NamedRegistry<'_>,
@@ -133,7 +145,8 @@ fn identify_by(
     identify_command(rt, named, options, files)
 }
 
-/// Compares a folder with a list. A registry is read only if formats are compared.
+/// Runs `verify`: compares a folder with a list. A registry is read only if formats are compared: with --identify, and
+/// without --quick, which reads no file.
 fn verify(rt: &HostRuntime, options: VerifyOptions<'_>, on_terminal: bool) -> ExitCode {
     if !options.identify || options.quick {
         return verify_by(rt, None, options, on_terminal);
@@ -144,7 +157,7 @@ fn verify(rt: &HostRuntime, options: VerifyOptions<'_>, on_terminal: bool) -> Ex
     }
 }
 
-/// Runs `verify`, with the registry that formats are compared by, if they are.
+/// Runs `verify` with the registry that formats are compared by, or `None` if they are not, and ends by how it ended.
 fn verify_by(
     rt: &HostRuntime,
     registry: Option<&NamedRegistry<'_>>,
@@ -155,36 +168,37 @@ fn verify_by(
     end_by(rt, ending.told(rt, options.against, options.folder))
 }
 
-/// Runs `submit`.
+/// Runs `submit`, and ends by how it ended. It needs no registry: the service has one.
 fn submit(rt: &HostRuntime, options: SubmitOptions<'_>, on_terminal: bool) -> ExitCode {
     let ending = submit_folder(rt, options, on_terminal);
     end_by(rt, ending.told(rt, options))
 }
 
-/// Runs `report`.
+/// Runs `report`, which makes a page of a CSV, and ends by how it ended.
 fn report(rt: &HostRuntime, options: ReportOptions<'_>) -> ExitCode {
     let ending = report_profile(rt, options.profile, options.title, options.output);
     end_by(rt, ending.told(rt, options.profile, options.output))
 }
 
-/// Runs `registry`.
+/// Runs `registry`, which makes a registry of a signature file, and ends by how it ended.
 fn registry(rt: &HostRuntime, options: RegistryOptions<'_>) -> ExitCode {
     let ending = registry_command(rt, options.file, options.output, options.quiet);
     end_by(rt, ending.told(options.file, options.output))
 }
 
-/// Says how a command of a service ended, and returns its status.
+/// Prints how a command of a service ended, or why a registry could not be read, and returns the status.
 fn end(rt: &HostRuntime, ended: &Ended<'_>) -> ExitCode {
     end_by(rt, ended.told())
 }
 
-/// Prints what an ending says, and returns its status.
+/// Prints the fault of an ending on standard error, if it is one, and returns its status. What cannot be printed
+/// changes no status.
 fn end_by(rt: &HostRuntime, ending: Ending<'_>) -> ExitCode {
     let _ = ending.print(rt);
     ExitCode::from(ending.status())
 }
 
-/// Says why no command was run, and returns the status.
+/// Prints why no command was run, which may be a help or the version, and returns the status.
 fn end_without(rt: &HostRuntime, why: &NoCommand) -> ExitCode {
     let _ = why.print(rt);
     ExitCode::from(why.status())

@@ -1,4 +1,4 @@
-//! Lists the entries of a folder with their metadata.
+//! Lists the entries of a folder with their metadata, and puts together the paths by which they are asked for.
 
 ghost use Rattle.std.specs.Prelude.{◌≡◌, ◌≢◌, ◌++◌, ◌∷◌, [], IfErr, IfOk, OnOk, string_bytes};
 ghost use Rattle.droid_tree.specs.Paths.{below};
@@ -11,8 +11,9 @@ use droid_frame::Blob;
 use droid_tree::{EntryKind, FolderEntry, TreeFault};
 use std::alloc::{AllocError, Global};
 
-/// Lists the folder at `path`. The path of an entry is `folder`, `/` and its name. At the end the process's working
-/// folder is that in which it was started.
+/// Lists the folder at `path`, in any order. The path of an entry is `folder`, `/` and its name: both name one folder,
+/// but `path` may end in `/`. Fails as [`Disk::names`] does, or with `Memory`. At the end, also after an error, the
+/// process's working folder is that in which it was started.
 pub(crate) fn list<D: Disk>(
     alloc: Global,
     disk: &mut D,
@@ -28,7 +29,7 @@ pub(crate) fn list<D: Disk>(
     listed
 }
 
-/// Lists the folder. The process may then be in it.
+/// Lists the folder, and fails, as `list` says. The process may then be in it: `list` goes back.
 fn list_inside<D: Disk>(
     alloc: Global,
     disk: &mut D,
@@ -48,7 +49,7 @@ fn list_inside<D: Disk>(
     Ok(entries)
 }
 
-/// Returns an empty list with room for as many entries.
+/// Returns an empty list with room for `count` entries, or the fault `Memory`.
 fn room_for(alloc: Global, count: usize) -> Result<Vec<FolderEntry>, TreeFault>
     ensures none { IfOk result (λ entries. entries.items ≡ []) }
     ensures memory { IfErr result (λ fault. fault ≡ Memory) }
@@ -59,7 +60,7 @@ fn room_for(alloc: Global, count: usize) -> Result<Vec<FolderEntry>, TreeFault>
     }
 }
 
-/// Appends an entry.
+/// Appends an entry. Fails only with `Memory`; `list_inside` ends then.
 fn add(entries: &mut Vec<FolderEntry>, entry: FolderEntry) -> Result<(), TreeFault>
     ensures added { OnOk result (entries.new.items ≡ entries.old.items ++ entry ∷ []) }
     ensures memory { IfErr result (λ fault. fault ≡ Memory) }
@@ -70,7 +71,8 @@ fn add(entries: &mut Vec<FolderEntry>, entry: FolderEntry) -> Result<(), TreeFau
     }
 }
 
-/// Returns the entry of this name. If a path is needed, it is put together in `place`, whatever stood there.
+/// Returns the entry of this name. If a path is needed, it is put together in `place`, whatever stood there. A name
+/// without metadata is an entry too; it fails only with `Memory`.
 fn entry_of<D: Disk>(
     disk: &mut D,
     folder: &str,
@@ -87,7 +89,8 @@ fn entry_of<D: Disk>(
     }
 }
 
-/// Returns an entry of this folder with its metadata. Without them it is neither folder nor file, or too long a path.
+/// Returns an entry of this folder with its metadata. Without them it is `Other` or `TooLong`, and its numbers, which
+/// no clause holds then, are 0.
 fn entry_with(folder: &str, name: Blob, found: Option<FileMetadata>) -> FolderEntry
     ensures name { result.name ≡ name }
     ensures shown { Shows folder.now found result }
@@ -121,7 +124,8 @@ fn entry_with(folder: &str, name: Blob, found: Option<FileMetadata>) -> FolderEn
     }
 }
 
-/// Returns the type of an entry of which no metadata were found.
+/// Returns the type of an entry of which no metadata were found: `TooLong` if its name is text and its path too long,
+/// otherwise `Other`.
 #[tactic(auto, using(crate::proofs::UnseenKinds::is_text, crate::proofs::UnseenKinds::is_no_text))]
 fn kind_unseen(folder: &str, name: &Blob) -> EntryKind
     ensures { result ≡ kind_unseen folder.now name.now }
@@ -137,14 +141,18 @@ fn kind_unseen(folder: &str, name: &Blob) -> EntryKind
 }
 
 /// Returns whether the path of this name in the folder is longer than the system takes: 4,096 bytes with the zero byte.
+/// Two of them are the `/` and the zero byte, so 4,094 are left for folder and name. The definition has the 4,096, and
+/// the prover ties them; `cause` of `droid_terminal` and the helps name the 4,095 without the zero byte, as
+/// `PATH_LIMIT` of `droid_cmd_identify` has it, and `long_paths.py` of `tests/program/folders` tests it.
 fn is_too_long(folder: &str, name: &str) -> bool
     ensures { result ≡ is_too_long folder.now name.now }
 {
     name.len() > 4_094_usize.saturating_sub(folder.len()) || folder.len() > 4_094
 }
 
-/// Returns the metadata of a name in a folder, or `None`. Does not ask for names that are not valid UTF-8, or whose
-/// paths are longer than the system takes.
+/// Returns the metadata of a name in a folder, or `None` if there are none. Does not ask for names that are not valid
+/// UTF-8, or whose paths are longer than the system takes. `place` is where a path is put together. Fails only if
+/// memory runs out.
 fn look_below<D: Disk>(
     disk: &mut D,
     folder: &str,
@@ -163,7 +171,8 @@ fn look_below<D: Disk>(
     Ok(found)
 }
 
-/// Puts the path of a name in a folder in the place of what stood in `place`.
+/// Puts the path of a name in a folder into `place`, in place of what stood there: the folder's path, `/` and the name.
+/// Fails only if memory runs out; nothing is promised of `place` then, and the listing ends.
 pub(crate) fn put_path(place: &mut String, folder: &str, name: &str) -> Result<(), AllocError>
     ensures { OnOk result (string_bytes place.new ≡ below folder.now name.now) }
 {

@@ -10,11 +10,13 @@ use std::fs::File;
 use std::io::{Error, ErrorKind};
 use std::os::unix::fs::FileExt;
 
-/// How often a read is tried: once, and again after each of up to 64 interruptions.
+/// How often a read is tried: once, and again after each of up to 64 interruptions, as `RETRY_LIMIT` of `droid_frame`
+/// has it for streams; nothing ties them. No clause holds the number; `profile_reads.py` does.
 const TURNS: u32 = 65;
 
 /// Appends up to `wanted` bytes of a file, starting at offset `from`. Appends fewer only if the file ends before. `len`
-/// is the length that the file had when it was opened: a read that comes short there is not tried again.
+/// is the length that the file had when it was opened: a read that comes short there is not tried again. Fails as
+/// `fill` does, or with `Memory`. After an error nothing is promised of `bytes`.
 pub(crate) fn add_bytes(
     file: &File,
     len: u64,
@@ -38,7 +40,8 @@ pub(crate) fn add_bytes(
 }
 
 /// Fills a buffer with bytes of a file, starting at offset `from`. Returns how many bytes came: fewer if the file ends
-/// before.
+/// before. `len` is the length that the file had when it was opened. Fails with `Unreadable`, as `read_some` and
+/// `place_after` do.
 fn fill(file: &File, len: u64, from: u64, buffer: &mut [u8]) -> Result<usize, TreeFault>
     ensures within { IfOk result (λ count. count ≤ length buffer.new) }
     ensures known { IfErr result (λ fault. fault ≢ Changed) }
@@ -64,7 +67,8 @@ fn is_end(len: u64, place: u64, count: usize) -> bool {
     len.saturating_sub(place) <= count as u64
 }
 
-/// Returns the offset after `count` more bytes.
+/// Returns the offset `count` bytes after `from`. Beyond 64 bits nothing can be read: `Unreadable`, which no clause and
+/// no test holds.
 fn place_after(from: u64, count: usize) -> Result<u64, TreeFault>
     ensures { IfErr result (λ fault. fault ≢ Changed) }
 {
@@ -74,7 +78,8 @@ fn place_after(from: u64, count: usize) -> Result<u64, TreeFault>
     }
 }
 
-/// Reads once, and again after each interruption, up to 65 times.
+/// Reads once into the front of `buffer`, and again after each interruption, `TURNS` times in all. Returns how many
+/// bytes came, 0 at the end of the file. Fails with `Unreadable`.
 fn read_some(file: &File, from: u64, buffer: &mut [u8]) -> Result<usize, TreeFault>
     ensures within { IfOk result (λ count. count ≤ length buffer.new) }
     ensures known { IfErr result (λ fault. fault ≢ Changed) }
@@ -89,7 +94,7 @@ fn read_some(file: &File, from: u64, buffer: &mut [u8]) -> Result<usize, TreeFau
     Err(TreeFault::Unreadable)
 }
 
-/// Returns whether a signal interrupted the call, which is then made again.
+/// Returns whether a signal interrupted the read, which is then tried again. For any other error it is not.
 fn was_interrupted(error: &Error) -> bool {
     error.kind() == ErrorKind::Interrupted
 }

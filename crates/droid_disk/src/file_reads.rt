@@ -1,4 +1,4 @@
-//! Opens the files of entries, and reads them to their ends.
+//! Opens the files of entries and reads on in them; sees that each is still as its folder listed it.
 
 ghost use Rattle.std.specs.Prelude.{◌≡◌, ◌≢◌, ◌↔◌, ◌⊎◌, ◌<◌, ◌++◌, ◌∷◌, [], None, Some, IfErr, IfOk, IsFalse, IsTrue};
 ghost use Rattle.std.specs.Prelude.{OnErr, OnOk, length, slice_index_or};
@@ -15,7 +15,9 @@ use crate::open_files::{close, make_room, place_in};
 use droid_frame::Text;
 use droid_tree::{EntryKind, FolderEntry, TreeFault};
 
-/// Returns the place of the file of an entry among the open ones. Opens it if it is read from its first byte on.
+/// Returns the place in `files` of the file of an entry, at the path that `top` and `path` make. Opens it if it is read
+/// from its first byte on, that is, if `from` is 0. Fails with `Unreadable` if it can't be opened or is not open, with
+/// `Changed` if what is there is not as it was listed.
 pub(crate) fn place_for<D: Disk>(
     disk: &mut D,
     files: &mut Vec<D::File>,
@@ -46,7 +48,9 @@ pub(crate) fn place_for<D: Disk>(
     Ok(place)
 }
 
-/// Opens the file of an entry, in the place of what was open by its path, and returns its place.
+/// Opens the file of an entry, in the place of what was open by its path, and returns its place, the last one. If eight
+/// files are open, the one that was opened longest ago is closed for it, even if the opening then fails. Fails as
+/// `open_at` does, or with `Memory`.
 fn begin<D: Disk>(
     disk: &mut D,
     files: &mut Vec<D::File>,
@@ -81,7 +85,8 @@ fn begin<D: Disk>(
     }
 }
 
-/// Returns the place of the file of an entry, which is open.
+/// Returns the place of the file of an entry, which is to be open. Asks the file system nothing. Fails with
+/// `Unreadable` if no file is open by its path, with `Changed` if that was listed as another entry.
 fn find<D: Disk>(
     disk: &mut D,
     files: &[D::File],
@@ -112,8 +117,8 @@ fn find<D: Disk>(
     Err(TreeFault::Changed)
 }
 
-/// Opens the regular file of an entry. Opens nothing else, such as a pipe or a link. Fails with `Changed` if a regular
-/// file is at the path that is not as it was listed, or was opened.
+/// Opens the regular file of an entry. Opens nothing else, such as a pipe or a link: `Unreadable`. Fails with `Changed`
+/// if a regular file is at the path that is not as it was listed, or if what was opened is not.
 fn open_at<D: Disk>(disk: &mut D, path: Text, entry: &FolderEntry) -> Result<D::File, TreeFault>
     ensures path { IfOk result (λ file. D.path_of file ≡ path) }
     ensures opened { IfOk result (λ file. OpensAt D.says path entry.now (D.metadata_of file) disk.old disk.new) }
@@ -140,7 +145,9 @@ fn open_at<D: Disk>(disk: &mut D, path: Text, entry: &FolderEntry) -> Result<D::
     }
 }
 
-/// Reads on in an open file. If that shows its end, looks at it once more. Returns whether it does.
+/// Appends up to `wanted` bytes of an open file from offset `from` to `bytes`. If that shows its end, looks at it once
+/// more: it returns true if the file is still as it was listed, and fails with `Changed` otherwise, also if it can't be
+/// looked at. Fails as `Disk::read_at` does, too. After an error nothing is promised of `bytes`.
 pub(crate) fn read_on<D: Disk>(
     disk: &mut D,
     file: &D::File,
@@ -179,14 +186,16 @@ pub(crate) fn read_on<D: Disk>(
 }
 
 /// Returns whether a read of `wanted` bytes from this offset, which returned `count` bytes, shows the end of a file
-/// that was listed with this length.
+/// that was listed with the length `len`: fewer came than were asked for, or more than were left. A read that ends just
+/// at `len` does not show it.
 fn shows_end(len: u64, from: u64, wanted: u32, count: usize) -> bool
     ensures { result ≡ shows_end len from wanted count }
 {
     count < wanted as usize || len.saturating_sub(from) < count as u64
 }
 
-/// Returns whether it is a regular file, and as it was listed as this entry.
+/// Returns whether what has these metadata is a regular file, and as it was listed as this entry: one file, its length
+/// and its times.
 fn is_as_listed(found: FileMetadata, entry: &FolderEntry) -> bool
     ensures same { IsTrue result → IsAsListed entry.now found }
     ensures other { IsFalse result → IsAsListed entry.now found → ⊥ }
@@ -194,7 +203,7 @@ fn is_as_listed(found: FileMetadata, entry: &FolderEntry) -> bool
     is_file(found) && is_that_file(found, entry) && has_those_times(found, entry)
 }
 
-/// Returns whether it is the file that was listed, and as long.
+/// Returns whether it is the file that was listed, by device and inode, and as long.
 fn is_that_file(found: FileMetadata, entry: &FolderEntry) -> bool
     ensures { IsTrue result
         ↔ (found.device ≡ entry.now.device) × (found.inode ≡ entry.now.inode) × (found.len ≡ entry.now.len) }
@@ -208,7 +217,8 @@ fn is_that_file(found: FileMetadata, entry: &FolderEntry) -> bool
     found.len == entry.len
 }
 
-/// Returns whether it was last changed when the file that was listed was.
+/// Returns whether its times are those of the listing, to the nanosecond: of its bytes, and of its bytes, name or
+/// rights.
 fn has_those_times(found: FileMetadata, entry: &FolderEntry) -> bool
     ensures { IsTrue result
         ↔ (found.modified ≡ entry.now.modified) × (found.modified_nanos ≡ entry.now.modified_nanos)
@@ -226,7 +236,7 @@ fn has_those_times(found: FileMetadata, entry: &FolderEntry) -> bool
     found.changed_nanos == entry.changed_nanos
 }
 
-/// Returns whether it is a regular file.
+/// Returns whether these are the metadata of a regular file. A link is none, even if it leads to one.
 fn is_file(found: FileMetadata) -> bool
     ensures file { IsTrue result → found.kind ≡ EntryKind.File }
     ensures other { IsFalse result → found.kind ≡ EntryKind.File → ⊥ }

@@ -1,4 +1,4 @@
-//! A folder of a file system, as a tree.
+//! A folder of a file system, as a tree, and the paths by which what is in it is reached.
 
 ghost use Rattle.std.specs.Prelude.{◌≡◌, ◌++◌, [], IfErr, IfOk};
 ghost use Rattle.droid_tree.specs.declared.fault.TreeFault.TheVariants.{Memory};
@@ -25,7 +25,8 @@ pub struct Folder<D: Disk + Drop> {
 }
 
 impl<D: Disk + Drop> Folder<D> {
-    /// Makes a tree of the folder at this path, which may end in `/`.
+    /// Makes a tree of the folder at this path, which may end in `/`. Asks the file system nothing, and fails only if
+    /// out of memory. Takes the room for all open files here; no clause needs that.
     pub fn new(alloc: Global, disk: D, path: &str) -> Result<Folder<D>, AllocError>
         ensures disk { IfOk result (λ folder. folder.disk ≡ disk) }
         ensures top { IfOk result (λ folder. IsWithoutSlashes path.now folder.top) }
@@ -40,6 +41,7 @@ impl<D: Disk + Drop> Folder<D> {
     }
 }
 
+// `Tree` says what each returns. A file is closed when a read shows its end, or fails.
 impl<D: Disk + Drop> Tree for Folder<D> {
     ghost observes = { λ old observed new.
         ObservesBelow D.says D.path_of D.metadata_of old.top old.open.items old.disk observed new.open.items new.disk
@@ -81,14 +83,14 @@ impl<D: Disk + Drop> Tree for Folder<D> {
     }
 }
 
-/// Returns the path without the slashes at its end.
+/// Returns the path without the slashes at its end: of `/` nothing is left.
 fn without_slashes(path: &str) -> &str
     ensures { IsWithoutSlashes path.now result.now }
 {
     path.trim_end_matches('/')
 }
 
-/// Returns the path. Out of memory for it is the fault of a tree.
+/// Returns the path that `place_of` or `folder_at` made, or the fault `Memory` of a tree if there was no memory for it.
 pub(crate) fn kept(path: Result<Text, AllocError>) -> Result<Text, TreeFault>
     ensures same { IfOk result (λ text. path ≡ Ok text) }
     ensures memory { IfErr result (λ fault. fault ≡ Memory) }
@@ -99,7 +101,8 @@ pub(crate) fn kept(path: Result<Text, AllocError>) -> Result<Text, TreeFault>
     }
 }
 
-/// Returns both texts joined: the path of something below the top.
+/// Returns both texts joined: the path of something below the top. `path` is empty or begins with `/`, where a tree
+/// gives it. Fails only if memory runs out, as `folder_at`.
 pub(crate) fn place_of(alloc: Global, top: &str, path: &str) -> Result<Text, AllocError>
     ensures { IfOk result (λ text. text ≡ top.now ++ path.now) }
 {
@@ -110,7 +113,8 @@ pub(crate) fn place_of(alloc: Global, top: &str, path: &str) -> Result<Text, All
     Ok(Text::from(place))
 }
 
-/// Returns the path by which a folder is listed. That of the top ends in `/`, so that the top may be a link.
+/// Returns the path by which a folder is listed: `top` and `path` joined. That of the top, whose `path` is empty, ends
+/// in `/`, so that the top may be a link.
 fn folder_at(alloc: Global, top: &str, path: &str) -> Result<Text, AllocError>
     ensures { IfOk result (λ text. text ≡ folder_path top.now path.now) }
 {

@@ -2,6 +2,9 @@
 //!
 //! [`Folder`] reads a tree through the few calls of a [`Disk`]. [`System`] makes these calls to the machine's file
 //! system, and so does [`StayingSystem`], for a process that stays in the folder that it reads.
+//!
+//! Whatever makes a text or a list here may also fail with `Memory`, which is not said again at each function. A call
+//! of the machine that lacks memory itself counts as failed like any other.
 #![tactic(auto)]
 
 mod disk;

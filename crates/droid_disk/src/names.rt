@@ -1,4 +1,4 @@
-//! Splits what a folder reads as into names.
+//! Reads the names in a folder, and splits them where the zero bytes stand.
 
 ghost use Rattle.std.specs.Prelude.{◌≡◌, ◌∷◌, ◌++◌, [], IfOk, IfSome, OnOk, filter};
 ghost use Rattle.droid_disk.specs.Names.{is_entry, names_of};
@@ -8,10 +8,12 @@ use droid_tree::TreeFault;
 use std::alloc::{AllocError, Global};
 use std::io::Read;
 
-/// How many bytes the names of one folder can have together, each with its zero byte. A folder with more is unreadable.
+/// How many bytes the names of one folder can have together, each with its zero byte: one less than 64 MiB. A folder
+/// with more is unreadable. No clause and no test holds the number, and it is tied to no other.
 const NAMES_LIMIT: usize = 67_108_863;
 
-/// Reads the names of an open folder. The kit gives them as bytes: each name, and a zero byte after it.
+/// Reads the names of an open folder, without `.` and `..`. The kit gives them as bytes: each name, and a zero byte
+/// after it. Fails with `Unreadable` if that can't be read or is too long.
 pub(crate) fn read_names<D: Read + Drop>(alloc: Global, dir: D) -> Result<Vec<Blob>, TreeFault>
     ensures { IfOk result (λ names. IfSome (D.remaining dir) (λ bytes. names.items ≡ names_of bytes)) }
 {
@@ -26,7 +28,7 @@ pub(crate) fn read_names<D: Read + Drop>(alloc: Global, dir: D) -> Result<Vec<Bl
     }
 }
 
-/// Returns the names in the bytes, without `.` and `..`.
+/// Returns the names in the bytes, each ended by a zero byte, without `.` and `..`. Fails only if memory runs out.
 fn names_in(alloc: Global, bytes: &[u8]) -> Result<Vec<Blob>, AllocError>
     ensures { IfOk result (λ names. names.items ≡ names_of bytes.now) }
 {
@@ -37,7 +39,7 @@ fn names_in(alloc: Global, bytes: &[u8]) -> Result<Vec<Blob>, AllocError>
     Ok(names)
 }
 
-/// Appends a name, unless it is empty, `.` or `..`.
+/// Appends a name, unless it is empty, as behind the last zero byte, or `.` or `..`. Fails only if memory runs out.
 #[tactic(auto, using(crate::proofs::FilteredParts::none_more, crate::proofs::FilteredParts::one_more))]
 fn add_entry(alloc: Global, names: &mut Vec<Blob>, name: &[u8]) -> Result<(), AllocError>
     ensures { OnOk result (names.new.items ≡ names.old.items ++ filter is_entry (name.now ∷ [])) }

@@ -39,8 +39,9 @@ impl Drop for OpenFolder {
 }
 
 impl OpenFolder {
-    /// Opens the folder at this path. Returns `None` for a link, unless the path ends in `/`. `process` is the name of
-    /// this process below `/proc`.
+    /// Opens the folder at this path. Returns `None` if that can't be done, for a link unless the path ends in `/`, if
+    /// another folder came to the path meanwhile, and if memory runs out. `process` is the name of this process below
+    /// `/proc`.
     pub fn open<R: Files<File = File>>(
         rt: &R,
         alloc: Global,
@@ -73,14 +74,15 @@ impl OpenFolder {
         })
     }
 
-    /// Returns the path of the folder through the open one.
+    /// Returns the path of the folder through the open one, below `/proc`, with a `/` at its end.
     pub fn through(&self) -> &str
         ensures { result.now ≡ self.now.through }
     {
         self.through.as_str()
     }
 
-    /// Returns whether this is the folder at this path, which has no `/` at its end.
+    /// Returns whether this folder was opened by this path, which has no `/` at its end. Only true promises something:
+    /// false costs time.
     pub fn is_at(&self, path: &str) -> bool
         ensures { IsTrue result → self.now.path ≡ path.now ++ 47 ∷ [] }
     {
@@ -90,7 +92,8 @@ impl OpenFolder {
         }
     }
 
-    /// Returns the name of something in the folder, or `None` if this is no path of something in it.
+    /// Returns the path below the folder of what `path` names, or `None` if this is no path of something in it. Only
+    /// `Some` promises something.
     pub fn name_in<'p>(&self, path: &'p str) -> Option<&'p str>
         ensures { IfSome result (λ name. path.now ≡ self.now.path ++ name.now) }
     {
@@ -101,7 +104,7 @@ impl OpenFolder {
     }
 
     /// Returns the path of something in the folder through the open folder. Returns `None` if this is no path of
-    /// something in it, or if there is no memory for the path.
+    /// something in it, or if there is no memory for the path. Only `Some` promises something.
     pub fn place(&self, path: &str) -> Option<Text>
         ensures { IfSome result (λ place. IsPlaceOf self.now.path self.now.through path.now place) }
     {
@@ -115,7 +118,8 @@ impl OpenFolder {
     }
 }
 
-/// Returns the path of an open folder below `/proc`, with a `/` at its end.
+/// Returns the path of an open folder below `/proc`, with a `/` at its end: `/proc/PROCESS/fd/NUMBER/`. Fails only if
+/// memory runs out.
 pub(crate) fn path_through(
     alloc: Global,
     process: &str,
@@ -126,7 +130,7 @@ pub(crate) fn path_through(
     Ok(Text::from(path))
 }
 
-/// Returns the path with a `/` at its end.
+/// Returns the path with a `/` at its end, added if there is none. `None` if there is no memory for it.
 fn with_slash(alloc: Global, path: &str) -> Option<Text> {
     let end = if path.ends_with('/') { "" } else { "/" };
     match place_of(alloc, path, end) {
@@ -135,7 +139,7 @@ fn with_slash(alloc: Global, path: &str) -> Option<Text> {
     }
 }
 
-/// Returns whether both are folders, and the same one by device and inode.
+/// Returns whether both are metadata of a folder, and of the same one by device and inode.
 pub(crate) fn is_same_folder(first: &Metadata, second: &Metadata) -> bool {
     first.is_dir() && second.is_dir() && first.dev() == second.dev() && first.ino() == second.ino()
 }

@@ -18,7 +18,8 @@ use std::{fs, io};
 pub enum OutputFault {
     /// Out of memory.
     Memory,
-    /// No file could be created in the folder, or the path is empty or has something that is no regular file.
+    /// No file could be created in the folder, or the path is empty or has something that is no regular file; or the
+    /// file could not be looked at, synced or renamed.
     Refused,
 }
 
@@ -31,8 +32,9 @@ pub struct Output<'a, R: Files> {
 }
 
 impl<'a, R: Files<File = File>> Output<'a, R> {
-    /// Removes what earlier runs left beside the path unless a process writes it still, and checks that a file can be
-    /// created: creates one and removes it.
+    /// Removes what earlier runs left beside the path `place` unless a process writes it still, and checks that a file
+    /// can be created: creates one and removes it. Fails with `Refused` for an empty path, where something is at it
+    /// that is no regular file, and where no file can be created. The clause holds the empty path alone.
     pub fn create(alloc: Global, runtime: &'a R, place: &str) -> Result<Output<'a, R>, OutputFault>
         ensures unnamed { place.now ≡ [] → result ≡ Err OutputFault.Refused }
     {
@@ -51,13 +53,15 @@ impl<'a, R: Files<File = File>> Output<'a, R> {
     }
 
     /// Creates the file now, before anything is written to it, and returns which it is: what is read of a folder from
-    /// then on can leave it out.
+    /// then on can leave it out. To be called once, before the first write: another call would create another file, and
+    /// leave the first to a later run. Fails with `Refused` if no file can be created or it can't be looked at.
     pub fn begin(&mut self) -> Result<FileId, OutputFault> {
         self.file.stream.begin_now()
     }
 
-    /// Renames the complete file to its path. Removes it if that fails. If the folder can't be synced after that, the
-    /// complete file stays in its place, and this fails too.
+    /// Renames the complete file to its path. Removes it if that fails, with `Refused`. If the folder can't be synced
+    /// after that, the complete file stays in its place, and this fails too. Without `begin` or a write there is no
+    /// file: `Refused`.
     pub fn complete(self) -> Result<(), OutputFault> {
         let (runtime, place, made) = self.file.stream.into_parts();
         let Some(made) = made else {
@@ -77,7 +81,8 @@ impl<'a, R: Files<File = File>> Output<'a, R> {
 }
 
 impl<R: Files> Output<'_, R> {
-    /// Removes the file. An older file at the path stays.
+    /// Removes the unfinished file, if it was created. An older file at the path stays. If the removal fails, a later
+    /// run does it.
     pub fn give_up(self) {
         let (runtime, _, made) = self.file.stream.into_parts();
         if let Some(made) = made {
@@ -86,15 +91,16 @@ impl<R: Files> Output<'_, R> {
     }
 }
 
-/// Flushes the file to the disk, takes its mark away, and then renames it.
+/// Flushes the file to the disk, takes its mark away, and then renames it: in this order, so that a run that is killed
+/// leaves no file at the path that is not whole. Ends at the first call that fails.
 fn put<R: Files>(runtime: &R, made: &Made, place: &str) -> io::Result<()> {
     made.file.sync_all()?;
     unmark(&made.file)?;
     fs::rename(runtime, made.path.as_str(), place)
 }
 
-/// Flushes the folder that has a file's name. A folder that can't be opened for reading is passed over, and one whose
-/// file system flushes none.
+/// Flushes to the disk the folder in which the file at `path` is. A folder that can't be opened for reading is passed
+/// over, and one whose file system flushes none.
 fn sync_folder<R: Files<File = File>>(runtime: &R, path: &str) -> io::Result<()> {
     let folder = match path.rfind('/') {
         Some(0) => "/",
@@ -112,7 +118,7 @@ fn sync_folder<R: Files<File = File>>(runtime: &R, path: &str) -> io::Result<()>
 }
 
 /// Returns whether the path is taken by something that must not be replaced: a folder, a link or a device. A regular
-/// file may be.
+/// file may be. Where nothing is, or where it can't be asked, the path is not taken.
 fn is_taken<R: Files>(runtime: &R, place: &str) -> bool {
     match fs::symlink_metadata(runtime, place) {
         Ok(metadata) => !metadata.is_file(),
@@ -121,6 +127,7 @@ fn is_taken<R: Files>(runtime: &R, place: &str) -> bool {
 }
 
 impl<R: Files<File = File>> Write for Output<'_, R> {
+    /// Writes to the unfinished file; the first write creates it, unless [`Output::begin`] did.
     fn write(&mut self, buf: &[u8]) -> io::Result<usize> {
         self.file.write(buf)
     }
@@ -130,6 +137,7 @@ impl<R: Files<File = File>> Write for Output<'_, R> {
     }
 }
 
+// A plain forward to `Noted`, whose `seen` it is.
 impl<R: Files<File = File>> SteadyWrite for Output<'_, R> {
     ghost seen = { λ output. output.file.seen };
 

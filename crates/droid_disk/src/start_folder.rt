@@ -1,7 +1,7 @@
 //! The folder in which the process was started, to which it goes back from a listed folder.
 //!
 //! Nearly nothing here has a contract, since working folders are up to the machine:
-//! `tests/program/folders/working_folder.py` tests it.
+//! `tests/program/folders/working_folder.py` tests it, with each change of the working folder failing in turn.
 
 ghost use Rattle.std.specs.Prelude.{◌≢◌};
 
@@ -12,7 +12,7 @@ use std::env::Env;
 use std::fs::{File, Files, OpenFile};
 use std::{env, fs};
 
-/// Where nothing can be created, and no file is found by a plain name.
+/// A folder of `/proc` in which nothing can be created, and no file is found by a plain name.
 const NOWHERE: &str = "/proc/thread-self/fdinfo";
 
 /// Which folder is the process's working folder.
@@ -45,8 +45,9 @@ impl Drop for StartFolder {
 }
 
 impl StartFolder {
-    /// Opens the working folder. Returns `None` if it can't be opened, or if the process can't go to it through
-    /// `/proc`, which is tried here. `process` is the name of this process below `/proc`.
+    /// Opens the working folder. Returns `None` if it can't be opened, if the process can't go to it through `/proc`,
+    /// which is tried here, or if memory runs out: then `enter` goes nowhere. `process` is the name of this process
+    /// below `/proc`.
     pub fn open<R: Files<File = File> + Env>(
         rt: &R,
         alloc: Global,
@@ -74,7 +75,8 @@ impl StartFolder {
     }
 }
 
-/// Goes to a listed folder, if the process can go back from there. Returns where it is then.
+/// Makes a listed folder the working folder, if the process can go back from there, that is, if `start` is known.
+/// Returns where it is then: `Inside`, or `Start` if it stayed.
 pub(crate) fn enter<R: Env>(rt: &R, start: &Option<StartFolder>, folder: &OpenFolder) -> Stand {
     if start.is_none() {
         return Stand::Start;
@@ -85,8 +87,9 @@ pub(crate) fn enter<R: Env>(rt: &R, start: &Option<StartFolder>, folder: &OpenFo
     }
 }
 
-/// Goes back from a listed folder, and otherwise to where no relative path leads to a file. Returns where the process
-/// is then.
+/// Goes back from a listed folder to the one in which the process was started. If that fails, goes to where no relative
+/// path leads to a file: to `NOWHERE`, or else to `/`. Returns where the process is then: `Start` or `Lost`. The clause
+/// holds that it says no more than these two.
 pub(crate) fn go_back_to<R: Env>(rt: &R, start: &Option<StartFolder>) -> Stand
     ensures { result ≢ Stand.Inside }
 {

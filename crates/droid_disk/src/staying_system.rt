@@ -1,7 +1,8 @@
 //! The file system of this machine, for a process that stays in the folder that it listed while it reads the folder's
 //! files: a file is then looked at and opened by its name alone, which costs the system less than a path does.
 //!
-//! Proved is what [`Disk`] asks for, but nothing of the working folder; `tests/program/identify` tests that.
+//! Proved is what [`Disk`] asks for, but nothing of the working folder; `Staying` in `changing.py` of
+//! `tests/program/identify` tests that.
 
 ghost use Rattle.std.specs.Prelude.{◌≡◌};
 ghost use Rattle.droid_disk.specs.Machine.{MaySay};
@@ -30,19 +31,21 @@ impl<R> Drop for StayingSystem<'_, R> {
 }
 
 impl<'a, R: Files<File = File> + Env> StayingSystem<'a, R> {
-    /// Returns the file system that this runtime reaches.
+    /// Returns the file system that this runtime reaches. The process is then in the folder in which it was started.
     pub fn new(runtime: &'a R) -> StayingSystem<'a, R> {
         StayingSystem {
             system: System::new(runtime),
         }
     }
 
-    /// Makes the folder in which the process was started its working folder again.
+    /// Makes the folder in which the process was started its working folder again. Whether it is, the calls that follow
+    /// see for themselves.
     pub fn go_home(&mut self) {
         let _ = self.system.go_back();
     }
 }
 
+// As `System`, but the process stays in the listed folder until a path leads out of it; an open file needs no path.
 impl<R: Files<File = File> + Env> Disk for StayingSystem<'_, R> {
     type File = Opened;
 
@@ -68,6 +71,7 @@ impl<R: Files<File = File> + Env> Disk for StayingSystem<'_, R> {
         self.system.look_in(folder, name, place)
     }
 
+    // Stays in the listed folder. `is_inside` never holds here, so that this promises nothing.
     fn leave(&mut self) {}
 
     fn see_folder(&mut self, path: &str) -> Result<(), TreeFault> {

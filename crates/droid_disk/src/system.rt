@@ -1,8 +1,9 @@
-//! The file system of this machine.
+//! The file system of this machine, by its calls.
 //!
 //! Proved is what [`Disk`] asks for: that metadata are such as the machine gave, that no more bytes come than are asked
 //! for, and that the process is back in its own folder. Which names, metadata and bytes the machine gives is tested, in
-//! `tests/program/folders`; functions that only pass that on have no contract.
+//! `tests/program/folders`, by `folder_calls.py` (each call fails), `profile_states.py` and `profile_exchanged.py`
+//! (what changes meanwhile) and `working_folder.py`; functions that only pass that on have no contract.
 
 ghost use Rattle.std.specs.Prelude.{◌≡◌, ◌≢◌, ◌++◌, ◌∷◌, [], IfErr, IfOk, IfSome, IsSomeAnd, IsTrue};
 ghost use Rattle.std.specs.Fs.{file_type};
@@ -69,7 +70,8 @@ impl Drop for Opened {
 }
 
 impl<'a, R: Files<File = File>> System<'a, R> {
-    /// Returns the file system that this runtime reaches.
+    /// Returns the file system that this runtime reaches. No folder was listed yet, and the process is where it was
+    /// started.
     pub fn new(runtime: &'a R) -> System<'a, R> {
         System {
             runtime,
@@ -81,7 +83,7 @@ impl<'a, R: Files<File = File>> System<'a, R> {
     }
 
     /// Returns the path of something through the folder that was listed last, if it lies in it and there is memory for
-    /// the path.
+    /// the path. Otherwise `None`: it is then reached by its own path.
     fn place(&self, path: &str) -> Option<Text> {
         match &self.listed {
             Some(folder) => folder.place(path),
@@ -89,7 +91,8 @@ impl<'a, R: Files<File = File>> System<'a, R> {
         }
     }
 
-    /// Returns the name of something in the listed folder, if that is the process's working folder.
+    /// Returns the name of something in the listed folder, if that is the process's working folder: it is reached by
+    /// the name alone. For `StayingSystem`.
     pub(crate) fn name_inside<'p>(&self, path: &'p str) -> Option<&'p str> {
         match &self.listed {
             Some(folder) if self.stand == Stand::Inside => folder.name_in(path),
@@ -97,7 +100,8 @@ impl<'a, R: Files<File = File>> System<'a, R> {
         }
     }
 
-    /// Returns whether the process's working folder is the folder at this path, which has no `/` at its end.
+    /// Returns whether the process's working folder is the listed folder, opened by this path, which has no `/` at its
+    /// end. Only true promises something: false costs time.
     fn is_in(&self, path: &str) -> bool
         ensures inside { IsTrue result → self.now.stand ≡ Stand.Inside }
         ensures its { IsTrue result → IsSomeAnd self.now.listed (λ folder. folder.path ≡ path.now ++ 47 ∷ []) }
@@ -108,7 +112,7 @@ impl<'a, R: Files<File = File>> System<'a, R> {
         }
     }
 
-    /// Returns whether the folder at this path can be opened for listing.
+    /// Returns whether the folder at this path can be opened for listing, through the listed folder if it lies in it.
     fn can_list(&self, path: &str) -> bool {
         match self.place(path) {
             Some(place) => can_list_at(self.runtime, place.as_str()),
@@ -118,7 +122,8 @@ impl<'a, R: Files<File = File>> System<'a, R> {
 }
 
 impl<R: Files<File = File> + Env> System<'_, R> {
-    /// Makes the folder in which the process was started its working folder again. Returns whether it is.
+    /// Makes the folder in which the process was started its working folder again. Returns whether it is: once that
+    /// failed, it stays so, and callers report what they were asked for as unreadable.
     pub(crate) fn go_back(&mut self) -> bool
         ensures left { self.new.stand ≢ Stand.Inside }
         ensures kept { self.new.runtime ≡ self.old.runtime }
@@ -133,7 +138,9 @@ impl<R: Files<File = File> + Env> System<'_, R> {
         }
     }
 
-    /// Finds out what this process is called below `/proc`, and opens the folder in which it was started.
+    /// Finds out what this process is called below `/proc`, and opens the folder in which it was started: at the first
+    /// listing, or at a later one if `/proc` can't be read before. What is not known costs time, or leaves the process
+    /// where it is.
     fn begin(&mut self, alloc: Global)
         ensures kept { self.new.runtime ≡ self.old.runtime }
     {
@@ -147,6 +154,8 @@ impl<R: Files<File = File> + Env> System<'_, R> {
     }
 }
 
+// What asks the machine first goes back to the folder of the start, but for `look_in` in the listed folder. Where it
+// can't go back, it fails with `Unreadable`, or returns `None`. `Disk` says the rest.
 impl<R: Files<File = File> + Env> Disk for System<'_, R> {
     type File = Opened;
 
@@ -252,7 +261,7 @@ impl<R: Files<File = File> + Env> Disk for System<'_, R> {
 }
 
 /// Returns the name of this process below `/proc`: the number that the link `/proc/self` has. A path by the number
-/// costs the system less than one by the link, which it would follow each time.
+/// costs the system less than one by the link, which it would follow each time. `None` if the link can't be read.
 fn own_process<R: Files>(rt: &R, alloc: Global) -> Option<Text> {
     match rt.read_link(alloc, "/proc/self") {
         Ok(number) => Some(Text::from(number.into_string())),
@@ -260,7 +269,7 @@ fn own_process<R: Files>(rt: &R, alloc: Global) -> Option<Text> {
     }
 }
 
-/// Returns the name of this process below `/proc`, or that of the link to it.
+/// Returns the name of this process below `/proc`, as far as it is known: otherwise `self`, which is the link to it.
 fn name_of(process: &Option<Text>) -> &str {
     match process {
         Some(number) => number.as_str(),
@@ -268,8 +277,9 @@ fn name_of(process: &Option<Text>) -> &str {
     }
 }
 
-/// Opens a folder, and returns it with the names that are read through it. Returns `None` if the folder can't be read
-/// so, as where the machine has no `/proc`.
+/// Opens the folder at `path`, and returns it with the names that are read through it. Returns `None` if the folder
+/// can't be read so, as where the machine has no `/proc`, or for want of memory: it is then read by its path. `process`
+/// is the name of this process below `/proc`.
 fn names_through<R: Files<File = File>>(
     rt: &R,
     alloc: Global,
@@ -285,7 +295,8 @@ fn names_through<R: Files<File = File>>(
     }
 }
 
-/// Returns the names in the folder at this path.
+/// Returns the names in the folder at this path, in the order of the machine. Fails with `Unreadable` if it can't be
+/// opened or read.
 fn names_at<R: Files>(rt: &R, alloc: Global, path: &str) -> Result<Vec<Blob>, TreeFault> {
     match rt.open_dir(path) {
         Ok(dir) => read_names(alloc, dir),
@@ -302,7 +313,7 @@ fn can_list_at<R: Files>(rt: &R, path: &str) -> bool {
     }
 }
 
-/// Returns the metadata of this path, or `None` if there are none.
+/// Returns the metadata of this path, or `None` if they can't be read. Does not follow a link at its end.
 pub(crate) fn look_at<R: Files>(rt: &R, path: &str) -> Option<FileMetadata>
     ensures { IfSome result IsOfSome }
 {
@@ -312,7 +323,7 @@ pub(crate) fn look_at<R: Files>(rt: &R, path: &str) -> Option<FileMetadata>
     }
 }
 
-/// Opens the file at this place.
+/// Opens the file at this place for reading. Fails with `Unreadable`.
 pub(crate) fn file_by<R: Files<File = File>>(rt: &R, place: &str) -> Result<File, TreeFault>
     ensures { IfErr result (λ fault. fault ≢ Changed) }
 {
@@ -322,7 +333,7 @@ pub(crate) fn file_by<R: Files<File = File>>(rt: &R, place: &str) -> Result<File
     }
 }
 
-/// Returns whether the file was opened by the path that these two make.
+/// Returns whether the file was opened by the path that `top` and `path` make together.
 #[tactic(auto, using(crate::proofs::Paths::strips_decides, crate::proofs::Paths::begins_with_none))]
 pub(crate) fn was_opened_by(file: &Opened, top: &str, path: &str) -> bool
     ensures { result ≡ bytes_eq file.now.path (top.now ++ path.now) }
@@ -333,7 +344,7 @@ pub(crate) fn was_opened_by(file: &Opened, top: &str, path: &str) -> bool
     }
 }
 
-/// Returns the metadata of an open file, or `None` if they can't be read.
+/// Returns the metadata that an open file has now, or `None` if they can't be read.
 pub(crate) fn metadata_now(file: &File) -> Option<FileMetadata>
     ensures { IfSome result IsOfSome }
 {
@@ -343,7 +354,8 @@ pub(crate) fn metadata_now(file: &File) -> Option<FileMetadata>
     }
 }
 
-/// Returns the open file with its metadata.
+/// Returns the open file with its metadata of this moment and the path by which it was opened. Fails with `Unreadable`
+/// if they can't be read.
 pub(crate) fn with_metadata(file: File, path: Text) -> Result<Opened, TreeFault>
     ensures path { IfOk result (λ opened. opened.path ≡ path) }
     ensures found { IfOk result (λ opened. IsOfSome opened.metadata) }
@@ -359,7 +371,8 @@ pub(crate) fn with_metadata(file: File, path: Text) -> Result<Opened, TreeFault>
     }
 }
 
-/// Copies the metadata that a tree needs.
+/// Copies the metadata that a tree needs. The clause holds type and length; the times, the device and the number are
+/// only tested.
 fn metadata_from(metadata: &Metadata) -> FileMetadata
     ensures { IsMetadataOf metadata.now result }
 {
@@ -375,8 +388,8 @@ fn metadata_from(metadata: &Metadata) -> FileMetadata
     }
 }
 
-/// Returns the nanoseconds of a second, which are below 1,000,000,000. A number that is no such one becomes one that no
-/// machine gives.
+/// Returns the nanoseconds of a second, which are below 1,000,000,000. A number that is negative or too large becomes
+/// one that no machine gives.
 fn nanos_from(nanos: i64) -> u32 {
     match u32::try_from(nanos) {
         Ok(nanos) => nanos,
@@ -384,7 +397,7 @@ fn nanos_from(nanos: i64) -> u32 {
     }
 }
 
-/// Returns the type of the entry with these metadata.
+/// Returns the type of the entry with these metadata: `Other` for what is no folder, regular file or link.
 fn kind_by(metadata: &Metadata) -> EntryKind
     ensures { IsKindOf (file_type metadata.now) result }
 {

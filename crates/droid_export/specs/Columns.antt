@@ -1,4 +1,4 @@
--- For proofs: the columns of a record that all its rows share.
+-- For inner clauses and proofs: the columns of a record that all its rows share.
 use Rattle.std.specs.Prelude.{◌≡◌, length}
 use Rattle.std.specs.Fmt.{decimal}
 use Rattle.hex.specs.Hex.{encode_lower}

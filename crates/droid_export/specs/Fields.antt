@@ -1,4 +1,4 @@
--- What fields of a profile's rows say (docs/CSV.md).
+-- What TYPE and the numbers of a profile's rows say (docs/CSV.md).
 use Rattle.std.specs.Prelude.{ℕ, ◌&&◌, ◌^◌, nat_lt, List, length, Option, Some, None, codes, if◌then◌else◌}
 use Rattle.std.specs.Char.{is_ascii_digit}
 use Rattle.std.specs.List.{list_all}

@@ -1,4 +1,4 @@
--- For proofs: the numbers of folders and the IDs of rows, in maps.
+-- For inner clauses and proofs: the numbers of folders and the IDs of rows, in maps.
 use Rattle.std.specs.Prelude.{◌≡◌, ℕ, ◌==◌, Bool, true, false, List, [], ◌∷◌, ◌++◌, ◌⊎◌, Option, Some, None}
 use Rattle.std.specs.BTreeMap as tree
 use Rattle.std.specs.BTreeSet as sorted
@@ -12,7 +12,7 @@ use Rattle.droid_export.specs.declared.column.Column.{Column}
 use Rattle.droid_export.specs.declared.reading.folder_numbers.Folders.{Folders}
 use Rattle.droid_export.specs.declared.reading.tag.Tag.{Tag}
 
--- the path of a number, and the number of a path
+-- the path of a number
 abbrev pub path_at : Folders → ℕ → Option (List ℕ)
 path_at folders number = option_map (λ path. path.now) (tree.get nat_cmp folders.numbers number)
 
@@ -45,7 +45,7 @@ abbrev pub Noted : Bool → Folders → List Saying → Saying → Type 0
 Noted true folders said x = (list_all (agree x) said ≡ true) × Holds folders (said ++ x ∷ [])
 Noted false folders said x = list_all (agree x) said ≡ false
 
--- the same of none, or one
+-- what comes of noting these sayings (none, or one): whether they agree with all that was said, and then they are noted
 abbrev pub AllNoted : Bool → Folders → List Saying → List Saying → Type 0
 AllNoted true folders said sayings = (fit said sayings ≡ true) × Holds folders (said ++ sayings)
 AllNoted false folders said sayings = fit said sayings ≡ false

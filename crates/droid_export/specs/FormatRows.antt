@@ -25,6 +25,7 @@ rows_of row =
 abbrev pub rows_behind : Header → List (List (List ℕ)) → List FormatRow
 rows_behind header rows = flat_map (λ row. rows_of (whole_row header row)) rows
 
+-- the rows of files behind a header, if there is one
 abbrev pub file_rows : Option Header → List (List (List ℕ)) → List FormatRow
 file_rows None rows = []
 file_rows (Some header) rows = rows_behind header rows
@@ -47,11 +48,12 @@ rows_if false rows = []
 
 -- ---- for proofs: record by record
 
--- what a record adds, and what the records that are left come to
+-- what a record adds: the header nothing
 abbrev pub rows_added : Bool → Stage → List (List ℕ) → List FormatRow
 rows_added kept (Before formats) fields = []
 rows_added kept (Behind header) fields = rows_if kept (rows_of (whole_row header fields))
 
+-- what the records that are left come to
 abbrev pub rows_left : Bool → Stage → List (List (List ℕ)) → List FormatRow
 rows_left kept (Before formats) records = rows_if kept (format_rows records)
 rows_left kept (Behind header) records = rows_if kept (rows_behind header records)

@@ -1,4 +1,4 @@
--- The header of a profile's CSV: the names of all columns, in their order.
+-- The header of a profile's CSV: the names of all columns, or of some, in their order.
 use Rattle.std.specs.Prelude.{ℕ, ◌==◌, ◌&&◌, ◌||◌, not, Bool, true, false, List, [], length, map, take, count_by}
 use Rattle.std.specs.Prelude.{get_or, Option, Some, None, if◌then◌else◌}
 use Rattle.std.specs.List.{find, list_all, list_any}
@@ -35,6 +35,7 @@ hash_of_header names =
 abbrev pub has_name : HashKind → List (List ℕ) → Column → Bool
 has_name hash names column = list_any (λ name. bytes_eq name (name_of hash column)) names
 
+-- a CSV with this header has the column
 abbrev pub has_column : Header → Column → Bool
 has_column header column = get_or header.has (place_of column) false
 
@@ -50,10 +51,12 @@ place_in header column = count_in (take (place_of column) header.has)
 abbrev pub cell : Header → List (List ℕ) → Column → List ℕ
 cell header row column = if has_column header column then field_or row (place_in header column) else []
 
+-- a column's name is at its place, or the CSV lacks the column
 abbrev pub is_in_place : Header → List (List ℕ) → Column → Bool
 is_in_place header names column =
     not (has_column header column) || bytes_eq (cell header names column) (name_of header.hash column)
 
+-- that of each column
 abbrev pub are_in_place : Header → List (List ℕ) → Bool
 are_in_place header names = list_all (is_in_place header names) columns
 
@@ -65,6 +68,8 @@ are_names_of header names = (length names == count_in header.has) && are_in_plac
 abbrev pub named_by : HashKind → List (List ℕ) → Header
 named_by hash names = record { hash = hash; has = map (has_name hash names) columns }
 
+-- the header of some columns with these names, in a CSV with these hashes; none if another name is there, or the order
+-- is another
 abbrev pub part_with : HashKind → List (List ℕ) → Option Header
 part_with hash names = if are_names_of (named_by hash names) names then Some (named_by hash names) else None
 
@@ -77,6 +82,7 @@ part_of names =
 abbrev pub whole : HashKind → Header
 whole hash = record { hash = hash; has = map (λ column. true) columns }
 
+-- the header with all columns, if its names say a kind of hash, otherwise that of some
 abbrev pub header_by : List (List ℕ) → Option HashKind → Option Header
 header_by names (Some hash) = Some (whole hash)
 header_by names None = part_of names
@@ -89,6 +95,7 @@ header_of names = header_by names (hash_of_header names)
 abbrev pub missing : List Column → Header → Option Column
 missing needed header = find (λ column. not (has_column header column)) needed
 
+-- a CSV with this header has all columns
 abbrev pub is_whole : Header → Bool
 is_whole header = list_all (λ there. there) header.has
 

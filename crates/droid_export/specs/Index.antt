@@ -1,5 +1,5 @@
--- For proofs: an index of the lists in a filter's criteria. For each text it has the places of the criteria that list
--- it.
+-- For inner clauses and proofs: an index of the lists in a filter's criteria. For each text it has the places of the
+-- criteria that list it.
 use Rattle.std.specs.Prelude.{◌≡◌, ℕ, Bool, true, false, ◌==◌, List, [], map, get_or, if◌then◌else◌, String}
 use Rattle.std.specs.BTreeMap.{BTreeMap, get_by_text}
 use Rattle.std.specs.List.{list_any}

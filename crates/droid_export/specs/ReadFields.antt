@@ -1,4 +1,5 @@
--- What the fields of a profile's rows say (docs/CSV.md).
+-- What the fields of a profile's rows say, by which they become items (docs/CSV.md). Where nothing can be read, the
+-- field is malformed.
 use Rattle.std.specs.Prelude.{ℕ, ◌==◌, ◌&&◌, ◌+◌, ◌-◌, ◌^◌, nat_lt, Bool, not, List, ◌∷◌, length, take, drop, max}
 use Rattle.std.specs.Prelude.{Option, Some, None, Result, Ok, Err, codes, if◌then◌else◌}
 use Rattle.std.specs.List.{list_all}

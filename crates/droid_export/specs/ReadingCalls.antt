@@ -1,4 +1,4 @@
--- For proofs: what the calls that read a profile promise, in the code's own types.
+-- For clauses and proofs: what the calls that read a profile promise, in the code's own types.
 use Rattle.std.specs.Prelude.{◌≡◌, ◌≢◌, ℕ, ◌++◌, Bool, List, Vec, Option, Some, None, Result, Ok, Err}
 use Rattle.std.specs.Option.{option_map}
 use Rattle.std.specs.declared.alloc.Global.{Global}
@@ -33,7 +33,7 @@ draft_of draft = record {
   last = option_map fields_of draft.last;
 }
 
--- a call gave what was expected, unless memory ran out
+-- a call gave the items or the fault that were expected, unless memory ran out
 abbrev pub Gives : Result (Vec Item Global) ListFault → Result (List Item) ListFault → Type 0
 Gives (Ok items) expected = expected ≡ Ok items.items
 Gives (Err fault) expected = fault ≢ faults.Memory → expected ≡ Err fault
@@ -43,7 +43,8 @@ abbrev pub items_in : Result Profile ListFault → Result (Vec Item Global) List
 items_in (Ok profile) = Ok profile.items
 items_in (Err fault) = Err fault
 
--- the same of a call that changes rows, or a draft
+-- a call that changes rows, or a draft, left what was expected (`new`), or gave the fault that was, unless memory ran
+-- out
 abbrev pub Leaves : {A : Type 0} → Result (Unit {0}) ListFault → A → Result A ListFault → Type 0
 Leaves (Ok done) new expected = expected ≡ Ok new
 Leaves (Err fault) new expected = fault ≢ faults.Memory → expected ≡ Err fault

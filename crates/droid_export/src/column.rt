@@ -1,4 +1,4 @@
-//! The columns of a profile's CSV.
+//! The columns of a profile's CSV: their order, their names and the bytes behind their fields.
 
 ghost use Rattle.std.specs.Prelude.{◌≡◌, ◌<◌};
 ghost use Rattle.droid_export.specs.Table as table;
@@ -46,7 +46,8 @@ pub enum Column {
     FormatVersion,
 }
 
-/// All columns, in their order.
+/// All columns, in their order, which is that of the variants. Where their number stands again, in `Header` and
+/// `PlainRow`, the prover ties it to this list.
 pub const COLUMNS: [Column; 18] = [
     Column::Id,
     Column::ParentId,
@@ -69,7 +70,7 @@ pub const COLUMNS: [Column; 18] = [
 ];
 
 impl Column {
-    /// Returns the column's name, in a CSV with hashes of this kind.
+    /// Returns the column's name, in a CSV with hashes of this kind. Only the name of [`Column::Hash`] depends on it.
     pub fn name(self, hash: HashKind) -> &'static str
         ensures { result.now ≡ table.name_of hash self }
     {
@@ -124,7 +125,7 @@ impl Column {
         }
     }
 
-    /// Returns the column at a place, counted from 0.
+    /// Returns the column at a place, counted from 0; `None` from 18 on.
     pub fn at(place: usize) -> Option<Column>
         ensures { result ≡ table.column_at place }
     {
@@ -132,7 +133,7 @@ impl Column {
     }
 }
 
-/// Returns the name of the column of these hashes.
+/// Returns the name of the column of these hashes, by which a reader knows their kind.
 fn hash_name(hash: HashKind) -> &'static str
     ensures { result.now ≡ table.hash_column hash }
 {

@@ -1,4 +1,4 @@
-//! The errors of the CSV reader.
+//! The errors of the reader of `csv`: where byte records are read from a slice, all of them mean that memory ran out.
 
 ghost use Rattle.csv.specs.Reading.{error_kind};
 ghost use Rattle.droid_export.specs.ReadErrors.{EndsReading};

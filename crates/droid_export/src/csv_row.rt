@@ -1,4 +1,5 @@
-//! Records of CSV.
+//! A record of CSV as a list of fields: one that `csv` read (`ByteRecord`), or one whose fields are parts of the text
+//! (`PlainRow`).
 
 ghost use Rattle.std.specs.Prelude.{◌≡◌};
 ghost use Rattle.droid_export.specs.Table.{said};
@@ -6,7 +7,7 @@ ghost use Rattle.droid_export.specs.Table.{said};
 use crate::column::Column;
 use csv::ByteRecord;
 
-/// A record of CSV.
+/// A record of CSV. Its two implementations hold to the contracts of its methods.
 pub trait Row {
     ghost use Rattle.std.specs.Prelude.{◌≡◌, ℕ, List, length};
     ghost use Rattle.droid_export.specs.Table.{field_or};
@@ -40,7 +41,7 @@ impl Row for ByteRecord {
     }
 }
 
-/// Returns the field of a column, in a record with all columns.
+/// Returns the field of a column, in a record with all columns; no bytes if the record ends before it.
 pub fn said<R: Row>(row: &R, column: Column) -> &[u8]
     ensures { result.now ≡ said (R.fields row.now) column }
 {

@@ -1,4 +1,4 @@
-//! Fields of a row.
+//! Reads TYPE and numbers, for the reader of items here (`reading/fields.rt`) and for `droid_report`.
 
 ghost use Rattle.std.specs.Prelude.{◌≡◌};
 ghost use Rattle.std.specs.Char.{is_ascii_digit};
@@ -7,7 +7,7 @@ ghost use Rattle.droid_export.specs.Fields as fields;
 
 use droid_frame::NodeKind;
 
-/// Reads TYPE: `File` or `Folder`.
+/// Reads TYPE: `File` or `Folder`, in these letters. Any other text is `None`.
 pub fn kind_of(text: &[u8]) -> Option<NodeKind>
     ensures { result ≡ fields.kind_of text.now }
 {
@@ -22,7 +22,8 @@ pub fn kind_of(text: &[u8]) -> Option<NodeKind>
     }
 }
 
-/// Reads a number in decimal digits.
+/// Reads a number in decimal digits, below 2^64. Zeros in front are taken; no digit, another byte or a larger number is
+/// `None`.
 pub fn number_of(text: &[u8]) -> Option<u64>
     ensures { result ≡ fields.number_of text.now }
 {
@@ -35,7 +36,8 @@ pub fn number_of(text: &[u8]) -> Option<u64>
     }
 }
 
-/// Returns whether all bytes are decimal digits.
+/// Returns whether all bytes are decimal digits, also where there are none: `parse` would take a sign, and refuses an
+/// empty text.
 fn are_digits(text: &[u8]) -> bool
     ensures { result ≡ list_all is_ascii_digit text.now }
 {

@@ -1,4 +1,5 @@
-//! Compares a record with a filter's criteria.
+//! Whether a record meets a filter, criterion by criterion; and its method and mismatch, which rows show as filters see
+//! them.
 
 ghost use Rattle.std.specs.Prelude.{◌≡◌};
 ghost use Rattle.std.specs.List.{list_any, list_all};
@@ -28,7 +29,7 @@ pub fn meets(filter: &Filter, node: &Record) -> bool
     }
 }
 
-/// Returns whether a record meets each criterion.
+/// Returns whether a record meets each criterion; true if there is none.
 fn meets_all(criteria: &Criteria, node: &Record) -> bool
     ensures { result ≡ list_all (is_met node.now) criteria.now }
 {
@@ -42,7 +43,7 @@ fn meets_all(criteria: &Criteria, node: &Record) -> bool
     true
 }
 
-/// Returns whether a record meets one of the criteria.
+/// Returns whether a record meets one of the criteria; false if there is none.
 fn meets_any(criteria: &Criteria, node: &Record) -> bool
     ensures { result ≡ list_any (is_met node.now) criteria.now }
 {
@@ -56,7 +57,8 @@ fn meets_any(criteria: &Criteria, node: &Record) -> bool
     false
 }
 
-/// Returns whether a record meets a criterion. It goes through the criterion's list.
+/// Returns whether a record meets a criterion. Goes through a criterion's list text by text; `selection.rt` calls it
+/// only for criteria without a list.
 #[tactic(auto, unfolding(crate::specs::Filters::is_met))]
 pub(crate) fn is_met(criterion: &Criterion, node: &Record) -> bool
     ensures { result ≡ is_met node.now criterion.now }
@@ -113,7 +115,7 @@ fn shares_one(texts: &Texts, puids: &Texts) -> bool
     false
 }
 
-/// Returns whether a text is in a list.
+/// Returns whether a text is in a list, byte for byte.
 fn is_among(texts: &Texts, text: &str) -> bool
     ensures { result ≡ is_among texts.now text.now }
 {

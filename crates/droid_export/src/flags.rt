@@ -1,4 +1,5 @@
-//! The flags of a filter's criteria, which look-ups in an index set.
+//! The flags of a filter's criteria, one for each at its place, which look-ups in an index set: the record meets the
+//! criterion.
 
 ghost use Rattle.std.specs.Prelude.{◌≡◌, ◌||◌, ◌<◌, ◌==◌, ℕ, false, get_or, length};
 ghost use Rattle.std.specs.List.{list_any};
@@ -7,7 +8,7 @@ ghost use Rattle.droid_export.specs.Index.{names};
 use crate::index::{Places, places_of};
 use droid_frame::Texts;
 
-/// Sets the flags at the places of these texts.
+/// Sets the flag of each criterion whose list has one of these texts, as the index `named` says. Other flags stay.
 pub(crate) fn mark_all(flags: &mut [bool], named: &Places, texts: &Texts)
     ensures length { length flags.new ≡ length flags.old }
     ensures marked { (at : ℕ) → at < length flags.old
@@ -20,7 +21,7 @@ pub(crate) fn mark_all(flags: &mut [bool], named: &Places, texts: &Texts)
     }
 }
 
-/// Sets the flags at these places.
+/// Sets the flags at these places. Places behind the last flag are passed over.
 pub(crate) fn mark(flags: &mut [bool], places: &[usize])
     ensures length { length flags.new ≡ length flags.old }
     ensures marked { (at : ℕ) → at < length flags.old
@@ -31,7 +32,7 @@ pub(crate) fn mark(flags: &mut [bool], places: &[usize])
     }
 }
 
-/// Sets the flag at a place, if there is one.
+/// Sets the flag at a place, if there is a flag.
 fn set_flag(flags: &mut [bool], place: usize)
     ensures length { length flags.new ≡ length flags.old }
     ensures marked { (at : ℕ) → at < length flags.old

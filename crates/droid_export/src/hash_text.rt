@@ -1,4 +1,5 @@
-//! The digits of a hash.
+//! A hash as its hexadecimal digits. The 64 of them are those of a SHA-256, the longest hash: two for each of its 32
+//! bytes, which the prover ties together.
 
 ghost use Rattle.std.specs.Prelude.{◌≡◌, ◌≤◌, [], length};
 ghost use Rattle.hex.specs.Hex.{encode_lower};
@@ -36,7 +37,7 @@ impl HashText {
         }
     }
 
-    /// Returns no digits.
+    /// Returns no digits, for a folder or where no hash was computed.
     pub(crate) fn none() -> HashText
         ensures { result ≡ [] }
     {
@@ -60,7 +61,7 @@ impl HashText {
         HashText::of_digest(digest.as_slice())
     }
 
-    /// Returns the digits of a digest of up to 32 bytes.
+    /// Returns the digits of a digest of up to 32 bytes: two for each byte, the high half first.
     fn of_digest(digest: &[u8]) -> HashText
         requires { length digest.now ≤ 32 }
         ensures { result ≡ encode_lower digest.now }
@@ -71,7 +72,7 @@ impl HashText {
         HashText { digits, len }
     }
 
-    /// Returns the digits.
+    /// Returns the digits: 0, 32 or 64 bytes of ASCII.
     pub fn as_slice(&self) -> &[u8]
         ensures { result.now ≡ self.now }
     {

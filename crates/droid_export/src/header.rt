@@ -1,4 +1,4 @@
-//! The header of a profile's CSV.
+//! The header of a profile's CSV, of all columns or of some, and the rows behind a header of some.
 
 ghost use Rattle.std.specs.Prelude.{◌≡◌, OnOk, map};
 ghost use Rattle.std.specs.Str.{bytes_eq};
@@ -12,7 +12,8 @@ use csv::ByteRecord;
 use droid_frame::HashKind;
 use std::alloc::AllocError;
 
-/// Returns the kind of hash that a header says, if the record has the names of all columns, in their order.
+/// Returns the kind of hash that a header says, if the record has the names of all columns, in their order, and no
+/// other field; otherwise `None`.
 pub fn hash_of_header<R: Row>(names: &R) -> Option<HashKind>
     ensures { result ≡ headers.hash_of_header (R.fields names.now) }
 {
@@ -35,7 +36,8 @@ fn has_names<R: Row>(hash: HashKind, names: &R) -> bool
     names.count() == COLUMNS.len() && are_named(hash, names)
 }
 
-/// Returns whether each field of a record is the name of its column.
+/// Returns whether each column's name stands at its place. Fields behind the last column do not count: `has_names`
+/// looks at the number.
 fn are_named<R: Row>(hash: HashKind, names: &R) -> bool
     ensures { result ≡ headers.are_named hash (R.fields names.now) }
 {
@@ -79,15 +81,16 @@ impl Header {
         self.has.iter().all(|there| *there)
     }
 
-    /// Returns the first of these columns that the CSV lacks.
+    /// Returns the first of these columns that the CSV lacks, or `None` if it has them all.
     pub fn missing(&self, needed: &[Column]) -> Option<Column>
         ensures { result ≡ headers.missing needed.now self.now }
     {
         needed.iter().copied().find(|column| !self.has(*column))
     }
 
-    /// Writes a row of this CSV as one with all columns: those that the CSV lacks are empty. A row that does not have
-    /// as many fields as the CSV has columns gets no field. Fails only if memory runs out.
+    /// Writes a row of this CSV to `wide`, as one with all columns: those that the CSV lacks are empty. A row that does
+    /// not have as many fields as the CSV has columns gets no field, which makes it a fault for whoever reads it. Fails
+    /// only if memory runs out, and then nothing is promised of `wide`: its callers drop it.
     pub fn widen(&self, row: &ByteRecord, wide: &mut ByteRecord) -> Result<(), AllocError>
         ensures { OnOk result (fields_of wide.new ≡ headers.widened self.now (fields_of row.now)) }
     {
@@ -136,13 +139,14 @@ impl Header {
         }
     }
 
-    /// Returns whether these are the names of the columns that the CSV has, in their order.
+    /// Returns whether these are exactly the names of the columns that the CSV has, in their order.
     fn is_named(&self, names: &ByteRecord) -> bool
         ensures { result ≡ headers.are_names_of self.now (fields_of names.now) }
     {
         names.len() == self.count() && self.are_in_place(names)
     }
 
+    /// Returns whether each column that the CSV has finds its name at its place among these.
     fn are_in_place(&self, names: &ByteRecord) -> bool
         ensures { result ≡ headers.are_in_place self.now (fields_of names.now) }
     {
@@ -151,6 +155,7 @@ impl Header {
             .all(|column| self.is_in_place(names, *column))
     }
 
+    /// Returns whether a column's name is at its place among these, or the CSV lacks the column.
     fn is_in_place(&self, names: &ByteRecord, column: Column) -> bool
         ensures { result ≡ headers.is_in_place self.now (fields_of names.now) column }
     {
@@ -158,7 +163,8 @@ impl Header {
     }
 }
 
-/// Reads the names of some columns. A CSV that lacks the column of the hashes has none.
+/// Reads the names of some columns; `None` for other names, or another order. A CSV that lacks the column of the hashes
+/// counts as one without hashes.
 fn part_of(names: &ByteRecord) -> Option<Header>
     ensures { result ≡ headers.part_of (fields_of names.now) }
 {
@@ -167,7 +173,8 @@ fn part_of(names: &ByteRecord) -> Option<Header>
         .or(part_with(HashKind::Sha256, names))
 }
 
-/// Reads the names of some columns of a CSV with these hashes.
+/// Reads the names of some columns of a CSV with these hashes: takes the columns whose names are there; `None` if other
+/// names are there too, or the order is another.
 fn part_with(hash: HashKind, names: &ByteRecord) -> Option<Header>
     ensures { result ≡ headers.part_with hash (fields_of names.now) }
 {
@@ -180,7 +187,7 @@ fn part_with(hash: HashKind, names: &ByteRecord) -> Option<Header>
     }
 }
 
-/// Returns for each column whether its name is among these.
+/// Returns for each column, in their order, whether its name is among these, at any place.
 fn columns_named(hash: HashKind, names: &ByteRecord) -> [bool; 18]
     ensures { result ≡ map (headers.has_name hash (fields_of names.now)) columns }
 {
@@ -191,6 +198,7 @@ fn columns_named(hash: HashKind, names: &ByteRecord) -> [bool; 18]
     has
 }
 
+/// Returns whether the name of a column is among these, at any place.
 fn has_name(hash: HashKind, names: &ByteRecord, column: Column) -> bool
     ensures { result ≡ headers.has_name hash (fields_of names.now) column }
 {

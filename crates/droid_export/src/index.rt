@@ -1,4 +1,5 @@
-//! An index of the lists in a filter's criteria.
+//! An index of the lists in a filter's criteria: for each text, the places of the criteria that list it. `selection.rt`
+//! asks it for each record.
 
 ghost use Rattle.std.specs.Prelude.{◌≡◌, ◌||◌, ◌&&◌, ◌==◌, ℕ, List, false, IfOk, OnOk, string_bytes};
 ghost use Rattle.std.specs.List.{list_any};
@@ -38,7 +39,8 @@ impl Index {
         Ok(index)
     }
 
-    /// Adds the list of the criterion at a place.
+    /// Adds the list of the criterion at a place, if it has one: PUIDs as they are, extensions in lower case. After an
+    /// error nothing is promised of the index: [`Index::build`] drops it.
     #[tactic(auto, unfolding(crate::specs::Index::asks_identifier, crate::specs::Index::asks_extension))]
     fn add(&mut self, alloc: Global, criterion: &Criterion, place: usize) -> Result<(), AllocError>
         ensures identifiers { OnOk result ((text : List ℕ) (at : ℕ)
@@ -60,7 +62,8 @@ impl Index {
     }
 }
 
-/// Adds a place to each of these texts. With `caseless` the texts are converted to lower case first.
+/// Adds a place to each of these texts. With `caseless` the texts are converted to lower case first. After an error
+/// nothing is promised of the index, nor by the functions below.
 fn add_all(
     named: &mut Places,
     alloc: Global,
@@ -79,7 +82,8 @@ fn add_all(
     Ok(())
 }
 
-/// Returns the key by which a text is looked up.
+/// Returns the key by which a text is looked up: the text, with `caseless` its ASCII letters in lower case. Fails only
+/// if memory runs out.
 pub(crate) fn key_of(alloc: Global, text: &str, caseless: bool) -> Result<String, AllocError>
     ensures { IfOk result (λ it. string_bytes it ≡ key caseless text.now) }
 {
@@ -90,7 +94,7 @@ pub(crate) fn key_of(alloc: Global, text: &str, caseless: bool) -> Result<String
     }
 }
 
-/// Adds a place to a text.
+/// Adds a place to the text whose key this is.
 fn add_one(named: &mut Places, alloc: Global, key: String, place: usize) -> Result<(), AllocError>
     ensures { OnOk result ((text : List ℕ) (at : ℕ)
         → names named.new text at ≡ (names named.old text at || (bytes_eq text (string_bytes key) && (place == at)))) }
@@ -101,7 +105,7 @@ fn add_one(named: &mut Places, alloc: Global, key: String, place: usize) -> Resu
     Ok(())
 }
 
-/// Removes the places of a text from the index and returns them.
+/// Removes the places of a text from the index and returns them: none if the index lacks the text.
 fn taken(named: &mut Places, alloc: Global, text: &str) -> Vec<usize>
     ensures value { result.items ≡ places_of named.old text.now }
     ensures others { (other : List ℕ) → bytes_eq text.now other ≡ false
@@ -123,7 +127,7 @@ fn note(places: &mut Vec<usize>, place: usize) -> Result<(), AllocError>
     Ok(())
 }
 
-/// Returns the places of a text.
+/// Returns the places of the criteria that list the text with this key: none if the index lacks it.
 pub(crate) fn places_of<'a>(named: &'a Places, text: &str) -> &'a [usize]
     ensures { result.now ≡ places_of named.now text.now }
 {

@@ -10,7 +10,7 @@ use jiff::ToSpan;
 use jiff::civil::{self, Date};
 use std::alloc::{AllocError, Global};
 
-/// The number of seconds of a day.
+/// The number of seconds of a day. `specs/Moments.antt` has it too, and the prover ties both.
 const DAY: i64 = 86_400;
 
 /// Writes a moment as `yyyy-mm-ddThh:mm:ss` in UTC. Fails only if memory runs out.
@@ -57,7 +57,7 @@ struct Civil {
     day: u8,
 }
 
-/// Returns the date and the time of day of a moment, in UTC.
+/// Returns the date of a moment, in UTC.
 fn date_of(modified: i64) -> Civil
     requires { IsMoment modified }
     ensures year { result.year ≡ (date_of modified).year }

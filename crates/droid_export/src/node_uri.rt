@@ -21,7 +21,7 @@ const ESCAPED: AsciiSet = ascii_set!(
 ///
 /// ASCII letters, digits, `-`, `.`, `_`, `~` and `/` stay. Every other byte is written as `%` and two upper-case
 /// hexadecimal digits. The URI of a folder ends in `/`. Fails only if memory runs out. The text is allocated once, with
-/// room for a path in which every byte is escaped.
+/// room for three bytes for each byte of the path, and six for `file:` and the `/`; no clause holds the room.
 pub fn uri(alloc: Global, path: &str, kind: NodeKind) -> Result<Text, AllocError>
     ensures { IfOk result (λ text. text ≡ uris.uri path.now kind) }
 {
@@ -31,7 +31,8 @@ pub fn uri(alloc: Global, path: &str, kind: NodeKind) -> Result<Text, AllocError
     Ok(Text::from(text))
 }
 
-/// Appends the URI that [`uri`] returns.
+/// Appends the URI that [`uri`] returns. After an error nothing is promised of `text`: `uri` drops it, and `add_rows`
+/// clears it first.
 pub(crate) fn add_uri(text: &mut String, path: &str, kind: NodeKind) -> Result<(), AllocError>
     ensures { OnOk result (string_bytes text.new ≡ string_bytes text.old ++ uris.uri path.now kind) }
 {

@@ -1,4 +1,4 @@
-//! Text that is not written yet.
+//! Text that waits to be written, in memory that later text uses again. `RowText` keeps its rows in it.
 
 ghost use Rattle.std.specs.Prelude.{◌≡◌, ◌++◌, [], IfErr, OnErr, OnOk, length};
 ghost use Rattle.std.specs.Io.KnownBytes.{Appends};
@@ -75,7 +75,7 @@ impl PendingText {
         Ok(())
     }
 
-    /// Returns the text.
+    /// Returns the text that is not written yet, without a copy.
     pub(crate) fn into_vec(self) -> Vec<u8>
         ensures { result.items ≡ self }
     {

@@ -1,4 +1,5 @@
-//! Rows that are written as they come.
+//! The text of rows that are added record by record, and written whenever the caller asks: the whole export is never in
+//! memory, unless the caller wants it.
 
 ghost use Rattle.std.specs.Prelude.{◌≡◌, ◌++◌, [], IfErr, OnErr, OnOk, length};
 ghost use Rattle.std.specs.Io.KnownBytes.{Appends};
@@ -22,7 +23,7 @@ use std::marker::Model;
 pub struct RowText {
     /// The rows that are not written yet.
     text: PendingText,
-    /// A place for the rows of the record that is added.
+    /// A place for the rows of the record that is added. Each call clears it first.
     rows: Vec<u8>,
     /// A place for the URI of the record that is added.
     uri: String,
@@ -103,7 +104,7 @@ impl RowText {
         self.text.write_to(writer)
     }
 
-    /// Returns the rows that are not written yet.
+    /// Returns the text of the rows that are not written yet, without a copy.
     pub(crate) fn into_vec(self) -> Vec<u8>
         ensures { result.items ≡ self }
     {

@@ -1,4 +1,5 @@
-//! Appends the header and the rows of a record to a buffer.
+//! Appends the header and the rows of a record to a buffer: what each column says, between double quotes and with the
+//! mark behind it. After an error nothing is promised of a buffer: `RowText` clears its own before it is filled.
 
 ghost use Rattle.std.specs.Prelude.{◌≡◌, ◌++◌, OnOk, codes, map};
 ghost use Rattle.std.specs.List.{flat_map};
@@ -34,14 +35,14 @@ pub(crate) struct RowParts<'a> {
     format: Option<&'a Format>,
 }
 
-/// Appends the names of the columns. One of them depends on the kind of hash.
+/// Appends the row of the names of all columns. One of them depends on the kind of hash.
 pub(crate) fn add_header(text: &mut Vec<u8>, hash: HashKind) -> Result<(), AllocError>
     ensures { OnOk result (text.new.items ≡ text.old.items ++ row_text (header hash)) }
 {
     add_names(text, &COLUMNS, hash)
 }
 
-/// Appends the names of these columns.
+/// Appends the names of these columns, in order, each with its mark.
 fn add_names(text: &mut Vec<u8>, columns: &[Column], hash: HashKind) -> Result<(), AllocError>
     ensures { OnOk result (text.new.items ≡ text.old.items ++ flat_map (piece (header hash)) columns.now) }
 {
@@ -51,7 +52,7 @@ fn add_names(text: &mut Vec<u8>, columns: &[Column], hash: HashKind) -> Result<(
     Ok(())
 }
 
-/// Appends the name of a column.
+/// Appends the name of a column, and its mark.
 fn add_name(text: &mut Vec<u8>, column: Column, hash: HashKind) -> Result<(), AllocError>
     ensures { OnOk result (text.new.items ≡ text.old.items ++ piece (header hash) column) }
 {
@@ -59,7 +60,7 @@ fn add_name(text: &mut Vec<u8>, column: Column, hash: HashKind) -> Result<(), Al
 }
 
 /// Appends the rows of a record: one for each of its formats, in order, or one row without a format. `uri` is a place
-/// for the URI.
+/// for the URI; what was in it is lost. Computes the columns that the rows share once, into [`Common`].
 #[tactic(auto, unfolding(crate::specs::Rows::rows))]
 pub(crate) fn add_rows(
     text: &mut Vec<u8>,
@@ -126,7 +127,7 @@ fn add_format_rows<'a>(
     Ok(())
 }
 
-/// Returns the registry's format with this PUID.
+/// Returns the registry's format with this PUID; `None` if it lacks it, and the row then shows the PUID alone.
 #[tactic(auto, unfolding(crate::specs::Rows::format_of))]
 fn format_of<'a>(registry: &'a Registry, puid: &str) -> Option<&'a Format>
     ensures { option_copied result ≡ spec.format_of registry.now puid.now }
@@ -134,7 +135,7 @@ fn format_of<'a>(registry: &'a Registry, puid: &str) -> Option<&'a Format>
     registry.format(registry.by_puid(puid)?)
 }
 
-/// Appends a row of a record.
+/// Appends a row of a record, for one of its formats; without one, `puid` has no bytes.
 fn add_row<'a>(
     text: &mut Vec<u8>,
     node: &'a Record,
@@ -155,7 +156,7 @@ fn add_row<'a>(
     add_texts(text, &COLUMNS, &parts)
 }
 
-/// Appends what these columns of a row say.
+/// Appends what these columns of a row say, in order, each with its mark.
 fn add_texts(text: &mut Vec<u8>, columns: &[Column], parts: &RowParts<'_>) -> Result<(), AllocError>
     requires { IsCommon parts.now.node.now parts.now.common.now }
     ensures { OnOk result (text.new.items ≡ text.old.items ++ flat_map (piece (row_of parts.now)) columns.now) }
@@ -166,7 +167,7 @@ fn add_texts(text: &mut Vec<u8>, columns: &[Column], parts: &RowParts<'_>) -> Re
     Ok(())
 }
 
-/// Appends what a column of a row says.
+/// Appends what a column of a row says between double quotes, and its mark.
 fn add_text(text: &mut Vec<u8>, column: Column, parts: &RowParts<'_>) -> Result<(), AllocError>
     requires { IsCommon parts.now.node.now parts.now.common.now }
     ensures { OnOk result (text.new.items ≡ text.old.items ++ piece (row_of parts.now) column) }
@@ -174,7 +175,8 @@ fn add_text(text: &mut Vec<u8>, column: Column, parts: &RowParts<'_>) -> Result<
     add_field(text, text_of(column, parts), column.mark())
 }
 
-/// Returns what a column of a row says.
+/// Returns what a column of a row says, without quotes. Seven columns are computed in [`Common`], four are the
+/// format's; the others come from the record itself, but for STATUS.
 #[tactic(auto, unfolding(crate::specs::Rows::row))]
 fn text_of<'a>(column: Column, parts: &RowParts<'a>) -> &'a [u8]
     requires { IsCommon parts.now.node.now parts.now.common.now }
@@ -241,7 +243,7 @@ fn method_text(node: &Record) -> &'static str
     method_name(found_by(node))
 }
 
-/// Returns what METHOD says of a method.
+/// Returns what METHOD says of a method: nothing of a file that was not identified.
 pub fn method_name(method: Method) -> &'static str
     ensures { result.now ≡ spec.method_name method }
 {

@@ -33,7 +33,7 @@ pub(crate) fn is_chosen(
     Ok(are_set(met.as_slice(), filter.all))
 }
 
-/// Returns whether all flags are set, or with `all` false, whether at least one is.
+/// Returns whether all flags are set, or with `all` false, whether at least one is. Its caller has at least one flag.
 fn are_set(flags: &[bool], all: bool) -> bool
     ensures { result ≡ (if all then list_all (λ flag. flag) flags.now else list_any (λ flag. flag) flags.now) }
 {
@@ -44,7 +44,8 @@ fn are_set(flags: &[bool], all: bool) -> bool
     }
 }
 
-/// Returns, for each criterion, whether the record meets it.
+/// Returns, for each criterion at its place, whether the record meets it: without a list by comparison, with one by a
+/// look-up in the index. Fails only if memory runs out.
 fn met_by(
     alloc: Global,
     criteria: &Criteria,
@@ -62,7 +63,8 @@ fn met_by(
     Ok(met)
 }
 
-/// Returns, for each criterion, whether it has no list and the record meets it.
+/// Returns, for each criterion at its place, whether it has no list and the record meets it. Fails only if memory runs
+/// out.
 fn met_plainly(alloc: Global, criteria: &Criteria, node: &Record) -> Result<Vec<bool>, AllocError>
     ensures { IfOk result (λ met. met.items ≡ map (is_met_plainly node.now) criteria.now) }
 {
@@ -74,7 +76,7 @@ fn met_plainly(alloc: Global, criteria: &Criteria, node: &Record) -> Result<Vec<
     Ok(met)
 }
 
-/// Returns whether a record meets a criterion that is no list.
+/// Returns whether a record meets a criterion without a list; false for one with a list, whose flag a look-up sets.
 #[tactic(auto, unfolding(crate::specs::Index::is_met_plainly))]
 fn is_met_plainly(criterion: &Criterion, node: &Record) -> bool
     ensures { result ≡ is_met_plainly node.now criterion.now }

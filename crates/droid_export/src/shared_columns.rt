@@ -1,4 +1,5 @@
-//! The columns that all rows of a record share.
+//! Computes the columns that all rows of a record share, once for each record. `digits` is the place where a number's
+//! digits are written.
 
 ghost use Rattle.std.specs.Prelude.{◌≡◌, length};
 ghost use Rattle.std.specs.Fmt.{decimal};
@@ -10,7 +11,8 @@ use crate::hash_text::HashText;
 use droid_frame::Record;
 use itoa::Buffer;
 
-/// The columns that all rows of a record share and that have to be computed from the record.
+/// The columns that all rows of a record share and that have to be computed from the record. `IsCommon` of
+/// `specs/Columns.antt` says what each is; a column that is computed anew needs a line there too.
 #[derive(Clone, Copy)]
 pub(crate) struct Common<'a> {
     pub(crate) id: &'a str,
@@ -22,7 +24,7 @@ pub(crate) struct Common<'a> {
     pub(crate) format_count: &'a str,
 }
 
-/// Writes the ID of the parent folder, or nothing for a node at the top.
+/// Writes the ID of the parent folder, or nothing for a node at the top, whose parent is 0.
 pub(crate) fn parent_text(digits: &mut Buffer, parent: u32) -> &str
     ensures { result.now ≡ parent_text parent }
 {

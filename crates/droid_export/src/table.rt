@@ -1,4 +1,5 @@
-//! Appends fields of CSV to a buffer, between double quotes.
+//! Appends fields of CSV to a buffer, between double quotes. After an error nothing is promised of the buffer:
+//! `RowText` clears its own before it is filled.
 
 ghost use Rattle.std.specs.Prelude.{◌≡◌, ◌++◌, ◌∷◌, [], IsTrue, OnOk};
 ghost use Rattle.std.specs.List.{flat_map};
@@ -7,7 +8,7 @@ ghost use Rattle.droid_export.specs.Csv.{doubled, quoted};
 use memchr::memchr;
 use std::alloc::AllocError;
 
-/// Appends a field between double quotes, and the byte behind it.
+/// Appends a field between double quotes, and the byte behind it (`end`): a comma or a line feed.
 #[tactic(auto, unfolding(crate::specs::Csv::quoted))]
 pub(crate) fn add_field(text: &mut Vec<u8>, field: &[u8], end: u8) -> Result<(), AllocError>
     ensures { OnOk result (text.new.items ≡ text.old.items ++ (quoted field.now ++ end ∷ [])) }

@@ -1,4 +1,4 @@
-//! The text of an export.
+//! Makes the whole text of an export, in memory.
 
 ghost use Rattle.std.specs.Prelude.{◌≡◌, ◌++◌, IfOk, OnOk};
 ghost use Rattle.std.specs.List.{flat_map};
@@ -38,7 +38,8 @@ pub fn export_text(
     Ok(Blob::from(rows.into_vec()))
 }
 
-/// Appends the rows of each record that meets the filter.
+/// Appends the rows of each record that meets the filter, in order. After an error nothing is promised of `rows`: the
+/// only caller drops it.
 fn add_records(
     alloc: Global,
     rows: &mut RowText,

@@ -1,4 +1,4 @@
-//! Writes an export to a writer.
+//! Writes an export, or text that waited, to a writer.
 
 ghost use Rattle.std.specs.Prelude.{◌≡◌, ◌<◌, ◌^◌, IfErr, OnOk, IsErrOf, OnErr, length};
 ghost use Rattle.std.specs.Io.KnownBytes.{Appends};
@@ -46,7 +46,7 @@ pub fn export<W: SteadyWrite>(
     Ok(())
 }
 
-/// Writes the whole text, or as much of it as the writer takes.
+/// Writes the whole text, or as much of it as the writer takes. The fault says how many bytes it took.
 pub(crate) fn write_text<W: SteadyWrite>(writer: &mut W, bytes: &[u8]) -> Result<(), WriteFault>
     requires { length bytes.now < 2 ^ 64 }
     ensures ok { OnOk result (Appends (W.contents writer.old) (W.contents writer.new) bytes.now) }

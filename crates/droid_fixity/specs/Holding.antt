@@ -1,4 +1,4 @@
--- For proofs: which items hold a hash, and the difference at a pair.
+-- For inner clauses and proofs: which items hold a hash, and the difference at a pair.
 use Rattle.std.specs.Prelude.{ℕ, Bool, false, ◌&&◌, List, [], ◌∷◌, Option, Some, None, filter, slice_get, if◌then◌else◌}
 use Rattle.std.specs.BTreeMap.{BTreeMap, get_by}
 use Rattle.std.specs.Option.{option_and_then, option_map_or}

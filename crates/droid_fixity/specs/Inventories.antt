@@ -20,7 +20,7 @@ AreInOrder (path ∷ paths) = AllByRecursion (IsBefore path) paths × AreInOrder
 abbrev pub IsTwice : List Item → List ℕ → Type 0
 IsTwice items path = 1 < count_by (λ item. bytes_eq path item.path) items
 
--- For proofs: the same order as a test, of two paths and of the items in front of a place and at it.
+-- For inner clauses and proofs: the same order as a test, of two paths and of the items in front of a place and at it.
 abbrev pub is_before : List ℕ → List ℕ → Bool
 is_before first second = is_lt (slice_cmp nat_cmp first second)
 

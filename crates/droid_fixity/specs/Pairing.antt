@@ -1,4 +1,4 @@
--- For proofs: the merge of two inventories by path.
+-- For inner clauses and proofs: the merge of two inventories by path.
 use Rattle.std.specs.Prelude.{◌≡◌, ℕ, ◌+◌, List, [], ◌∷◌, Option, Some, None}
 use Rattle.std.specs.Ordering.{nat_cmp}
 use Rattle.std.specs.Cmp.Lexicographic.{slice_cmp}

@@ -7,6 +7,7 @@ use Rattle.std.specs.Str.{bytes_eq}
 use Rattle.droid_fixity.specs.declared.checksum_lists.form.Escapes.{Escapes}
 use Rattle.droid_fixity.specs.declared.checksum_lists.form.Escapes.TheVariants as escapes
 
+-- what follows where there is a value; `None` stays `None`
 infixl 10 ◌>>=◌
 abbrev pub ◌>>=◌ : {A B : Type 0} → Option A → (A → Option B) → Option B
 None >>= f = None

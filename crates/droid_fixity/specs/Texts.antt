@@ -30,7 +30,7 @@ unpaired Bag text = unpaired_from false text
 abbrev pub lines_in : ManifestForm → List ℕ → List (List ℕ)
 lines_in form text = slice_split (ends_line form) (unpaired form (without_mark text))
 
--- For proofs: whether line ends may be pairs. Where they aren't, the text stays as it is.
+-- For inner clauses and proofs: whether line ends may be pairs. Where they aren't, the text stays as it is.
 abbrev pub has_returns : ManifestForm → List ℕ → Bool
 has_returns Checksums text = false
 has_returns Bag text = list_any (λ b. b == 13) text

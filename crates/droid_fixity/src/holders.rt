@@ -1,4 +1,4 @@
-//! Which items hold a hash.
+//! Which files hold a hash, so that a moved file is found by it.
 
 ghost use Rattle.std.specs.Prelude.{◌≡◌, ℕ, List, IfOk, OnOk, if◌then◌else◌, option_copied, slice_get, Some};
 ghost use Rattle.droid_fixity.specs.Holding.{held, holder_after, holder_among};
@@ -20,7 +20,8 @@ pub(crate) enum Holder {
 /// For each hash, which items hold it.
 pub(crate) type Holders<'a> = BTreeMap<&'a [u8], Holder>;
 
-/// Returns for each hash which of the files at these places hold it.
+/// Returns for each hash which of the files at these places of `items` hold it. Nobody holds a hash that is not in the
+/// map; folders, and files without a hash, hold none.
 pub(crate) fn holders_of<'a>(
     alloc: Global,
     items: &'a [Item],
@@ -37,14 +38,15 @@ pub(crate) fn holders_of<'a>(
     Ok(holders)
 }
 
-/// Returns the item at a place.
+/// Returns the item at a place, or `None` behind the last. `report.rt` gives only places of items.
 fn item_at(items: &[Item], place: usize) -> Option<&Item>
     ensures { option_copied result ≡ slice_get items.now place }
 {
     items.get(place)
 }
 
-/// Adds an item to the holders of its hash, if it is a file that has one.
+/// Adds the item at `place` to the holders of its hash, if it is a file that has one. After an error nothing is
+/// promised of `holders`.
 fn note<'a>(holders: &mut Holders<'a>, item: &'a Item, place: usize) -> Result<(), AllocError>
     ensures { OnOk result ((hash : List ℕ)
         → held holders.new hash
@@ -58,7 +60,7 @@ fn note<'a>(holders: &mut Holders<'a>, item: &'a Item, place: usize) -> Result<(
     Ok(())
 }
 
-/// Returns who holds a hash after one more place was found: one item or several.
+/// Returns who holds a hash after `place` was found, too: this one item if `holder` was nobody, otherwise several.
 fn holder_after(holder: Option<&Holder>, place: usize) -> Holder
     ensures { result ≡ holder_after (option_copied holder.entry) place }
 {

@@ -66,7 +66,8 @@ impl Inventory {
     }
 }
 
-/// Sorts items by path. The stable sort keeps the sorted runs that lists come in, but takes memory.
+/// Sorts items by path. The stable sort keeps the sorted runs that lists come in, but takes memory; where there is
+/// none, the other sort runs. No clause holds how items of one path stand to each other.
 fn sort_by_path(items: &mut Vec<Item>)
     ensures same { IsPermutation items.old.items items.new.items }
     ensures sorted { IsSortedBy (λ a b. is_before a.path b.path) items.new.items }
@@ -77,7 +78,8 @@ fn sort_by_path(items: &mut Vec<Item>)
     }
 }
 
-/// Returns the first place whose path does not come after the path in front of it.
+/// Returns the first place, counted from 0, whose path does not come after the path in front of it: in sorted items,
+/// the second one of a path. `None` if there is no such place.
 fn first_repeated(items: &[Item]) -> Option<usize>
     ensures none { IfNone result ((place : ℕ) → 0 < place → place < length items.now
         → IsBeforeAt items.now place true) }
@@ -102,7 +104,7 @@ fn is_after_last(items: &[Item], place: usize) -> bool
     is_before(&items[place - 1], &items[place])
 }
 
-/// Returns whether the first path comes before the second.
+/// Returns whether the first item's path comes before the second's. Equal paths do not.
 fn is_before(first: &Item, second: &Item) -> bool
     ensures { result ≡ is_before first.now.path second.now.path }
 {
@@ -113,7 +115,7 @@ fn is_before(first: &Item, second: &Item) -> bool
     }
 }
 
-/// Compares the paths of two items.
+/// Compares the paths of two items by their bytes.
 fn order_of(first: &Item, second: &Item) -> Ordering
     ensures { result ≡ slice_cmp nat_cmp first.now.path second.now.path }
 {

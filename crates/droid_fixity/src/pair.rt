@@ -1,4 +1,4 @@
-//! The merge of two inventories by path.
+//! Pairs two inventories by path: a merge, and the files that both have.
 
 ghost use Rattle.std.specs.Prelude.{◌≡◌, ◌<◌, ◌++◌, IfOk, OnOk, filter_map, option_copied, option_to_list, slice_get};
 ghost use Rattle.std.specs.Ordering.{nat_cmp};
@@ -33,7 +33,7 @@ pub(crate) enum Pair {
 }
 
 impl Pair {
-    /// Returns the place of an item that only the list has.
+    /// Returns the place in the list, if only the list has this path.
     pub(crate) fn only_listed(self) -> Option<usize>
         ensures { result ≡ only_listed self }
     {
@@ -44,7 +44,7 @@ impl Pair {
         }
     }
 
-    /// Returns the place of an item found that the list does not have.
+    /// Returns the place among the items found, if the list does not have this path.
     pub(crate) fn only_found(self) -> Option<usize>
         ensures { result ≡ only_found self }
     {
@@ -55,7 +55,8 @@ impl Pair {
         }
     }
 
-    /// Returns the place in the list after this pair.
+    /// Returns the place in the list at which the merge goes on after this pair: one on from `listed`, unless the pair
+    /// has no item of the list.
     fn listed_after(self, listed: usize) -> usize
         requires { listed < usize.MAX }
         ensures { result ≡ listed_after self listed }
@@ -67,7 +68,8 @@ impl Pair {
         }
     }
 
-    /// Returns the place among the items found after this pair.
+    /// Returns the place among the items found at which the merge goes on after this pair: one on from `found`, unless
+    /// the pair has no item found.
     fn found_after(self, found: usize) -> usize
         requires { found < usize.MAX }
         ensures { result ≡ found_after self found }
@@ -80,7 +82,8 @@ impl Pair {
     }
 }
 
-/// Pairs the items of two inventories by path, in the order of the paths.
+/// Pairs the items of two inventories by path, in the order of the paths: each item is in one pair. Fails only if out
+/// of memory.
 pub(crate) fn pairs_of(
     alloc: Global,
     listed: &Inventory,
@@ -101,7 +104,8 @@ pub(crate) fn pairs_of(
     Ok(pairs)
 }
 
-/// Returns the pair of the items at these places, or of the one whose path comes first.
+/// Returns the pair of the items at these places, or of the one whose path comes first. `None` if both places are
+/// behind the last items.
 fn next_pair(listed: &[Item], found: &[Item], listed_at: usize, found_at: usize) -> Option<Pair>
     ensures { result ≡ pair_of (slice_get listed.now listed_at) (slice_get found.now found_at) listed_at found_at }
 {
@@ -117,7 +121,7 @@ fn next_pair(listed: &[Item], found: &[Item], listed_at: usize, found_at: usize)
     }
 }
 
-/// Returns the pair of two items, by the order of their paths.
+/// Returns the pair of two items: both if they have one path, otherwise the one whose path comes first alone.
 fn pair_by(item: &Item, other: &Item, listed_at: usize, found_at: usize) -> Pair
     ensures { result ≡ pair_by (slice_cmp nat_cmp item.now.path other.now.path) listed_at found_at }
 {
@@ -142,7 +146,8 @@ pub fn file_pairs(
     Ok(files)
 }
 
-/// Returns the files at these pairs.
+/// Returns the pairs of files among these pairs, in the same order. Places in `pairs` are those in `listed` and
+/// `found`.
 fn files_among(
     alloc: Global,
     listed: &[Item],
@@ -158,7 +163,7 @@ fn files_among(
     Ok(files)
 }
 
-/// Adds a file, if there is one.
+/// Adds a pair of files, if there is one.
 fn note_file(files: &mut Vec<FilePair>, file: Option<FilePair>) -> Result<(), AllocError>
     ensures { OnOk result (files.new.items ≡ files.old.items ++ option_to_list file) }
 {
@@ -168,7 +173,7 @@ fn note_file(files: &mut Vec<FilePair>, file: Option<FilePair>) -> Result<(), Al
     Ok(())
 }
 
-/// Returns the files at a pair, if both sides have one.
+/// Returns the two places of a pair, if both sides have a file there.
 fn file_pair(listed: &[Item], found: &[Item], pair: Pair) -> Option<FilePair>
     ensures { result ≡ file_pair listed.now found.now pair }
 {
@@ -179,7 +184,7 @@ fn file_pair(listed: &[Item], found: &[Item], pair: Pair) -> Option<FilePair>
     }
 }
 
-/// Returns the pair of two items, if both are files.
+/// Returns the places `listed` and `found` of two items, if both are there and both are files.
 fn pair_if(
     item: Option<&Item>,
     other: Option<&Item>,

@@ -1,4 +1,4 @@
-//! The report of all differences.
+//! Compares two inventories: the report of all differences, in which a moved file is one.
 
 ghost use Rattle.std.specs.Prelude.{◌≡◌, ◌++◌, IfOk, OnOk, filter_map, option_copied, option_to_list};
 ghost use Rattle.droid_fixity.specs.Holding.{both_by, difference_at, held, move_by, move_of, moved_if, only_found};
@@ -35,7 +35,7 @@ pub fn compare(
     Ok(report)
 }
 
-/// Returns the places of the items that only the list has.
+/// Returns the places in the list of the items that only the list has, in order.
 fn places_only_listed(alloc: Global, pairs: &[Pair]) -> Result<Vec<usize>, AllocError>
     ensures { IfOk result (λ places. places.items ≡ filter_map only_listed pairs.now) }
 {
@@ -46,7 +46,7 @@ fn places_only_listed(alloc: Global, pairs: &[Pair]) -> Result<Vec<usize>, Alloc
     Ok(places)
 }
 
-/// Returns the places of the items found that the list does not have.
+/// Returns the places among the items found of those that the list does not have, in order.
 fn places_only_found(alloc: Global, pairs: &[Pair]) -> Result<Vec<usize>, AllocError>
     ensures { IfOk result (λ places. places.items ≡ filter_map only_found pairs.now) }
 {
@@ -67,8 +67,8 @@ fn note_place(places: &mut Vec<usize>, place: Option<usize>) -> Result<(), Alloc
     Ok(())
 }
 
-/// Returns the differences at these pairs, in which an item of the list, or one that was found, may be alone. By
-/// `missing` and `new`, which hold the hashes of those alone, a moved file is one difference.
+/// Returns the differences at these pairs, in their order. `missing` says who holds each hash among the items that only
+/// the list has, `new` among those that it does not have: by them a moved file is one difference.
 fn differences_at(
     alloc: Global,
     listed: &[Item],
@@ -103,7 +103,8 @@ fn note_difference(
     Ok(())
 }
 
-/// Returns the difference at a pair, if there is one.
+/// Returns the difference at a pair, or `None` where both items agree, or where a new item is reported at the place
+/// from which it moved.
 fn difference_at(
     listed: &[Item],
     found: &[Item],
@@ -126,7 +127,8 @@ fn difference_at(
     }
 }
 
-/// Returns the difference between two items of one path.
+/// Returns the difference between two items of one path, which stand at these places: `Changed` goes before `Touched`.
+/// `None` if they agree, or if one is not there, which no pair of a merge has.
 fn both_by(
     item: Option<&Item>,
     other: Option<&Item>,
@@ -151,7 +153,7 @@ fn both_by(
     None
 }
 
-/// Returns the move, or that the item of the list is missing.
+/// Returns the move `found`, if there is one, or that the item of the list at place `listed` is missing.
 fn or_missing(found: Option<Difference>, listed: usize) -> Option<Difference>
     ensures { result ≡ or_missing found listed }
 {
@@ -161,7 +163,7 @@ fn or_missing(found: Option<Difference>, listed: usize) -> Option<Difference>
     }
 }
 
-/// Returns that the item is new, unless it came by a move: that is reported at its place in the list.
+/// Returns that the item at place `found` is new, unless it came by a move: that is reported at its place in the list.
 fn or_new(move_of_it: Option<Difference>, found: usize) -> Option<Difference>
     ensures { result ≡ or_new move_of_it found }
 {
@@ -171,7 +173,8 @@ fn or_new(move_of_it: Option<Difference>, found: usize) -> Option<Difference>
     }
 }
 
-/// Returns the move that an item takes part in.
+/// Returns the move that an item takes part in, from either side, or `None`. Only files move, and only by a hash: a
+/// file without one finds no holder.
 fn move_of(
     listed: &[Item],
     found: &[Item],
@@ -188,7 +191,8 @@ fn move_of(
     move_by(listed, found, missing.get(hash), new.get(hash))
 }
 
-/// Returns the move of the only missing and the only new file with one hash.
+/// Returns the move of the only missing and the only new file with one hash, by the holders of that hash on either
+/// side. `None` where a side has none or several.
 fn move_by(
     listed: &[Item],
     found: &[Item],
@@ -206,7 +210,7 @@ fn move_by(
     moved_if(listed.get(*before), found.get(*after), *before, *after)
 }
 
-/// Returns the move between two places, unless the lengths differ.
+/// Returns the move from the place `listed` to the place `found`, unless both items have a length and these differ.
 fn moved_if(
     item: Option<&Item>,
     other: Option<&Item>,

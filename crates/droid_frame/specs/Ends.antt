@@ -1,4 +1,4 @@
--- For proofs only: suffixes of byte lists.
+-- For inner clauses and proofs: suffixes of byte lists.
 use Rattle.std.specs.Prelude.{◌≡◌, ℕ, ◌-◌, ◌≤◌, List, length, drop}
 
 -- rest is a suffix of bytes

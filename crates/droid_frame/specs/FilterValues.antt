@@ -1,4 +1,5 @@
--- For proofs: functions that read filters from the front of bytes.
+-- For inner clauses and proofs: functions that read filters from the front of bytes, and return the value and the bytes
+-- after it.
 use Rattle.std.specs.Prelude.{ℕ, zero, suc, ◌==◌, if◌then◌else◌, List, [], ◌∷◌, Option, Some, None}
 use Rattle.std.specs.Int.{w64}
 use Rattle.droid_frame.specs.declared.criterion.Criterion.{Criterion}

@@ -1,4 +1,5 @@
--- For proofs, and for the clauses `exact`: functions that read hash kinds and digests from the front of bytes.
+-- For inner clauses and proofs, and for the clauses `exact`: functions that read hash kinds and digests from the front
+-- of bytes, and return the value and the bytes after it.
 use Rattle.std.specs.Prelude.{ℕ, zero, suc, nat_lt, ◌==◌, if◌then◌else◌, List, [], ◌∷◌, length, take, drop, Option}
 use Rattle.std.specs.Prelude.{Some, None}
 use Rattle.droid_frame.specs.declared.hash_kind.HashKind.{HashKind}

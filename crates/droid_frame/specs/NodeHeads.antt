@@ -1,4 +1,4 @@
--- For proofs: a function that reads the first fields of AddFolder and AddFile.
+-- For inner clauses and proofs: a function that reads the first fields of AddFolder and AddFile.
 use Rattle.std.specs.Prelude.{ℕ, List, Option, Some}
 use Rattle.std.specs.Int.{w32}
 use Rattle.droid_frame.specs.declared.reading.requests.node_head.NodeHead.{NodeHead}

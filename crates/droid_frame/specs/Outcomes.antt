@@ -1,4 +1,4 @@
--- For proofs only: the results of readers that allocate.
+-- For inner clauses and proofs: the results of readers that allocate.
 use Rattle.std.specs.Prelude.{◌≡◌, Option, Some, None, IsSome, Result, Ok, Err}
 use Rattle.droid_frame.specs.declared.body_fault.BodyFault.{BodyFault}
 use Rattle.droid_frame.specs.declared.body_fault.BodyFault.TheVariants.{Malformed, Memory}
@@ -8,7 +8,8 @@ abbrev pub Fails : {Y : Type 0} → BodyFault → Option Y → Type 0
 Fails Malformed read = read ≡ None
 Fails Memory read = Unit {0}
 
--- the view of the returned value is the spelled value, unless memory ran out
+-- what a reader that allocates returns, where `read` is what the bytes spell: the spelled value, seen through `view`;
+-- `Malformed` only if none is spelled; or `Memory`
 abbrev pub Gives : {X Y : Type 0} → (X → Y) → Result X BodyFault → Option Y → Type 0
 Gives view (Ok x) read = read ≡ Some (view x)
 Gives view (Err fault) read = Fails fault read

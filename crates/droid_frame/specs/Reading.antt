@@ -1,4 +1,5 @@
--- For proofs, and for the clauses `exact`: functions that read single fields from the front of bytes.
+-- For inner clauses and proofs, and for the clauses `exact`: functions that read single fields from the front of bytes,
+-- and return the value and the bytes after it.
 use Rattle.std.specs.Prelude.{ℕ, zero, suc, ℤ, Bool, true, false, nat_lt, if◌then◌else◌, List, [], ◌∷◌, length, take}
 use Rattle.std.specs.Prelude.{drop, Option, Some, None}
 use Rattle.std.specs.Int.{Width, w64, byte_len, from_be_bytes, cast_signed}
@@ -44,7 +45,7 @@ method_at (suc zero ∷ rest) = Some (Signature, rest)
 method_at (suc (suc zero) ∷ rest) = Some (Extension, rest)
 method_at (suc (suc (suc b)) ∷ rest) = None
 
--- a text that takes all the bytes
+-- a text that takes all the bytes; so, unlike the others here, it returns no bytes after it
 unfoldable pub text_at : List ℕ → Option (List ℕ)
 text_at bytes = if is_utf8 bytes then Some bytes else None
 

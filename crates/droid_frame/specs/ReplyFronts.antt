@@ -1,4 +1,4 @@
--- For proofs only: the two parts of a reply's body, a front of short fields and a rest of any length.
+-- For inner clauses and proofs: the two parts of a reply's body, a front of short fields and a rest of any length.
 use Rattle.std.specs.Prelude.{ℕ, List, [], ◌++◌, length}
 use Rattle.std.specs.List.{AllByRecursion}
 use Rattle.droid_frame.specs.declared.reply.Reply.{Reply}

@@ -1,4 +1,4 @@
--- For proofs: functions that read refusals from the front of bytes.
+-- For inner clauses and proofs: functions that read refusals from the front of bytes.
 use Rattle.std.specs.Prelude.{ℕ, ◌==◌, if◌then◌else◌, List, [], ◌∷◌, Option, Some, None}
 use Rattle.std.specs.List.{find}
 use Rattle.std.specs.Option.{option_map}

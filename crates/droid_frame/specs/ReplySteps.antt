@@ -1,4 +1,4 @@
--- For proofs only: the results of the steps of `reply_of`.
+-- For inner clauses and proofs: the results of the steps of `reply_of`.
 use Rattle.std.specs.Prelude.{◌≡◌, ℕ, List, [], Option, Some, None, IsSome, Result, Ok, Err}
 use Rattle.std.specs.Option.{option_map}
 use Rattle.droid_frame.specs.declared.reply.Reply.{Reply}
@@ -16,7 +16,8 @@ abbrev pub IsFaultOf : ℕ → Option Reply → BodyFault → Type 0
 IsFaultOf kind value Malformed = value ≡ None
 IsFaultOf kind value Memory = (kind ≡ 132) × IsSome value
 
--- the result is right for a body of this kind that spells this value
+-- what a reader of replies returns for a body of this kind that spells `value`: that reply; `Malformed` only if none is
+-- spelled; or, of a Finished alone, `Memory`
 abbrev pub IsReplyAnswer : ℕ → Option Reply → Result Reply BodyFault → Type 0
 IsReplyAnswer kind value (Ok reply) = value ≡ Some reply
 IsReplyAnswer kind value (Err fault) = IsFaultOf kind value fault

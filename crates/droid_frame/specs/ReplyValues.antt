@@ -1,4 +1,5 @@
--- For proofs, and for the clause `exact` of `reply_of`: functions that read replies from the front of bytes.
+-- For inner clauses and proofs, and for the clause `exact` of `reply_of`: functions that read replies from the front of
+-- bytes.
 use Rattle.std.specs.Prelude.{ℕ, ◌==◌, nat_lt, if◌then◌else◌, List, length, Option, Some, None}
 use Rattle.std.specs.Int.{w16, w32, w64}
 use Rattle.droid_frame.specs.declared.reply.Reply.{Reply}

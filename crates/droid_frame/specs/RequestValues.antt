@@ -1,4 +1,5 @@
--- For proofs, and for the clause `exact` of `request_of`: functions that read requests from the front of bytes.
+-- For inner clauses and proofs, and for the clause `exact` of `request_of`: functions that read requests from the front
+-- of bytes.
 use Rattle.std.specs.Prelude.{ℕ, ◌^◌, nat_lt, ◌==◌, if◌then◌else◌, List, Option, Some, None}
 use Rattle.std.specs.Int.{w32, w64}
 use Rattle.droid_frame.specs.declared.frame.Frame.{Frame}

@@ -63,7 +63,7 @@ pub record Counts (start : ℕ) (seen : Seen) (count : ℕ) : Type 0 where
   pub counted : seen.interruptions ≡ start + count
   pub within : count ≤ 64
 
--- after a call the count goes on, or the stream is given up
+-- after a call: with a value the count goes on, with a fault the stream is given up
 abbrev pub CountsOn : {T E : Type 0} → ℕ → Seen → ℕ → Result T E → Type 0
 CountsOn start seen count (Ok value) = Counts start seen count
 CountsOn start seen count (Err fault) = GivesUp start seen

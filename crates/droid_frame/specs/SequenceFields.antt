@@ -1,4 +1,4 @@
--- For proofs: functions that read counted sequences from the front of bytes.
+-- For inner clauses and proofs: functions that read counted sequences from the front of bytes.
 use Rattle.std.specs.Prelude.{ℕ, zero, suc, List, [], ◌∷◌, Option, Some}
 use Rattle.droid_frame.specs.Reading.{◌>>=◌, byte_at}
 

@@ -37,7 +37,7 @@ pub record Frames (stream : List ℕ) (frames : List Frame) (rest : List ℕ) : 
   pub joined : stream ≡ flat_map frame_bytes frames ++ rest
   pub none_more : BeginsNoFrame rest
 
--- the length of a header
+-- the length of a header in bytes: version 1, kind 1, client 4, number 8, length of the body 4
 abbrev pub header_size : ℕ
 header_size = 18
 

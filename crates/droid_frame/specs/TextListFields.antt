@@ -1,4 +1,4 @@
--- For proofs: functions that read texts, each after its length, from the front of bytes.
+-- For inner clauses and proofs: functions that read texts, each after its length, from the front of bytes.
 use Rattle.std.specs.Prelude.{ℕ, nat_lt, if◌then◌else◌, List, [], ◌∷◌, length, take, drop, Option, Some, None}
 use Rattle.droid_frame.specs.Reading.{◌>>=◌, text_at}
 use Rattle.droid_frame.specs.SequenceFields.{sequence_at}

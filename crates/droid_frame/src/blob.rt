@@ -1,4 +1,4 @@
-//! Owned bytes.
+//! Owned bytes: `Blob`, the bytes of a body, a path or a piece.
 
 ghost use Rattle.std.specs.Prelude.{◌≡◌, ◌↔◌, [], IfOk, IsTrue, length};
 ghost use Rattle.droid_frame.specs.Fields.{IsBytes};
@@ -12,7 +12,8 @@ pub struct Blob {
     bytes: Vec<u8>,
 }
 
-// Written by hand, so that the crates above do not prove again how each part is dropped.
+// Frees its one field, as a derived `Drop` would. Written by hand, so that the crates above do not prove again how each
+// part is dropped. No clause says more.
 impl Drop for Blob {
     fn drop(self) {
         let Blob { bytes: _bytes } = self;
@@ -41,7 +42,7 @@ impl Blob {
         })
     }
 
-    /// Copies the value. Fails only when out of memory.
+    /// Copies the bytes into a new buffer. Fails only when out of memory.
     pub fn try_clone(&self, alloc: Global) -> Result<Blob, AllocError>
         ensures { IfOk result (λ blob. blob ≡ self.now) }
     {
@@ -51,6 +52,7 @@ impl Blob {
     /// Returns the bytes.
     pub fn as_slice(&self) -> &[u8]
         ensures value { result.now ≡ self.now }
+        // For the proofs of callers: the invariant, that each item is below 256.
         ensures bytes { IsBytes self.now }
     {
         self.bytes.as_slice()

@@ -18,6 +18,7 @@ impl From<AllocError> for BodyFault {
 
     ghost from_gives = { λ error fault. fault ≡ BodyFault.Memory };
 
+    /// Reports out of memory as `Memory`, so that `?` can be used on an allocation.
     fn from(_: AllocError) -> BodyFault {
         BodyFault::Memory
     }

@@ -1,4 +1,5 @@
-//! Laws of the spellings. Each is the contract of a function that does nothing.
+//! Laws of the spelling of requests and replies as bodies. Each is the contract of a function that does nothing:
+//! callers call it where their proof needs the law. `laws.rt` names them too.
 
 ghost use Rattle.std.specs.Prelude.{◌≡◌, ℕ, List};
 ghost use Rattle.droid_frame.specs.Bodies.{SpellsRequest};
@@ -13,7 +14,7 @@ pub fn spells_one_request()
         → SpellsRequest version kind body one → SpellsRequest version kind body other → one ≡ other }
 {}
 
-/// A version, a kind and a body spell at most one reply.
+/// A version, a kind and a body spell at most one reply. `SpellsOneReply` says it as the clause above does of requests.
 pub fn spells_one_reply()
     ensures { SpellsOneReply }
 {}

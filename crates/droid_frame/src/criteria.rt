@@ -1,4 +1,4 @@
-//! A list of criteria.
+//! The list of a filter's criteria.
 
 ghost use Rattle.std.specs.Prelude.{◌≡◌, ◌↔◌, ◌++◌, ◌∷◌, [], IsTrue, IfOk, OnOk, OnErr, length};
 ghost use Rattle.std.specs.Option.{option_copied};
@@ -13,7 +13,8 @@ pub struct Criteria {
     items: Vec<Criterion>,
 }
 
-// Written by hand, so that the crates above do not prove again how each part is dropped.
+// Frees its one field, as a derived `Drop` would. Written by hand, so that the crates above do not prove again how each
+// part is dropped. No clause says more.
 impl Drop for Criteria {
     fn drop(self) {
         let Criteria { items: _items } = self;

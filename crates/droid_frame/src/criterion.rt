@@ -1,4 +1,4 @@
-//! The conditions of a filter.
+//! One condition of a filter.
 
 ghost use Rattle.std.specs.Prelude.{◌≡◌, IfOk};
 
@@ -27,7 +27,7 @@ pub enum Criterion {
 }
 
 impl Criterion {
-    /// Copies the value. Fails only when out of memory.
+    /// Copies the value, with its list of texts if it has one. Fails only when out of memory.
     pub fn try_clone(&self, alloc: Global) -> Result<Criterion, AllocError>
         ensures { IfOk result (λ criterion. criterion ≡ self.now) }
     {

@@ -1,4 +1,4 @@
-//! Paths of folders and files.
+//! Paths of folders and files: which texts are one.
 
 ghost use Rattle.std.specs.Prelude.{◌≡◌, ◌==◌, not};
 ghost use Rattle.std.specs.List.{list_all};
@@ -15,7 +15,8 @@ pub fn is_file_path(path: &[u8]) -> bool
     }
 }
 
-/// Returns whether a path consists of names with `/` between them.
+/// Returns whether the bytes behind a path's first `/` are names with `/` between them. No bytes are one empty name,
+/// and that is none: so `/` alone is no path.
 fn is_plain(path: &[u8]) -> bool
     ensures { result ≡ paths.is_plain path.now }
 {
@@ -29,7 +30,7 @@ fn is_name(name: &[u8]) -> bool
     !name.is_empty() && name != b".".as_slice() && name != b"..".as_slice() && has_no_zero(name)
 }
 
-/// Returns whether a name has no zero byte.
+/// Returns whether a name has no zero byte, which would end it in a call to the system. [`is_name`] asks it last.
 fn has_no_zero(name: &[u8]) -> bool
     ensures { result ≡ list_all (λ b. not (b == 0)) name.now }
 {

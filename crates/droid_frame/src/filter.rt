@@ -1,4 +1,4 @@
-//! Filters of an export.
+//! Filters of an export: which records it has.
 
 ghost use Rattle.std.specs.Prelude.{◌≡◌, IfOk};
 
@@ -15,7 +15,7 @@ pub struct Filter {
 }
 
 impl Filter {
-    /// Copies the value. Fails only when out of memory.
+    /// Copies the value, with each criterion. Fails only when out of memory.
     pub fn try_clone(&self, alloc: Global) -> Result<Filter, AllocError>
         ensures { IfOk result (λ filter. filter ≡ self.now) }
     {

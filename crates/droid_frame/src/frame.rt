@@ -1,4 +1,5 @@
-//! Frames: requests and replies as bytes on a stream.
+//! Frames: requests and replies as bytes on a stream; and the mark of a request, by which it is known when it is sent
+//! again.
 
 ghost use Rattle.std.specs.Prelude.{◌≡◌};
 ghost use Rattle.droid_frame.specs.Frames.{mark_of};
@@ -6,7 +7,8 @@ ghost use Rattle.droid_frame.specs.Frames.{mark_of};
 use crate::blob::Blob;
 use md5::{Digest, Md5};
 
-/// The number of a request is below this.
+/// The number of a request is below this: 2^63. Definitions write `2 ^ 63`; the law `constants_are_the_limits` ties the
+/// two.
 pub const NUMBER_LIMIT: u64 = 1 << 63;
 
 /// A frame: a request or a reply with its header. Any values make a frame; `request_of` and `reply_of` check whether
@@ -25,8 +27,9 @@ pub struct Frame {
     pub body: Blob,
 }
 
-/// Computes the mark of a request: the MD5 (RFC 1321) of its kind's byte followed by its body. Two requests of one
-/// client and number count as the same request if their versions and their marks are equal. Allocates nothing.
+/// Computes the mark of a request: the MD5 (RFC 1321) of its kind's byte followed by its body, without version, client
+/// and number. Two requests of one client and number count as the same request if their versions and their marks are
+/// equal. Allocates nothing.
 pub fn mark(kind: u8, body: &[u8]) -> [u8; 16]
     ensures { result ≡ mark_of kind body.now }
 {

@@ -15,7 +15,8 @@ pub enum HashKind {
 }
 
 impl HashKind {
-    /// Returns the number of the kind, 0 to 2, in frames and in the store.
+    /// Returns the number of the kind, 0 to 2, in frames and in the store. `hash_kind_at` of `reading/fields/hashes.rt`
+    /// reads it back.
     pub fn number(self) -> u8
         ensures { result ≡ hash_kind_number self }
     {

@@ -1,4 +1,4 @@
-//! The hash of one file.
+//! The hash of one file: its kind, and its digest.
 
 ghost use Rattle.std.specs.Prelude.{◌≡◌};
 ghost use Rattle.droid_frame.specs.Hashes.{hash_bytes, hash_value_kind};
@@ -17,7 +17,7 @@ pub enum HashValue {
 }
 
 impl HashValue {
-    /// Returns the kind of hash.
+    /// Returns the kind of hash. That no hash was computed is a kind too.
     pub fn kind(self) -> HashKind
         ensures { result ≡ hash_value_kind self }
     {
@@ -28,7 +28,7 @@ impl HashValue {
         }
     }
 
-    /// Returns the digest, or no bytes if no hash was computed.
+    /// Returns the digest, 16 bytes of an MD5 or 32 of a SHA-256, or no bytes if no hash was computed.
     pub fn as_slice(&self) -> &[u8]
         ensures { result.now ≡ hash_bytes self.now }
     {

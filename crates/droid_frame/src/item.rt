@@ -1,4 +1,4 @@
-//! Folders and files of a list.
+//! Folders and files, as a list has them or as they were found, and what differs between two of one path.
 
 ghost use Rattle.std.specs.Prelude.{◌≡◌, not};
 ghost use Rattle.droid_frame.specs.Items as items;
@@ -34,7 +34,7 @@ pub struct Changes {
 }
 
 impl Changes {
-    /// Returns whether anything differs.
+    /// Returns whether anything differs: kind, length or hash. Two moments may differ all the same.
     pub fn is_any(self) -> bool
         ensures { result ≡ items.is_any self }
     {
@@ -43,7 +43,8 @@ impl Changes {
 }
 
 impl Item {
-    /// Compares an item of a list with the item of the same path that was found.
+    /// Compares an item of a list with the item of the same path that was found. What one of the two does not have is
+    /// not compared.
     pub fn changes_to(&self, found: &Item) -> Changes
         ensures { result ≡ items.changes_between self.now found.now }
     {
@@ -54,7 +55,7 @@ impl Item {
         }
     }
 
-    /// Returns whether both items have a length and the lengths differ.
+    /// Returns whether both items have a length and the lengths differ. If one has none, nothing differs.
     pub fn has_other_length(&self, found: &Item) -> bool
         ensures { result ≡ items.other_length self.now.length found.now.length }
     {
@@ -64,7 +65,8 @@ impl Item {
         }
     }
 
-    /// Returns whether both items have a hash of one kind and the hashes differ.
+    /// Returns whether both items have a hash of one kind and the hashes differ. Where the kinds differ, or neither has
+    /// a hash, nothing differs.
     pub fn has_other_hash(&self, found: &Item) -> bool
         ensures { result ≡ items.other_hash self.now.hash found.now.hash }
     {
@@ -79,7 +81,7 @@ impl Item {
         self.hash.kind().number() != 0 && self.hash.kind().number() == found.hash.kind().number()
     }
 
-    /// Returns whether both items have a length.
+    /// Returns whether both items have a length, so that the lengths can be compared.
     pub fn both_sized(&self, found: &Item) -> bool
         ensures { result ≡ items.both_sized self.now found.now }
     {
@@ -89,7 +91,8 @@ impl Item {
         }
     }
 
-    /// Returns whether both items have a moment and the moments differ.
+    /// Returns whether both items have a moment of the last change and the moments differ. [`Changes`] leaves moments
+    /// out: a copy has other moments and the same bytes.
     pub fn has_other_moment(&self, found: &Item) -> bool
         ensures { result ≡ items.other_moment self.now.modified found.now.modified }
     {

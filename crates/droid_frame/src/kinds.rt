@@ -1,4 +1,5 @@
-//! The kinds of some requests and replies, as numbers in a frame.
+//! The kinds of some requests and replies, as numbers in a frame: those that the crates above compare a frame's kind
+//! with. `Request::kind` and `Reply::kind` have all of them.
 
 /// The kind of a CreateProfile.
 pub const CREATE_PROFILE: u8 = 1;

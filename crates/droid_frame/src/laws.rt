@@ -1,4 +1,4 @@
-//! Laws of frames. Each is the contract of a function that does nothing.
+//! Laws of frames and of streams of frames. Each is the contract of a function that does nothing.
 
 ghost use Rattle.droid_frame.specs.ReplyFrames.{ReplyFramesAreReadable};
 ghost use Rattle.droid_frame.specs.StreamLaws.{OneFrameAtTheFront, EachStreamHasFrames, NoStreamHasOthers};

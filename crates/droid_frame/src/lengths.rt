@@ -1,4 +1,8 @@
-//! The lengths of request bodies.
+//! Which requests a frame can carry, and how long their bodies are. Both are one question: a body has a length here
+//! only where it fits.
+//!
+//! The numbers are the lengths in bytes of the fields that `request_body` in `specs/Bodies.antt` lists: 4 of a u32, 8
+//! of a u64 or i64, 1 of a truth value, a count, a tag or a kind. The prover ties the two.
 
 ghost use Rattle.std.specs.Prelude.{◌≡◌, ◌↔◌, ◌<◌, ◌≤◌, ◌+◌, ◌++◌, Bool, IsTrue, MatchOption, length};
 ghost use Rattle.droid_frame.specs.Bodies.{Fits, request_body};
@@ -14,7 +18,8 @@ use crate::request::Request;
 use crate::texts::Texts;
 use crate::versions::{body_limit, is_version};
 
-/// The limit on the criteria of a filter, on the texts of a list, and on the bytes of each of these texts.
+/// The limit on the criteria of a filter, on the texts of a list, and on the bytes of each of these texts: what one
+/// byte can count. It is `count_limit` of `specs/Limits.antt`, to which the contracts below tie it.
 const COUNT_LIMIT: usize = 255;
 
 impl Request {
@@ -27,7 +32,7 @@ impl Request {
         self.body_len(version).is_some()
     }
 
-    /// Returns the length in bytes of the request's body in this version, or `None` if it does not fit.
+    /// Returns the length in bytes of the request's body in this version, or `None` where [`Request::fits`] is false.
     pub fn body_len(&self, version: u8) -> Option<usize>
         ensures { MatchOption result (¬ Fits version self.now)
             (λ len. Fits version self.now × (len ≡ length (request_body version self.now))) }
@@ -49,7 +54,8 @@ impl Request {
     }
 }
 
-/// Returns the body length of a CreateProfile, or `None` if the version cannot carry the hash kind.
+/// Returns the body length of a CreateProfile, or `None` if the version cannot carry the hash kind. Version 1 has no
+/// byte for the kind, and carries MD5 alone. The version is 1 or 2: `body_len` checks it.
 fn options_len(version: u8, hash: HashKind) -> Option<usize>
     ensures { MatchOption result (¬ CarriesHash version hash)
         (λ len.
@@ -66,7 +72,8 @@ fn options_len(version: u8, hash: HashKind) -> Option<usize>
     }
 }
 
-/// Adds the lengths of a body's fields and of the rest of it. Returns `None` if the sum is over the limit.
+/// Adds the length of a body's fields and that of the name, bytes or filter behind them. Returns `None` if the sum is
+/// over the limit, that of a body in this version.
 fn len_with(limit: usize, fields: usize, rest: usize) -> Option<usize>
     requires { fields ≤ limit }
     ensures { MatchOption result (limit < fields + rest) (λ len. (len ≡ fields + rest) × (len ≤ limit)) }
@@ -77,7 +84,8 @@ fn len_with(limit: usize, fields: usize, rest: usize) -> Option<usize>
     Some(fields + rest)
 }
 
-/// Returns the length of a filter in an Export's body, or `None` if a body cannot hold it.
+/// Returns the length of a filter in an Export's body, or `None` if a body cannot hold it: it has more than 255
+/// criteria, or one of them does not fit. Whether the body's limit allows this length, the caller checks.
 fn filter_len(filter: &Filter) -> Option<usize>
     ensures { MatchOption result (¬ FilterFits filter.now) (λ len.
         FilterFits filter.now × (len ≡ length (filter_bytes filter.now))) }
@@ -93,7 +101,8 @@ fn filter_len(filter: &Filter) -> Option<usize>
     Some(len)
 }
 
-/// Returns the length of a criterion in a filter, its tag included, or `None` if a filter cannot hold it.
+/// Returns the length of a criterion in a filter, its tag included, or `None` if a filter cannot hold it: its list does
+/// not fit. The bound on the length keeps the caller's sum from overflowing.
 fn criterion_len(criterion: &Criterion) -> Option<usize>
     ensures { MatchOption result (¬ CriterionFits criterion.now)
         (λ len. CriterionFits criterion.now × (len ≡ length (criterion_bytes criterion.now)) × (len ≤ 65536)) }
@@ -109,7 +118,8 @@ fn criterion_len(criterion: &Criterion) -> Option<usize>
     }
 }
 
-/// Returns the length of a criterion's list of texts, or `None` if a criterion cannot hold it.
+/// Returns the length of a criterion's list of texts, its count included, or `None` if a criterion cannot hold it: more
+/// than 255 texts, or a text of more than 255 bytes. 65,281 is 1 + 255 texts of 1 + 255 bytes.
 fn list_len(texts: &Texts) -> Option<usize>
     ensures { MatchOption result (¬ ListFits texts.now)
         (λ len. ListFits texts.now × (len ≡ length (list_bytes texts.now)) × (len ≤ 65281)) }

@@ -1,4 +1,4 @@
-//! Methods of identification.
+//! Methods of identification: how the formats of a file were found.
 
 ghost use Rattle.std.specs.Prelude.{◌≡◌};
 ghost use Rattle.droid_frame.specs.Fields.{method_number};
@@ -15,7 +15,7 @@ pub enum Method {
 }
 
 impl Method {
-    /// Returns the number of the method in a body, 0 to 2.
+    /// Returns the number of the method in a body, 0 to 2. `method_at` of `reading/fields` reads it back.
     pub fn number(self) -> u8
         ensures { result ≡ method_number self }
     {

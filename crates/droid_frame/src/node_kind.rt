@@ -1,4 +1,4 @@
-//! Kinds of node.
+//! Kinds of node: a file or a folder.
 
 ghost use Rattle.std.specs.Prelude.{◌≡◌};
 ghost use Rattle.droid_frame.specs.Filters.{is_file, node_kind_number};
@@ -13,7 +13,8 @@ pub enum NodeKind {
 }
 
 impl NodeKind {
-    /// Returns the number of the kind in a body, 0 or 1.
+    /// Returns the number of the kind in a criterion's bytes: 0 for a file, 1 for a folder. `node_kind_at` of
+    /// `reading/filters.rt` reads it back.
     pub fn number(self) -> u8
         ensures { result ≡ node_kind_number self }
     {

@@ -1,4 +1,4 @@
-//! Records of an export.
+//! Records of an export: what its rows show of one folder or file.
 
 ghost use Rattle.std.specs.Prelude.{◌≡◌, IfOk};
 
@@ -37,7 +37,7 @@ pub struct Record {
 }
 
 impl Record {
-    /// Copies the value. Fails only when out of memory.
+    /// Copies the value, with its path, name and identifiers. Fails only when out of memory.
     pub fn try_clone(&self, alloc: Global) -> Result<Record, AllocError>
         ensures { IfOk result (λ copy. copy ≡ self.now) }
     {

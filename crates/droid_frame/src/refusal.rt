@@ -1,4 +1,5 @@
-//! The reasons for a refused request.
+//! The reasons for a refused request, and the limits that one of them names. `reading/replies/refusals.rt` reads both
+//! back from their numbers.
 
 ghost use Rattle.std.specs.Prelude.{◌≡◌};
 ghost use Rattle.droid_frame.specs.Refusals.{refusal_number, limit_number};
@@ -114,7 +115,7 @@ impl From<AllocError> for Refusal {
 
     ghost from_gives = { λ _ refusal. refusal ≡ Memory };
 
-    /// Reports out of memory as `Memory`.
+    /// Reports out of memory as `Memory`, so that `?` can be used on an allocation.
     fn from(_: AllocError) -> Refusal {
         Refusal::Memory
     }

@@ -10,13 +10,16 @@ use crate::refusal::Refusal;
 use crate::texts::Texts;
 use std::alloc::{AllocError, Global};
 
-/// The limit on the format identifiers in a Finished.
+/// The limit on the format identifiers in a Finished. It is `puids_limit` of `specs/Limits.antt`; the law
+/// `constants_are_the_limits` ties the two.
 pub const PUIDS_LIMIT: usize = 4_096;
 
-/// The limit on the bytes of one format identifier.
+/// The limit on the bytes of one format identifier. It is `puid_limit` of `specs/Limits.antt`; the law
+/// `constants_are_the_limits` ties the two.
 pub const PUID_LIMIT: usize = 32;
 
-/// The limit on the bytes of the export's text in a Part.
+/// The limit on the bytes of the export's text in a Part. It is `part_limit` of `specs/Limits.antt`; the law
+/// `constants_are_the_limits` ties the two.
 pub const PART_LIMIT: usize = 1_048_576;
 
 /// The reply to one request.
@@ -95,7 +98,7 @@ impl Reply {
         matches!(self, Reply::Refused(_))
     }
 
-    /// Copies the value. Fails only when out of memory.
+    /// Copies the value, with its identifiers or bytes. Fails only when out of memory.
     pub fn try_clone(&self, alloc: Global) -> Result<Reply, AllocError>
         ensures { IfOk result (λ copy. copy ≡ self.now) }
     {

@@ -21,7 +21,7 @@ pub enum RunningHash {
 }
 
 impl RunningHash {
-    /// Makes a hash of this kind, of no bytes.
+    /// Starts a hash of this kind, of no bytes yet.
     pub fn of(kind: HashKind) -> RunningHash
         ensures kind { running_kind result ≡ kind }
         ensures holds { HoldsAll result [] }
@@ -33,7 +33,7 @@ impl RunningHash {
         }
     }
 
-    /// Adds the next bytes.
+    /// Adds the next bytes, behind those so far. Without a hash it does nothing.
     pub fn update(&mut self, bytes: &[u8])
         ensures kind { running_kind self.new ≡ running_kind self.old }
         ensures holds { (before : List ℕ) → HoldsAll self.old before → HoldsAll self.new (before ++ bytes.now) }
@@ -45,7 +45,7 @@ impl RunningHash {
         }
     }
 
-    /// Returns the hash of the bytes so far, and starts again with no bytes.
+    /// Returns the hash of the bytes so far, and starts again with no bytes. Without a hash it returns `Nothing`.
     pub fn finish(&mut self) -> HashValue
         ensures value { (before : List ℕ) → HoldsAll self.old before → result ≡ hash (running_kind self.old) before }
         ensures kind { running_kind self.new ≡ running_kind self.old }

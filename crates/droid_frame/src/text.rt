@@ -1,4 +1,4 @@
-//! Owned text.
+//! Owned text: `Text`, one name, path or format identifier.
 
 ghost use Rattle.std.specs.Prelude.{◌≡◌, IfOk, length, string_bytes};
 ghost use Rattle.std.specs.Str.{IsUtf8};
@@ -11,7 +11,8 @@ pub struct Text {
     text: String,
 }
 
-// Written by hand, so that the crates above do not prove again how each part is dropped.
+// Frees its one field, as a derived `Drop` would. Written by hand, so that the crates above do not prove again how each
+// part is dropped. No clause says more.
 impl Drop for Text {
     fn drop(self) {
         let Text { text: _text } = self;
@@ -36,7 +37,7 @@ impl Text {
         })
     }
 
-    /// Copies the value. Fails only when out of memory.
+    /// Copies the text into a new buffer. Fails only when out of memory.
     pub fn try_clone(&self, alloc: Global) -> Result<Text, AllocError>
         ensures { IfOk result (λ it. it ≡ self.now) }
     {
@@ -46,6 +47,7 @@ impl Text {
     /// Returns the text.
     pub fn as_str(&self) -> &str
         ensures value { result.now ≡ self.now }
+        // For the proofs of callers: any text is UTF-8.
         ensures utf8 { IsUtf8 self.now }
     {
         self.text.as_str()

@@ -1,4 +1,4 @@
-//! A list of texts.
+//! A list of texts: `Texts`, such as the identifiers of a file's formats.
 
 ghost use Rattle.std.specs.Prelude.{◌≡◌, ◌↔◌, ◌++◌, ◌∷◌, [], IsTrue, IfOk, OnOk, OnErr, length};
 ghost use Rattle.std.specs.Option.{option_copied};
@@ -13,7 +13,8 @@ pub struct Texts {
     items: Vec<Text>,
 }
 
-// Written by hand, so that the crates above do not prove again how each part is dropped.
+// Frees its one field, as a derived `Drop` would. Written by hand, so that the crates above do not prove again how each
+// part is dropped. No clause says more.
 impl Drop for Texts {
     fn drop(self) {
         let Texts { items: _items } = self;

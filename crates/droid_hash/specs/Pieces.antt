@@ -1,4 +1,4 @@
--- The lengths of pieces.
+-- Which of two pieces is the shorter one, by the list of the pieces' lengths; an empty piece loses.
 use Rattle.std.specs.Prelude.{ℕ, ◌<◌, ◌≤◌, List, slice_index}
 
 -- if piece k is not empty, then piece `best` isn't either, and is no longer

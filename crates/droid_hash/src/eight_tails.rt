@@ -1,8 +1,10 @@
-//! The tails of eight messages, and what a piece of each does to them. A tail has the bytes of its message after the
-//! last whole block, at the front of 64 bytes; what stands behind them counts for nothing.
+//! The tails of eight messages that MD5 hashes side by side, and what a piece of each does to them; `four_tails` does
+//! it for SHA-256. A tail has the bytes of its message after the last whole block, at the front of 64 bytes; what
+//! stands behind them counts for nothing.
 //!
-//! Each function but `longer` does for all messages what `tails` does for one. `first_chunks 64 n`, of the standard
-//! library, is the first n blocks.
+//! Each function but `longer` does for all messages what the function of this name in `tails` does for one; `used` has
+//! what `used_of` returned, `totals` the messages' lengths modulo 2^64. `first_chunks 64 n`, of the standard library,
+//! is the first n blocks.
 
 ghost use Rattle.std.specs.Prelude.{◌≡◌, ◌≢◌, ℕ, ◌+◌, ◌*◌, ◌/◌, ◌%◌, ◌^◌, ◌<◌, List, [], ◌∷◌, ◌++◌, length, drop};
 ghost use Rattle.std.specs.Prelude.{slice_index, slice_index_or};
@@ -30,7 +32,7 @@ pub(crate) fn used_of(totals: &[u64; 8]) -> [usize; 8]
     ]
 }
 
-/// Makes the block that each tail begins, with the piece's first bytes after the tail's.
+/// Makes the block that each tail begins, with the piece's first bytes after the tail's. `blocks` has the tails so far.
 pub(crate) fn joined(blocks: &[[u8; 64]; 8], used: [usize; 8], pieces: [&[u8]; 8]) -> [[u8; 64]; 8]
     requires { (j : ℕ) → j < 8 → slice_index used j < 64 }
     ensures { (j : ℕ) → j < 8
@@ -50,7 +52,7 @@ pub(crate) fn joined(blocks: &[[u8; 64]; 8], used: [usize; 8], pieces: [&[u8]; 8
     ]
 }
 
-/// Returns, for each message, the block if its piece completes it, and no block if not.
+/// Returns, for each message, what `joined` made as a run of one block if the piece fills it up; otherwise no block.
 pub(crate) fn completed<'a>(
     blocks: &'a [[u8; 64]; 8],
     used: [usize; 8],
@@ -77,7 +79,7 @@ pub(crate) fn completed<'a>(
     ]
 }
 
-/// Returns what is left of each piece after the bytes that went into a block that was begun.
+/// Returns the bytes of each piece after those that `joined` puts behind the tail.
 pub(crate) fn rests<'a>(pieces: [&'a [u8]; 8], used: [usize; 8]) -> [&'a [u8]; 8]
     requires { (j : ℕ) → j < 8 → slice_index used j < 64 }
     ensures { (j : ℕ) → j < 8
@@ -96,7 +98,7 @@ pub(crate) fn rests<'a>(pieces: [&'a [u8]; 8], used: [usize; 8]) -> [&'a [u8]; 8
     ]
 }
 
-/// Returns the whole blocks of each rest of a piece.
+/// Returns the run of whole blocks at the front of what `rests` left of each piece.
 pub(crate) fn chunks<'a>(rests: [&'a [u8]; 8]) -> [&'a [[u8; 64]]; 8]
     ensures { (j : ℕ) → j < 8
         → piece j result ≡ first_chunks 64 (length (piece j rests.entry) / 64) (piece j rests.entry) }
@@ -114,7 +116,8 @@ pub(crate) fn chunks<'a>(rests: [&'a [u8]; 8]) -> [&'a [[u8; 64]]; 8]
     ]
 }
 
-/// Makes the new tails: the bytes of each rest after its whole blocks, in the block of before.
+/// Makes the new tails: each block of `joined`, with its first bytes replaced by those after the whole blocks of what
+/// `rests` left.
 pub(crate) fn kept(blocks: &[[u8; 64]; 8], rests: [&[u8]; 8]) -> [[u8; 64]; 8]
     ensures { (j : ℕ) → j < 8 → slice_index_or result j []
         ≡ drop (length (piece j rests.entry) / 64 * 64) (piece j rests.entry)

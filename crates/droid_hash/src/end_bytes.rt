@@ -31,7 +31,8 @@ impl Model for EndBytes {
     ghost invariant = { HasRoom };
 }
 
-/// Appends bytes for which there is room, so that nothing is allocated.
+/// Appends bytes to one end's bytes (`window`). There is room for them, so nothing is allocated and the `unwrap` never
+/// fails.
 fn append(window: &mut Vec<u8>, bytes: &[u8])
     requires { vec_len window.old + length bytes.now ≤ vec_capacity window.old }
     ensures items { window.new.items ≡ window.old.items ++ bytes.now }
@@ -52,7 +53,7 @@ fn within(len: usize, left: u64) -> usize
     }
 }
 
-/// Returns how many bytes each end of a file has.
+/// Returns how many bytes each end of a file of `size` bytes has: all of a file that is shorter than `limit`.
 fn width_of(limit: usize, size: u64) -> u64
     ensures { result ≡ min limit size }
 {
@@ -76,7 +77,7 @@ impl EndBytes {
         })
     }
 
-    /// Begins a file of `size` bytes, and forgets the old one.
+    /// Begins a file of `size` bytes, and forgets the old one. The rooms stay.
     pub fn begin(&mut self, size: u64)
         ensures limit { self.new.limit ≡ self.old.limit }
         ensures size { self.new.size ≡ size }
@@ -105,7 +106,7 @@ impl EndBytes {
         self.count += fresh.len() as u64;
     }
 
-    /// Returns the file's first bytes, of those that came: at most `limit`.
+    /// Returns the file's first bytes, of those that came: at most `limit`, and fewer if fewer came.
     pub fn first(&self) -> &[u8]
         ensures value { result.now ≡ self.now.first }
         ensures all { (bytes : List ℕ) → Came self.now bytes → length bytes ≡ self.now.size
@@ -116,7 +117,8 @@ impl EndBytes {
         self.first.as_slice()
     }
 
-    /// Returns the file's last bytes, of those that came: at most `limit`.
+    /// Returns those of the file's last bytes that came: at most `limit`, counted from the end that `begin` named.
+    /// While that end is further off, there are none.
     pub fn last(&self) -> &[u8]
         ensures value { result.now ≡ self.now.last }
         ensures all { (bytes : List ℕ) → Came self.now bytes → length bytes ≡ self.now.size

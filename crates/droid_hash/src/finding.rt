@@ -1,4 +1,5 @@
-//! What the reply that finished a file says of it.
+//! What the reply that finished a file says of it, in a fixed size, and the digest that stands in it for the list of
+//! formats.
 
 ghost use Rattle.std.specs.Prelude.{◌≡◌, ◌++◌, ◌∷◌, [], ℕ, List};
 ghost use Rattle.droid_hash.specs.Findings.{CoversPuids, finding_of, no_finding, puids_digest};
@@ -21,7 +22,7 @@ pub struct Finding {
     pub puids: HashValue,
 }
 
-/// The digest, so far, of PUIDs that come one by one.
+/// The digest, so far, of PUIDs that come one by one, for [`Finding::puids`].
 #[derive(Drop)]
 pub struct RunningPuids {
     hasher: Sha256,
@@ -37,7 +38,8 @@ impl RunningPuids {
         }
     }
 
-    /// Adds the next PUID.
+    /// Adds the next PUID: its length as eight bytes, the highest first, and then its bytes. So no two lists have the
+    /// same text.
     pub fn add(&mut self, puid: &[u8])
         ensures { (before : List (List ℕ)) → CoversPuids self.old before
             → CoversPuids self.new (before ++ puid.now ∷ []) }
@@ -47,7 +49,7 @@ impl RunningPuids {
         self.hasher.update(puid);
     }
 
-    /// Returns the digest of the PUIDs so far.
+    /// Returns the digest of the PUIDs so far, always a SHA-256, whatever the hash of the files is.
     pub fn finish(self) -> HashValue
         ensures { (puids : List (List ℕ)) → CoversPuids self puids → result ≡ puids_digest puids }
     {
@@ -56,7 +58,7 @@ impl RunningPuids {
     }
 }
 
-/// Returns what a reply says of a finished file. Every other reply says nothing of it.
+/// Returns what a reply says of a finished file; [`no_finding`] if the reply finishes no file.
 pub fn finding_of(found: &Reply) -> Finding
     ensures { result ≡ finding_of found.now }
 {
@@ -77,7 +79,8 @@ pub fn finding_of(found: &Reply) -> Finding
     }
 }
 
-/// Returns what is known of a folder, or of a file of which nothing is known.
+/// Returns what is known of a folder, or of a file of which nothing is known: not identified, no mismatch, no hash and
+/// no formats.
 pub fn no_finding() -> Finding
     ensures { result ≡ no_finding }
 {
@@ -90,7 +93,7 @@ pub fn no_finding() -> Finding
     }
 }
 
-/// Returns the digest of a list of PUIDs.
+/// Returns the digest of a list of PUIDs, in the list's order.
 fn digest_of(puids: &[Text]) -> HashValue
     ensures { result ≡ puids_digest puids.now }
 {

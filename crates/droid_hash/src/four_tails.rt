@@ -1,8 +1,10 @@
-//! The tails of four messages, and what a piece of each does to them. A tail has the bytes of its message after the
-//! last whole block, at the front of 64 bytes; what stands behind them counts for nothing.
+//! The tails of four messages that SHA-256 hashes side by side, and what a piece of each does to them; `eight_tails`
+//! does it for MD5. A tail has the bytes of its message after the last whole block, at the front of 64 bytes; what
+//! stands behind them counts for nothing.
 //!
-//! Each function but `lens` and `longer` does for all messages what `tails` does for one. `first_chunks 64 n`, of the
-//! standard library, is the first n blocks.
+//! Each function but `lens` and `longer` does for all messages what the function of this name in `tails` does for one;
+//! `used` has what `used_of` returned, `totals` the messages' lengths modulo 2^64. `first_chunks 64 n`, of the standard
+//! library, is the first n blocks.
 
 ghost use Rattle.std.specs.Prelude.{◌≡◌, ◌≢◌, ℕ, ◌+◌, ◌*◌, ◌/◌, ◌%◌, ◌^◌, ◌<◌, List, [], ◌∷◌, ◌++◌, length, drop};
 ghost use Rattle.std.specs.Prelude.{slice_index, slice_index_or};
@@ -12,7 +14,7 @@ ghost use Rattle.droid_hash.specs.Tails.{joining, IsJoined};
 
 use crate::tails;
 
-/// Returns the lengths of the pieces.
+/// Returns how many bytes each piece has. `pieces` has such a function for eight.
 pub(crate) fn lens(pieces: [&[u8]; 4]) -> [usize; 4]
     ensures value { (j : ℕ) → j < 4 → slice_index result j ≡ length (piece j pieces.entry) }
     ensures count { length result ≡ 4 }
@@ -35,7 +37,7 @@ pub(crate) fn used_of(totals: &[u64; 4]) -> [usize; 4]
     ]
 }
 
-/// Makes the block that each tail begins, with the piece's first bytes after the tail's.
+/// Makes the block that each tail begins, with the piece's first bytes after the tail's. `blocks` has the tails so far.
 pub(crate) fn joined(blocks: &[[u8; 64]; 4], used: [usize; 4], pieces: [&[u8]; 4]) -> [[u8; 64]; 4]
     requires { (j : ℕ) → j < 4 → slice_index used j < 64 }
     ensures { (j : ℕ) → j < 4
@@ -51,7 +53,7 @@ pub(crate) fn joined(blocks: &[[u8; 64]; 4], used: [usize; 4], pieces: [&[u8]; 4
     ]
 }
 
-/// Returns, for each message, the block if its piece completes it, and no block if not.
+/// Returns, for each message, what `joined` made as a run of one block if the piece fills it up; otherwise no block.
 pub(crate) fn completed<'a>(
     blocks: &'a [[u8; 64]; 4],
     used: [usize; 4],
@@ -74,7 +76,7 @@ pub(crate) fn completed<'a>(
     ]
 }
 
-/// Returns what is left of each piece after the bytes that went into a block that was begun.
+/// Returns the bytes of each piece after those that `joined` puts behind the tail.
 pub(crate) fn rests<'a>(pieces: [&'a [u8]; 4], used: [usize; 4]) -> [&'a [u8]; 4]
     requires { (j : ℕ) → j < 4 → slice_index used j < 64 }
     ensures { (j : ℕ) → j < 4
@@ -89,7 +91,7 @@ pub(crate) fn rests<'a>(pieces: [&'a [u8]; 4], used: [usize; 4]) -> [&'a [u8]; 4
     ]
 }
 
-/// Returns the whole blocks of each rest of a piece.
+/// Returns the run of whole blocks at the front of what `rests` left of each piece.
 pub(crate) fn chunks<'a>(rests: [&'a [u8]; 4]) -> [&'a [[u8; 64]]; 4]
     ensures { (j : ℕ) → j < 4
         → piece j result ≡ first_chunks 64 (length (piece j rests.entry) / 64) (piece j rests.entry) }
@@ -103,7 +105,8 @@ pub(crate) fn chunks<'a>(rests: [&'a [u8]; 4]) -> [&'a [[u8; 64]]; 4]
     ]
 }
 
-/// Makes the new tails: the bytes of each rest after its whole blocks, in the block of before.
+/// Makes the new tails: each block of `joined`, with its first bytes replaced by those after the whole blocks of what
+/// `rests` left.
 pub(crate) fn kept(blocks: &[[u8; 64]; 4], rests: [&[u8]; 4]) -> [[u8; 64]; 4]
     ensures { (j : ℕ) → j < 4 → slice_index_or result j []
         ≡ drop (length (piece j rests.entry) / 64 * 64) (piece j rests.entry)

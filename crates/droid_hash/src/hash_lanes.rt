@@ -1,4 +1,4 @@
-//! The hashes of eight files side by side.
+//! The hashes of eight files side by side, of one kind that is chosen once. The lanes of each kind do the work.
 
 ghost use Rattle.std.specs.Prelude.{◌≡◌, ◌≢◌, ℕ, ◌<◌, ◌≤◌, List, [], ◌++◌, length, take};
 ghost use Rattle.droid_frame.specs.Hashes.{hash};
@@ -10,7 +10,8 @@ use crate::pieces::{fronts, shortest};
 use crate::sha256_eight::Sha256Eight;
 use droid_frame::{HashKind, HashValue};
 
-/// How many files are hashed side by side.
+/// How many files are hashed side by side. The types of this crate have the 8 written out, and the prover ties the
+/// places in them to it; SHA-256 does four and four.
 pub const LANES: usize = 8;
 
 /// The hashes, so far, of eight files. Each file has a lane of its own, 0 to 7. No call allocates.
@@ -54,7 +55,8 @@ impl HashLanes {
         }
     }
 
-    /// Takes all of each lane's piece. [`HashLanes::advance`] cuts the pieces to one length first.
+    /// Takes all of each lane's piece. Its caller [`HashLanes::advance`] cuts the pieces to one length first, for
+    /// speed.
     #[tactic(auto, unfolding(crate::specs::Scanning::Scanned))]
     fn update(&mut self, pieces: [&[u8]; 8])
         ensures kind { lanes_kind self.new ≡ lanes_kind self.old }
@@ -69,7 +71,7 @@ impl HashLanes {
     }
 
     /// Takes the first bytes of each lane's piece, and returns how many: as many as the shortest piece has, of those
-    /// that are not empty. A lane whose piece is empty is idle.
+    /// that are not empty; 0 if all are. A lane whose piece is empty is idle.
     pub fn advance(&mut self, pieces: [&[u8]; 8]) -> usize
         ensures kind { lanes_kind self.new ≡ lanes_kind self.old }
         ensures taken { (j : ℕ) → j < 8 → (bytes : List ℕ) → Scanned self.old j bytes

@@ -1,5 +1,6 @@
-//! Runs of blocks, one for each lane and of any lengths, taken side by side. `compress h b`, of the kit's `md5`, is the
-//! hash value after block b.
+//! Takes runs of blocks into a state of eight MD5s side by side, one run for each lane and of any lengths;
+//! `sha256_runs` does it for SHA-256. It goes part by part: as far as no run ends. A run is a message's next whole
+//! blocks. `compress h b`, of the kit's `md5`, is the hash value after block b.
 
 ghost use Rattle.std.specs.Prelude.{◌≡◌, ℕ, ◌+◌, ◌-◌, ◌*◌, ◌<◌, ◌≤◌, List, [], Bool, false, nat_lt, fold, length, take};
 ghost use Rattle.std.specs.Prelude.{drop, slice_index, slice_index_or, if◌then◌else◌};
@@ -21,7 +22,8 @@ fn longest<'a>(runs: [&'a [[u8; 64]]; 8]) -> &'a [[u8; 64]]
     )
 }
 
-/// Returns how many blocks from `at` on each run has that has not ended there: at most `most`.
+/// Returns how many blocks from `at` on each run has that has not ended there: at most `most`, and `most` if all have
+/// ended. That is the length of the next part.
 fn common(runs: [&[[u8; 64]]; 8], at: usize, most: usize) -> usize
     ensures most { result ≤ most }
     ensures some { 0 < most → 0 < result }
@@ -58,7 +60,7 @@ fn parts<'a>(runs: [&'a [[u8; 64]]; 8], filler: &'a [[u8; 64]], at: usize) -> [&
     ]
 }
 
-/// Returns which runs have not ended at `at`.
+/// Returns a flag for each run: whether it has more than `at` blocks.
 fn going(runs: [&[[u8; 64]]; 8], at: usize) -> [bool; 8]
     ensures { (j : ℕ) → j < 8 → slice_index_or result j false ≡ nat_lt at (length (piece j runs.entry)) }
 {
@@ -75,7 +77,7 @@ fn going(runs: [&[[u8; 64]]; 8], at: usize) -> [bool; 8]
     ]
 }
 
-/// Returns the new state in the lanes that are named, and the old one in the others.
+/// Returns a state with the new variables in each lane whose flag in `named` is true, and the old ones in each other.
 fn chosen(named: [bool; 8], new: [u32x8; 4], old: [u32x8; 4]) -> [u32x8; 4]
     ensures { (j : ℕ) → j < 8 → lane j result ≡ (if slice_index_or named j false then lane j new else lane j old) }
 {
@@ -92,7 +94,7 @@ fn chosen(named: [bool; 8], new: [u32x8; 4], old: [u32x8; 4]) -> [u32x8; 4]
     ]
 }
 
-/// Does the work of `chosen` for one variable of the state.
+/// Does the work of `chosen` for one vector, that is one variable of all lanes.
 fn chosen_lanes(named: [bool; 8], new: u32x8, old: u32x8) -> u32x8
     ensures { (j : ℕ) → j < 8
         → slice_index result j ≡ (if slice_index_or named j false then slice_index new j else slice_index old j) }

@@ -1,10 +1,11 @@
-//! Pieces of files that come side by side: their lengths, their fronts, and what is left of them.
+//! Pieces of files that come side by side, one for each lane: their lengths in bytes, the places of the shortest one
+//! and of one that alone has bytes, and the front and the rest of a piece. An empty piece is that of an idle lane.
 
 ghost use Rattle.std.specs.Prelude.{◌≡◌, ◌≢◌, ℕ, ◌-◌, ◌<◌, ◌≤◌, length, take, drop, min, slice_index, IfSome};
 ghost use Rattle.droid_hash.specs.Lanes.{piece};
 ghost use Rattle.droid_hash.specs.Pieces.{Beats};
 
-/// Returns the lengths of the pieces.
+/// Returns how many bytes each piece has. `four_tails` has such a function for four pieces.
 pub(crate) fn lens(pieces: [&[u8]; 8]) -> [usize; 8]
     ensures value { (j : ℕ) → j < 8 → slice_index result j ≡ length (piece j pieces.entry) }
     ensures count { length result ≡ 8 }
@@ -22,7 +23,7 @@ pub(crate) fn lens(pieces: [&[u8]; 8]) -> [usize; 8]
     ]
 }
 
-/// Returns, of two places, that of the smaller length. A length of 0 counts last.
+/// Returns, of the places of two pieces, that of the shorter one. A piece of 0 bytes counts as the longest.
 fn better(lens: &[usize; 8], one: usize, other: usize) -> usize
     requires one { one < 8 }
     requires other { other < 8 }
@@ -62,7 +63,8 @@ pub(crate) fn shortest(pieces: [&[u8]; 8]) -> usize
     lens[place]
 }
 
-/// Returns the first place from `from` on whose length isn't 0, or the number of lengths if there is none.
+/// Returns the first place from `from` on whose length isn't 0, or the number of lengths if there is none. No clause
+/// says that the length there isn't 0: with a place too early, `only` would return `None` too often.
 fn busy(lens: &[usize], from: usize) -> usize
     requires { from ≤ length lens.now }
     ensures within { result ≤ length lens.now }
@@ -101,7 +103,7 @@ pub(crate) fn front(piece: &[u8], count: usize) -> &[u8]
     &piece[..count.min(piece.len())]
 }
 
-/// Returns what is left of a piece after its first `count` bytes.
+/// Returns the bytes of a piece after its first `count` ones.
 pub(crate) fn rest(piece: &[u8], count: usize) -> &[u8]
     requires { count ≤ length piece.now }
     ensures value { result.now ≡ drop count piece.now }

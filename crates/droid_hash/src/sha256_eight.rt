@@ -1,4 +1,5 @@
-//! Eight running SHA-256s, each of a message of its own.
+//! Eight running SHA-256s, each of a message of its own: two times four, since four words fill a vector of
+//! [`Sha256Lanes`]. Each call finds the half.
 
 ghost use Rattle.std.specs.Prelude.{◌≡◌, ◌≢◌, ℕ, ◌<◌, List, [], ◌++◌};
 ghost use Rattle.sha2.specs.Sha256.{sha256};

@@ -1,5 +1,6 @@
-//! Runs of blocks, one for each lane and of any lengths, taken side by side. `compress h b`, of the kit's `sha2`, is
-//! the hash value after block b.
+//! Takes runs of blocks into a state of four SHA-256s side by side, one run for each lane and of any lengths;
+//! `md5_runs` does it for MD5. It goes part by part: as far as no run ends. A run is a message's next whole blocks.
+//! `compress h b`, of the kit's `sha2`, is the hash value after block b.
 
 ghost use Rattle.std.specs.Prelude.{◌≡◌, ℕ, ◌+◌, ◌-◌, ◌*◌, ◌<◌, ◌≤◌, List, [], Bool, false, nat_lt, fold, length, take};
 ghost use Rattle.std.specs.Prelude.{drop, slice_index, slice_index_or, if◌then◌else◌};
@@ -18,7 +19,8 @@ fn longest<'a>(runs: [&'a [[u8; 64]]; 4]) -> &'a [[u8; 64]]
     longer(longer(a, b), longer(c, d))
 }
 
-/// Returns how many blocks from `at` on each run has that has not ended there: at most `most`.
+/// Returns how many blocks from `at` on each run has that has not ended there: at most `most`, and `most` if all have
+/// ended. That is the length of the next part.
 fn common(runs: [&[[u8; 64]]; 4], at: usize, most: usize) -> usize
     ensures most { result ≤ most }
     ensures some { 0 < most → 0 < result }
@@ -47,7 +49,7 @@ fn parts<'a>(runs: [&'a [[u8; 64]]; 4], filler: &'a [[u8; 64]], at: usize) -> [&
     ]
 }
 
-/// Returns which runs have not ended at `at`.
+/// Returns a flag for each run: whether it has more than `at` blocks.
 fn going(runs: [&[[u8; 64]]; 4], at: usize) -> [bool; 4]
     ensures { (j : ℕ) → j < 4 → slice_index_or result j false ≡ nat_lt at (length (piece j runs.entry)) }
 {
@@ -55,7 +57,7 @@ fn going(runs: [&[[u8; 64]]; 4], at: usize) -> [bool; 4]
     [at < a.len(), at < b.len(), at < c.len(), at < d.len()]
 }
 
-/// Returns the new state in the lanes that are named, and the old one in the others.
+/// Returns a state with the new variables in each lane whose flag in `named` is true, and the old ones in each other.
 fn chosen(named: [bool; 4], new: [u32x4; 8], old: [u32x4; 8]) -> [u32x4; 8]
     ensures { (j : ℕ) → j < 4 → lane8 j result ≡ (if slice_index_or named j false then lane8 j new else lane8 j old) }
 {
@@ -76,7 +78,7 @@ fn chosen(named: [bool; 4], new: [u32x4; 8], old: [u32x4; 8]) -> [u32x4; 8]
     ]
 }
 
-/// Does the work of `chosen` for one variable of the state.
+/// Does the work of `chosen` for one vector, that is one variable of all lanes.
 fn chosen_lanes(named: [bool; 4], new: u32x4, old: u32x4) -> u32x4
     ensures { (j : ℕ) → j < 4
         → slice_index result j ≡ (if slice_index_or named j false then slice_index new j else slice_index old j) }

@@ -39,12 +39,13 @@ pub record AreEnds (file : List ℕ) (scan_limit : ℕ) (first last : List ℕ) 
   pub begins : take (length first) file ≡ first
   pub ends : drop (length file - length first) file ≡ last
 
--- the same of the first and last bytes of a file
+-- the byte sequence has a match in the first or the last bytes of a file, as its anchor says
 abbrev pub HitsEnds : List ℕ → List ℕ → ByteSequence → Type 0
 HitsEnds first last sequence =
     HitsIn (window_of sequence.offsets.anchor first last) (length (window_of sequence.offsets.anchor first last))
     sequence
 
+-- the match is the nearest one in those bytes
 abbrev pub IsNearestOfEnds : List ℕ → List ℕ → ByteSequence → Match → Type 0
 IsNearestOfEnds first last sequence its =
     IsNearest (window_of sequence.offsets.anchor first last) (length (window_of sequence.offsets.anchor first last))

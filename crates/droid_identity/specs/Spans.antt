@@ -1,4 +1,5 @@
--- For proofs: where a pattern matches in bytes at one end of a file, whatever the offsets of its byte sequence are.
+-- For inner clauses and proofs: where a pattern matches in bytes at one end of a file, whatever the offsets of its byte
+-- sequence are.
 use Rattle.std.specs.Prelude.{ℕ, ◌+◌, ◌-◌, ◌≤◌, List, length, take, drop}
 use Rattle.droid_pattern.specs.Patterns.{Element, Lang}
 use Rattle.droid_pronom.specs.Finding.{part}

@@ -1,4 +1,5 @@
-//! The basis of each format of a file.
+//! The basis of each format of a file: the signature that hits, and its matches. `hit_signature` finds the basis of
+//! one.
 
 ghost use Rattle.std.specs.Prelude.{◌≡◌, ◌≤◌, ℕ, Bool, List, IfOk, IsSomeAnd, length};
 ghost use Rattle.std.specs.List.{AllByRecursion};
@@ -11,7 +12,7 @@ use droid_frame::{Method, Text};
 use droid_pronom::{Found, Registry};
 use std::alloc::{AllocError, Global};
 
-/// Returns the basis of each format that was found, if signatures hit.
+/// Returns the basis of each format that was found, in the order of the PUIDs, if signatures hit, and otherwise none.
 pub(crate) fn bases_by(
     alloc: Global,
     registry: &Registry,
@@ -26,7 +27,8 @@ pub(crate) fn bases_by(
         → AreBasesBy found.now.method (IsBasisIn registry.now file scan_limit) registry.now.formats found.now.puids
         bases.items) }
 {
-    // The rules that every registry keeps: no two formats have one PUID.
+    // `len` tells the prover the rules that every registry keeps (`IsRegistry`): at most 4,096 formats, and no two with
+    // one PUID, which is what the proof needs.
     prove!(registry.len() <= 4_096);
     match found.method {
         Method::Signature => bases_of(alloc, registry, found.puids.as_slice(), first, last),
@@ -35,7 +37,8 @@ pub(crate) fn bases_by(
     }
 }
 
-/// Returns the basis of each of these formats.
+/// Returns the basis of each of the formats with these PUIDs, in their order. One without a basis is passed over; of
+/// formats that hit, as here, none is.
 fn bases_of(
     alloc: Global,
     registry: &Registry,
@@ -59,7 +62,7 @@ fn bases_of(
     Ok(bases)
 }
 
-/// Returns the basis of the format with this PUID, if one of its signatures hits.
+/// Returns the basis of the format with this PUID, or `None` if none of its signatures hits or there is no such format.
 fn basis_of(
     alloc: Global,
     registry: &Registry,

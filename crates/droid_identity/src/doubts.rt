@@ -1,4 +1,4 @@
-//! Why a file does not have a format.
+//! Why a file does not have a format: puts together what its signatures lack, and the formats that beat it.
 
 ghost use Rattle.std.specs.Prelude.{◌≤◌, ℕ, List, IfOk, length};
 ghost use Rattle.droid_identity.specs.Doubts.{IsDoubt};

@@ -52,7 +52,8 @@ pub fn signature_basis(
     Ok(None)
 }
 
-/// Finds the nearest match of each byte sequence, or returns `None` if one of them does not hit.
+/// Finds the nearest match of each byte sequence of a signature in the window of its anchor, in their order, or returns
+/// `None` if one of them does not hit.
 fn all_matches(
     alloc: Global,
     sequences: &[ByteSequence],

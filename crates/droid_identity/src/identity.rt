@@ -1,4 +1,4 @@
-//! Identifies one file, and says why.
+//! Identifies one file, and says why: its formats with their bases, or how it is written if it is plain text.
 
 ghost use Rattle.std.specs.Prelude.{◌≡◌, ◌≤◌, ℕ, List, IfOk, length};
 ghost use Rattle.droid_identity.specs.Matches.{AreEnds};
@@ -22,7 +22,8 @@ pub struct Identity {
     pub text: Option<TextKind>,
 }
 
-/// Identifies a file by its name and its first and last bytes, and says why it has each format.
+/// Identifies a file by its name and its first and last bytes, and says why it has each format. `match_all` lets an
+/// extension name formats that have a signature too.
 ///
 /// `first` and `last` have the same length, at most 65,536 bytes and at most `size`, the size of the file; in a short
 /// file they are the same bytes. Fails only if memory runs out.
@@ -50,7 +51,7 @@ pub fn identify_file(
     Ok(Identity { found, bases, text })
 }
 
-/// Returns how a file without formats is written, if it is plain text.
+/// Returns how a file for which no format was found is written, or `None` if it is no plain text or formats were found.
 fn text_of(method: Method, first: &[u8], last: &[u8], size: u64) -> Option<TextKind>
     requires same { length first.now ≡ length last.now }
     requires inside { length first.now ≤ size }

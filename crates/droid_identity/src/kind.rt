@@ -1,4 +1,5 @@
-//! The kind of a file that is plain text.
+//! How a file is written that is plain text: whether its first and last bytes are ASCII, UTF-8 or UTF-16, and which of
+//! these is named. `specs/TextKinds.antt` defines each test under the same name.
 
 ghost use Rattle.std.specs.Prelude.{◌≡◌, ◌==◌, ◌≤◌, length};
 ghost use Rattle.droid_identity.specs.TextKinds.{byte_kind, is_ascii_file, is_utf16_file, is_utf8_file, text_kind};
@@ -41,7 +42,7 @@ pub fn text_kind(first: &[u8], last: &[u8], size: u64) -> Option<TextKind>
     }
 }
 
-/// Returns the kind of a file that begins with a mark, if it is UTF-16.
+/// Returns the kind of a file that begins with the mark of this order, or `None` if it is not UTF-16.
 #[tactic(auto, unfolding(crate::specs::TextKinds::utf16_kind))]
 fn utf16_kind(order: Order, first: &[u8], last: &[u8], size: u64) -> Option<TextKind>
     requires same { length first.now ≡ length last.now }
@@ -57,7 +58,8 @@ fn utf16_kind(order: Order, first: &[u8], last: &[u8], size: u64) -> Option<Text
     }
 }
 
-/// Returns the kind of a file that begins with no mark of UTF-16.
+/// Returns the kind of a file that begins with no mark of UTF-16, or `None` if it is no text. ASCII is UTF-8 too, so it
+/// is tried first.
 #[tactic(auto, unfolding(crate::specs::TextKinds::byte_kind))]
 fn byte_kind(first: &[u8], last: &[u8], size: u64) -> Option<TextKind>
     ensures { result ≡ byte_kind first.now last.now size }
@@ -71,13 +73,14 @@ fn byte_kind(first: &[u8], last: &[u8], size: u64) -> Option<TextKind>
     None
 }
 
-/// Returns whether these are all bytes of the file.
+/// Returns whether these first bytes are all bytes of the file: then no character is cut off.
 fn are_all(first: &[u8], size: u64) -> bool
     ensures { result ≡ (length first.now == size) }
 {
     first.len() as u64 == size
 }
 
+/// Returns whether the file's first and last bytes are ASCII text.
 #[tactic(auto, unfolding(crate::specs::TextKinds::is_ascii_file))]
 fn is_ascii_file(first: &[u8], last: &[u8], size: u64) -> bool
     ensures { result ≡ is_ascii_file first.now last.now size }
@@ -85,6 +88,8 @@ fn is_ascii_file(first: &[u8], last: &[u8], size: u64) -> bool
     is_ascii_text(first) && (are_all(first, size) || is_ascii_text(last))
 }
 
+/// Returns whether the file's first and last bytes are UTF-8 text. In a longer file a character may be cut off between
+/// them.
 #[tactic(auto, unfolding(crate::specs::TextKinds::is_utf8_file))]
 fn is_utf8_file(first: &[u8], last: &[u8], size: u64) -> bool
     ensures { result ≡ is_utf8_file first.now last.now size }
@@ -95,6 +100,8 @@ fn is_utf8_file(first: &[u8], last: &[u8], size: u64) -> bool
     is_utf8_front(first) && is_utf8_back(last)
 }
 
+/// Returns whether the file's first and last bytes are UTF-16 text of this order. Units begin at even places of the
+/// file; in a longer file a pair may be cut off between the first and the last bytes.
 #[tactic(auto, unfolding(crate::specs::TextKinds::is_utf16_file))]
 fn is_utf16_file(order: Order, first: &[u8], last: &[u8], size: u64) -> bool
     requires inside { length last.now ≤ size }

@@ -1,4 +1,5 @@
-//! The match of a byte sequence that is reported.
+//! The match of a byte sequence that is reported: of all in its window the nearest to its end, and of these the
+//! shortest.
 
 ghost use Rattle.std.specs.Prelude.{◌≡◌, ◌≤◌, IfOk, MatchOption, length};
 ghost use Rattle.droid_identity.specs.Matches.{HitsIn, IsNearest, window_of};
@@ -9,7 +10,8 @@ use crate::search::{beyond, first_offset};
 use droid_pronom::{Anchor, ByteSequence};
 use std::alloc::{AllocError, Global};
 
-/// Returns the window in which byte sequences of this anchor are searched.
+/// Returns the window in which byte sequences of this anchor are searched: of a file's first and last bytes, the first
+/// for `Bof` and the last for `Eof`.
 pub fn window_of<'a>(anchor: Anchor, first: &'a [u8], last: &'a [u8]) -> &'a [u8]
     ensures { result.now ≡ window_of anchor first.now last.now }
 {

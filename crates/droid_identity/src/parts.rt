@@ -1,4 +1,4 @@
-//! Parts of the bytes of a file.
+//! A part of the bytes of a file, as `utf8` and `units` take it.
 
 ghost use Rattle.std.specs.Prelude.{◌≡◌, drop};
 

@@ -8,10 +8,11 @@ use droid_pattern::ClassCache;
 use droid_pronom::{Anchor, ByteSequence};
 use std::alloc::{AllocError, Global};
 
-/// How many bytes are searched first. Twice as many are searched after them, and so on.
+/// How many bytes are searched first. If the match lies not within them, twice as many are searched, and so on. For
+/// speed; no clause needs the number.
 const FIRST_TRY: usize = 32;
 
-/// Returns the bytes at one end: at the beginning for `Bof`, at the end for `Eof`.
+/// Returns the `reach` bytes at one end: the first ones for `Bof`, the last ones for `Eof`.
 fn near(anchor: Anchor, bytes: &[u8], reach: usize) -> &[u8]
     requires { reach ≤ length bytes.now }
     ensures bytes { result.now ≡ near anchor bytes.now reach }
@@ -22,7 +23,8 @@ fn near(anchor: Anchor, bytes: &[u8], reach: usize) -> &[u8]
     }
 }
 
-/// Returns whether a match of the byte sequence at its end of the bytes lies within `reach` bytes.
+/// Returns whether the byte sequence has a match that begins (for `Eof`: ends) right at its end of the bytes, and has
+/// at most `reach` bytes.
 fn reaches(
     alloc: Global,
     sequence: &ByteSequence,
@@ -38,7 +40,8 @@ fn reaches(
     is_between(alloc, sequence, cut, 0, 0, &mut classes)
 }
 
-/// Returns a number of bytes within which the byte sequence matches at its end of the bytes. It matches there.
+/// Returns a number of bytes within which the byte sequence matches at its end of the bytes; not always the least one.
+/// The caller knows that it matches there.
 fn some_reach(alloc: Global, sequence: &ByteSequence, bytes: &[u8]) -> Result<usize, AllocError>
     requires { Between sequence.now.offsets.anchor sequence.now.pattern bytes.now 0 0 }
     ensures inside { IfOk result (λ reach. reach ≤ length bytes.now) }
@@ -54,7 +57,8 @@ fn some_reach(alloc: Global, sequence: &ByteSequence, bytes: &[u8]) -> Result<us
     Ok(bytes.len())
 }
 
-/// Returns how many bytes the shortest match at its end of the bytes has. The byte sequence matches there.
+/// Returns how many bytes the shortest match at its end of the bytes has. The caller knows that the byte sequence
+/// matches there.
 pub(crate) fn least_reach(
     alloc: Global,
     sequence: &ByteSequence,

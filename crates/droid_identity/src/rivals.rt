@@ -1,4 +1,4 @@
-//! The formats that beat another one.
+//! The formats that beat another one: they hit, and have priority over it.
 
 ghost use Rattle.std.specs.Prelude.{◌↔◌, ◌<◌, IfOk, IsTrue, length};
 ghost use Rattle.std.specs.List.{AllByRecursion};
@@ -8,8 +8,8 @@ ghost use Rattle.droid_identity.specs.Beaters.{Beaters, Beats};
 use droid_pronom::Priority;
 use std::alloc::{AllocError, Global};
 
-/// Returns the places of the formats that hit and have priority over the format at this place, in the registry's order.
-/// `hit` says for each format whether it hits.
+/// Returns the places of the formats that hit and have priority over the format at this place, in the order of the
+/// priorities; where two of these say the same, a place comes twice. `hit` has a flag for each format: whether it hits.
 pub fn beaters(
     alloc: Global,
     hit: &[bool],
@@ -28,7 +28,7 @@ pub fn beaters(
     Ok(places)
 }
 
-/// Returns whether the format of the row hits, and has priority over the format at this place.
+/// Returns whether this row gives a format that hits priority over the format at this place.
 fn beats(hit: &[bool], row: Priority, place: u32) -> bool
     requires { row.place < length hit.now }
     ensures { IsTrue result ↔ Beats (Stands hit.now) place row }

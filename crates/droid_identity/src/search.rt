@@ -1,4 +1,5 @@
-//! Finds the least offset at which a byte sequence matches.
+//! Finds the least offset at which a byte sequence matches. An offset counts from the beginning of the bytes if the
+//! anchor of the sequence is `Bof`, and from their end if it is `Eof`: its end of the bytes.
 
 ghost use Rattle.std.specs.Prelude.{◌≡◌, ◌≤◌, ◌↔◌, IfOk, IfSome, IsTrue, MatchOption, length};
 ghost use Rattle.droid_pattern.specs.ClassCaches.{AreOf};
@@ -8,11 +9,12 @@ use droid_pattern::ClassCache;
 use droid_pronom::{Anchor, ByteSequence};
 use std::alloc::{AllocError, Global};
 
-/// How many offsets are searched first. Twice as many are searched after them, and so on.
+/// How many offsets are searched first. Twice as many are searched after them, and so on. For speed; no clause needs
+/// the number.
 const FIRST_OFFSETS: usize = 256;
 
 /// Returns whether the byte sequence matches in these bytes at an offset from `low` to `high`, whatever its own offsets
-/// are. The offset counts from its end of the bytes.
+/// are. `classes` caches what is known of these bytes.
 pub(crate) fn is_between(
     alloc: Global,
     sequence: &ByteSequence,
@@ -77,7 +79,8 @@ pub(crate) fn first_offset(
     Ok(None)
 }
 
-/// Returns the least offset up to `high` at which the byte sequence matches, or `None` if it matches at none.
+/// Returns the least offset from 0 to `high` at which the byte sequence matches, or `None` if it matches at none. For
+/// one part of the bytes, as `first_offset` cuts them.
 fn first_within(
     alloc: Global,
     sequence: &ByteSequence,
@@ -96,7 +99,8 @@ fn first_within(
     Ok(Some(offset))
 }
 
-/// Returns the least offset up to `high` at which the byte sequence matches. It matches at one of them.
+/// Returns the least offset from 0 to `high` at which the byte sequence matches, by halving the range. The caller knows
+/// that it matches at one of them.
 fn least_offset(
     alloc: Global,
     sequence: &ByteSequence,

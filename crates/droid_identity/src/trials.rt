@@ -1,4 +1,4 @@
-//! The signatures of a format that were tried.
+//! Tries the signatures of one format, and says of each byte sequence where it matches or that it does not.
 
 ghost use Rattle.std.specs.Prelude.{◌≡◌, ◌≤◌, ◌↔◌, IfOk, IsTrue, length};
 ghost use Rattle.droid_identity.specs.Matches.{HitsEnds, IsNearestOfEnds};
@@ -46,14 +46,15 @@ pub fn tried_signatures(
     Ok(trials)
 }
 
-/// Returns whether it is a signature of the format at this place.
+/// Returns whether the signature is one of the format at this place of the registry.
 fn is_of(signature: &Signature, place: u32) -> bool
     ensures { IsTrue result ↔ (signature.now.place ≡ place) }
 {
     signature.place() == place
 }
 
-/// Tries each byte sequence of a signature.
+/// Tries each byte sequence of a signature in the window of its anchor. Returns the nearest match of each, or `None`
+/// for one that does not hit, in their order.
 fn tried_sequences(
     alloc: Global,
     sequences: &[ByteSequence],

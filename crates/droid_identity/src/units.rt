@@ -1,4 +1,7 @@
-//! UTF-16 text.
+//! Whether bytes are UTF-16 text. UTF-16 writes a character as a unit of two bytes, or as a pair of units (surrogates):
+//! the first of a pair is 55,296 to 56,319 (D800 to DBFF), the second 56,320 to 57,343 (DC00 to DFFF).
+//!
+//! `specs/TextKinds.antt` has the same numbers, and the prover ties them.
 
 ghost use Rattle.std.specs.Prelude.{◌≡◌};
 ghost use Rattle.droid_identity.specs.TextKinds.{is_back, is_high, is_low, is_text_char, is_units, mark, may_follow};
@@ -16,7 +19,8 @@ pub(crate) enum Order {
     Little,
 }
 
-/// Returns the order of the units that the mark at the beginning of a file names, if there is one.
+/// Returns the order of the bytes in a unit that the mark at the beginning of a file names, or `None` if there is no
+/// mark.
 #[tactic(auto, using(crate::proofs::UnitLemmas::order_some, crate::proofs::UnitLemmas::order_none))]
 pub(crate) fn order_of(bytes: &[u8]) -> Option<Order>
     ensures { result ≡ order_of bytes.now }
@@ -27,6 +31,7 @@ pub(crate) fn order_of(bytes: &[u8]) -> Option<Order>
     }
 }
 
+/// Returns the order that these two bytes name as a mark, FE FF or FF FE, or `None` if they are none.
 fn mark(a: u8, b: u8) -> Option<Order>
     ensures { result ≡ mark a b }
 {
@@ -39,7 +44,7 @@ fn mark(a: u8, b: u8) -> Option<Order>
     None
 }
 
-/// Returns the unit of two bytes.
+/// Returns the unit of two bytes, where `a` stands before `b` in the file.
 fn unit(order: Order, a: u8, b: u8) -> u32
     ensures { result ≡ unit order a b }
 {
@@ -63,7 +68,8 @@ fn is_low(unit: u32) -> bool
     unit >= 56_320 && unit <= 57_343
 }
 
-/// Returns whether the unit is no control character but the usual ones.
+/// Returns whether the unit may stand in text: it is no control character (0 to 31, 127 to 159), or a usual one
+/// (`is_usual` of `ascii`). A unit of a pair is none.
 #[tactic(auto, unfolding(crate::specs::TextKinds::is_text_char))]
 fn is_text_unit(unit: u32) -> bool
     ensures { result ≡ is_text_char unit }
@@ -72,7 +78,8 @@ fn is_text_unit(unit: u32) -> bool
     !control || is_usual(unit)
 }
 
-/// Returns whether the unit may come next. `after` says whether the first of a pair stands before it.
+/// Returns whether the unit may come next. `after` says whether the first of a pair stands before it: then it has to be
+/// the second, and otherwise it may not be.
 #[tactic(auto, unfolding(crate::specs::TextKinds::may_follow))]
 fn may_follow(after: bool, unit: u32) -> bool
     ensures { result ≡ may_follow after unit }
@@ -83,8 +90,8 @@ fn may_follow(after: bool, unit: u32) -> bool
     !is_low(unit) && is_text_unit(unit)
 }
 
-/// Returns whether the bytes are units of text. `after` says whether the first of a pair stands before them, and `cut`
-/// whether it may stand at their end.
+/// Returns whether the bytes are units of text; an odd number of bytes is not. `after` says whether the first of a pair
+/// stands before them, and `cut` whether it may stand at their end, without its second.
 pub(crate) fn is_units(order: Order, cut: bool, after: bool, bytes: &[u8]) -> bool
     ensures { result ≡ is_units order cut after bytes.now }
 {
@@ -110,7 +117,7 @@ pub(crate) fn is_back(order: Order, odd: bool, bytes: &[u8]) -> bool
     is_units(order, false, false, even) || is_units(order, false, true, even)
 }
 
-/// Returns the bytes without the first one, if that is asked for.
+/// Returns the bytes without the first one if `odd` is set, and otherwise all of them.
 fn without_first(odd: bool, bytes: &[u8]) -> &[u8]
     ensures { result.now ≡ without_first odd bytes.now }
 {

@@ -45,11 +45,11 @@ pub record Hands {S M : Type 0} (stands : S → M → List Record → Type 0)
   pub stood : (setting : S) (before : List Record) → stands setting old before → stands setting new (before ++ its)
   pub gave : (setting : S) (before : List Record) → stands setting old before → Gave (gives setting) before its
 
--- they stand in the file, from the one place to the other
+-- these records stand in the file, from the one place to the other
 abbrev pub StandIn : Key → List ℕ → Place → Place → List Record → Type 0
 StandIn key file from to its = drop from.at file ≡ chain_bytes key from its ++ drop to.at file
 
--- and behind the other place none follows
+-- these records stand in the file, from the one place to the other, and behind that none follows
 pub record HandedOn (key : Key) (file : List ℕ) (from to : Place) (its : List Record) : Type 0 where
   pub joined : StandIn key file from to its
   pub ends : BeginsNoRecord key to (drop to.at file)

@@ -1,4 +1,5 @@
--- For proofs only: reading a record from the front of bytes.
+-- For clauses and proofs: reading a record from the front of bytes, part by part. Nothing is read (`None`) where too
+-- few bytes are there.
 use Rattle.std.specs.Prelude.{◌≡◌, ℕ, ◌+◌, Bool, true, false, List, [], ◌∷◌, length, take, drop, Option, Some, None}
 use Rattle.std.specs.Prelude.{nat_lt, nat_le, ◌==◌, if◌then◌else◌}
 use Rattle.std.specs.Int.{w32, from_be_bytes}
@@ -14,12 +15,13 @@ abbrev pub ◌>>=◌ : {A B : Type 0} → Option A → (A → Option B) → Opti
 (Some x) >>= f = f x
 None >>= f = None
 
--- what a function returned, seen by view, is what reading gives
+-- what a function of the code returned, turned by `view` into the values that definitions speak of, is what reading
+-- here gives: the same value, or nothing in both
 abbrev pub Gives : {X Y : Type 0} → (X → Y) → Option X → Option Y → Type 0
 Gives view (Some x) read = read ≡ Some (view x)
 Gives view None read = read ≡ None
 
--- bytes behind a byte 1: in version 4 there are 16 of a mark in front of them
+-- of the bytes behind a byte 1 those behind the mark: in version 4 it has 16 bytes, version 3 has none
 unfoldable pub behind_mark : Form → List ℕ → Option (List ℕ)
 behind_mark form bytes =
     if has_marks form then (if nat_lt (length bytes) 16 then None else Some (drop 16 bytes)) else Some bytes
@@ -49,11 +51,11 @@ string_at bytes = do
   n ← number_at bytes
   if nat_lt (length n.1) n.0 then None else Some (take n.0 n.1, drop n.0 n.1)
 
--- whether a record of these has its header and at most 8 MiB
+-- whether a record can have this request and reply: the request has its header, and the record at most 8 MiB
 abbrev pub fits : List ℕ → List ℕ → Bool
 fits request reply = if nat_lt (length request) 18 then false else nat_le (length request + length reply + 41) 8388608
 
--- a check value of 16 bytes, if it is this one
+-- the bytes behind a check value of 16 bytes at the front, if it is this one
 unfoldable pub check_at : List ℕ → List ℕ → Option (List ℕ)
 check_at wanted bytes =
     if nat_lt (length bytes) 16 then None else if bytes_eq (take 16 bytes) wanted then Some (drop 16 bytes) else None

@@ -29,7 +29,7 @@ pub trait Tears: LogFile {
 /// requests that were accepted, in order, and for each of which a reply could be sent.
 ///
 /// The state is one that [`Journal::handle`] and [`Journal::settle`] leave, after a fault too: some records are on the
-/// disk for sure, and more were written.
+/// disk for sure, and more were written. A `crash` that fails counts as [`Fault::Read`].
 pub fn crash_and_reopen<F: Tears + Drop, M: Machine + Drop, N: Machine + Drop>(
     alloc: Global,
     journal: Journal<F, N>,

@@ -1,4 +1,5 @@
-//! Reading the records of a file, one window at a time.
+//! Reading the records of a file, and then searching what is behind them for later turns, one window at a time. Calls
+//! share one buffer of a window's size; what was in it counts for nothing.
 
 ghost use Rattle.std.specs.Prelude.{◌≡◌, ◌*◌, ◌<◌, ◌≤◌, ◌↔◌, ℕ, List, IfErr, IfOk, IsErrOf, IsTrue, drop, length, take};
 ghost use Rattle.std.specs.Prelude.{true};
@@ -17,14 +18,16 @@ use crate::records::place::Place;
 use crate::replay::replay;
 use std::alloc::Global;
 
-/// The bytes that are read at once: a window.
+/// The bytes that are read at once: a window. Clauses have it as 16777216, and the prover ties them to it.
 pub const WINDOW: usize = 16_777_216;
 
-/// How far the search for later turns moves at once: a window less the longest record of version 3 and the check value
-/// before it.
+/// How far the search for later turns moves at once: a window less the longest record of version 3 (`LIMIT` of
+/// `records/record_reader.rt`) and the check value before it (16 bytes), so that one window has both whole. The prover
+/// refuses a larger step; a smaller one costs time.
 const STEP: u64 = 8_388_592;
 
-/// Hands a machine the records from a place on that are whole in one window.
+/// Hands a machine the records from a place on that are whole in one window, and returns the place behind them: `from`
+/// if there is none. A record has at least 25 bytes beside its frames, so their number never overflows.
 fn hand_some<F: LogFile, M: Machine + Drop>(
     alloc: Global,
     file: &F,
@@ -59,7 +62,8 @@ fn hand_some<F: LogFile, M: Machine + Drop>(
     }
 }
 
-/// Hands a machine all records from a place on.
+/// Hands a machine all records from a place on, and returns the place behind them. After a fault nothing is promised of
+/// the machine: `open` drops it.
 pub(crate) fn hand_all<F: LogFile, M: Machine + Drop>(
     alloc: Global,
     file: &F,
@@ -121,7 +125,8 @@ fn search_some<F: LogFile>(
     Ok((has_later(key, at, &buffer[..count]), count < WINDOW))
 }
 
-/// Returns whether the beginning of a later turn stands anywhere from a place on.
+/// Returns whether the beginning of a later turn stands anywhere from a place on, `from` bytes into the file. It is
+/// read to its end.
 pub(crate) fn is_damaged<F: LogFile>(
     file: &F,
     key: Key,

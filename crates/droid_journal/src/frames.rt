@@ -1,4 +1,4 @@
-//! The frames of a record as bytes, and back.
+//! The frames of a record, spelled as bytes and read back.
 
 ghost use Rattle.std.specs.Prelude.{◌≡◌, ◌≤◌, IfNone, IfOk, IfSome, length, true};
 ghost use Rattle.droid_frame.specs.Fields.{IsBytes};
@@ -32,7 +32,8 @@ pub(crate) fn is_carried(frame: &Frame) -> bool
     is_version(frame.version)
 }
 
-/// Spells a frame. Its body must be within the limit of version 2.
+/// Spells the frame of a request. Its body must be within the limit of version 2, 4,194,368 bytes. Fails only if memory
+/// runs out.
 pub(crate) fn request_bytes(alloc: Global, frame: &Frame) -> Result<Vec<u8>, AllocError>
     requires { length frame.now.body ≤ 4194368 }
     ensures { IfOk result (λ bytes. bytes.items ≡ frame_bytes frame.now) }
@@ -45,7 +46,9 @@ pub(crate) fn request_bytes(alloc: Global, frame: &Frame) -> Result<Vec<u8>, All
     }
 }
 
-/// Spells the frame of a reply. The version, client and number are those of the request.
+/// Spells the frame of a reply, for a comparison with that of a record. The version, client and number are those of the
+/// request. Fails only if memory runs out. [`Journal`](crate::Journal) spells into room that is there, by
+/// `spell_reply`.
 pub(crate) fn reply_bytes(
     alloc: Global,
     version: u8,
@@ -67,7 +70,8 @@ pub(crate) fn reply_bytes(
     }
 }
 
-/// Reads the frame that these bytes spell. Returns `None` if they spell none that a stream can carry.
+/// Reads the frame that these bytes spell. Returns `None` if they spell none that a stream can carry, or if bytes are
+/// left behind it. Fails only if memory runs out.
 pub(crate) fn frame_of(alloc: Global, bytes: &[u8]) -> Result<Option<Frame>, AllocError>
     ensures found { IfOk result (λ it. IfSome it (λ frame. IsReadable frame × (bytes.now ≡ frame_bytes frame))) }
     ensures none { IfOk result (λ it. IfNone it (IsNoFrame bytes.now)) }

@@ -81,7 +81,8 @@ impl<F: LogFile + Drop, M: Machine + Drop> Journal<F, M> {
         }
     }
 
-    /// Spells the record of a request with this checksum into the room for it, and returns its check value.
+    /// Spells the record of an accepted request into the room for it, and returns its check value. `request` is its
+    /// frame as bytes, `sum` the checksum of that; the version, client and number are the request's. Writes nothing.
     fn spell(
         &mut self,
         version: u8,
@@ -128,7 +129,8 @@ impl<F: LogFile + Drop, M: Machine + Drop> Journal<F, M> {
         )
     }
 
-    /// Appends what is lacking of the record that was spelled, which has this check value.
+    /// Appends to the file what it lacks of the record that was spelled, which has this check value. After an error
+    /// nothing is promised of the place and the flags: [`Journal::handle`] notes the fault, and nothing follows.
     fn append(&mut self, check: [u8; 16]) -> Result<(), Fault>
         ensures appended { (s : List ℕ) → F.has self.old.file s
             → OnOk result (F.has self.new.file (s ++ drop (if self.old.ahead then 17 else 0) self.old.room.items)) }
@@ -160,7 +162,8 @@ impl<F: LogFile + Drop, M: Machine + Drop> Journal<F, M> {
         Ok(())
     }
 
-    /// Appends the record of a request with this checksum to the file.
+    /// Appends the record of an accepted request to the file: spells it, and writes it. The parameters are those of
+    /// `spell`, and what is promised after an error is as with `append`.
     fn note(
         &mut self,
         version: u8,
@@ -214,8 +217,8 @@ impl<F: LogFile + Drop, M: Machine + Drop> Journal<F, M> {
         }
     }
 
-    /// Handles a request. An accepted one is then written to the file, and not yet synced. Behind the machine's answer
-    /// nothing takes memory.
+    /// Does the work of [`Journal::handle`] where no fault was before. An accepted request is then written to the file,
+    /// and not yet synced. Behind the machine's answer nothing takes memory. A fault is not noted here: `handle` does.
     fn take(&mut self, frame: Frame) -> Result<Reply, Fault>
         ensures taken { (setting : M.Setting) (header : List ℕ) (synced all : List Record)
             → Stands F.has F.kept (M.stands setting) header self.old synced all
@@ -335,7 +338,8 @@ impl<F: LogFile + Drop, M: Machine + Drop> Journal<F, M> {
         }
     }
 
-    /// Writes the beginning of the next turn, unless it is there.
+    /// Writes the beginning of the next turn, 17 bytes, unless it is there; never in version 3, which has no marks.
+    /// Syncs nothing: a crash may tear these bytes, which are no record.
     fn begin_turn(&mut self) -> Result<(), Fault>
         requires fault { self.old.fault ≡ None }
         requires unsynced { self.old.unsynced ≡ false }
@@ -372,7 +376,8 @@ impl<F: LogFile + Drop, M: Machine + Drop> Journal<F, M> {
     }
 }
 
-/// Returns the bytes behind those that were written ahead.
+/// Returns what a file lacks of a record with these bytes: all of them, or, if the beginning of its turn was written
+/// ahead, those behind its first 17 (`MARK`).
 fn lacking(bytes: &[u8], ahead: bool) -> &[u8]
     ensures { result.now ≡ drop (if ahead then 17 else 0) bytes.now }
 {
@@ -386,7 +391,7 @@ fn lacking(bytes: &[u8], ahead: bool) -> &[u8]
     rest
 }
 
-/// Appends what is lacking of these bytes.
+/// Appends to a file what it lacks of a record with these bytes.
 fn append_lacking<F: LogFile>(file: &mut F, bytes: &Vec<u8>, ahead: bool) -> Result<(), FileError>
     ensures appended { (s : List ℕ) → F.has file.old s
         → OnOk result (F.has file.new (s ++ drop (if ahead then 17 else 0) bytes.now.items)) }

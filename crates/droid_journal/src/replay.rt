@@ -26,8 +26,9 @@ fn is_out_of_memory(reply: &Reply) -> bool
     matches!(reply, Reply::Refused(Refusal::Memory))
 }
 
-/// Hands a machine the request of a record, whose checksum this is, and checks that it is accepted with the reply of
-/// the record.
+/// Hands a machine the request of a record, whose checksum is `sum`, and checks that it is accepted with the reply of
+/// the record. If not, the fault is [`Fault::Record`] with the record's `number`, counted from 1. After a fault nothing
+/// is promised of the machine: `open` drops it.
 fn replay_one<M: Machine + Drop>(
     alloc: Global,
     machine: &mut M,
@@ -80,7 +81,8 @@ fn next_of<'a>(key: Key, place: Place, bytes: &'a [u8]) -> Option<Found<'a>>
     record_of(key, place, bytes)
 }
 
-/// Hands a machine each record at the front of bytes that stand at a place, and returns the place behind them.
+/// Hands a machine each record at the front of bytes that stand at a place, and returns the place behind them: `from`
+/// if there is none. What comes behind a record that is cut off, or is none, is not looked at.
 pub(crate) fn replay<M: Machine + Drop>(
     alloc: Global,
     machine: &mut M,

@@ -11,10 +11,12 @@ use std::io;
 use std::io::Write;
 use std::marker::Model;
 
-/// The longest frame of a reply.
+/// The longest frame of a reply: a header of 18 bytes, and the longest body that `droid_frame` writes. A smaller number
+/// the prover refuses, in [`make_rooms`].
 const LONGEST_REPLY: usize = 1_048_658;
 
-/// The most bytes of a record beside its two frames.
+/// The most bytes of a record beside its two frames: `OVERHEAD` of `records/record_reader.rt`. A smaller number the
+/// prover refuses, in [`make_rooms`].
 const AROUND: usize = 41;
 
 /// Bytes, and room for a number of further ones: within it no write fails or takes memory.
@@ -34,7 +36,7 @@ impl Model for Room {
     ghost invariant = { HasRoom };
 }
 
-/// Appends bytes for which there is room.
+/// Appends bytes for which there is room: nothing is allocated, and the `unwrap` never fails.
 fn put(bytes: &mut Vec<u8>, more: &[u8])
     requires { vec_len bytes.old + length more.now ≤ vec_capacity bytes.old }
     ensures items { bytes.new.items ≡ bytes.old.items ++ more.now }
@@ -44,7 +46,7 @@ fn put(bytes: &mut Vec<u8>, more: &[u8])
     bytes.extend_from_slice(more).unwrap()
 }
 
-/// Empties a vector, and takes room for this many bytes.
+/// Empties a vector, and takes room for this many bytes. After an error, which is out of memory, it is empty too.
 fn empty(bytes: &mut Vec<u8>, size: usize) -> Result<(), AllocError>
     ensures items { bytes.new.items ≡ [] }
     ensures len { vec_len bytes.new ≡ 0 }
@@ -55,7 +57,7 @@ fn empty(bytes: &mut Vec<u8>, size: usize) -> Result<(), AllocError>
     Ok(())
 }
 
-/// Returns the smaller number.
+/// Returns the smaller number, for [`Room::take_in`].
 fn smaller_of(one: usize, other: usize) -> usize
     ensures { result ≡ min one other }
 {
@@ -73,7 +75,8 @@ impl Room {
         }
     }
 
-    /// Empties it, and takes room for this many bytes.
+    /// Empties it, and takes room for this many bytes. After an error nothing is promised of it: the request is
+    /// refused, and the next one takes room anew.
     pub(crate) fn make(&mut self, size: usize) -> Result<(), AllocError>
         ensures items { OnOk result (self.new.items ≡ []) }
         ensures left { OnOk result (self.new.left ≡ size) }
@@ -84,7 +87,7 @@ impl Room {
         Ok(())
     }
 
-    /// Lends the bytes.
+    /// Returns the bytes that were written.
     pub(crate) fn as_slice(&self) -> &[u8]
         ensures { result.now ≡ self.now.items }
     {
@@ -135,7 +138,8 @@ impl SteadyWrite for Room {
     }
 }
 
-/// Spells the frame of a reply into room for the longest one.
+/// Spells the frame of a reply into an empty room for the longest one, so that the `unwrap` never fails. The version,
+/// client and number are those of the request.
 pub(crate) fn spell_reply(room: &mut Room, version: u8, client: u32, number: u64, reply: &Reply)
     requires version { IsVersion version }
     requires spelling { HasReplySpelling version reply.now }
@@ -146,7 +150,8 @@ pub(crate) fn spell_reply(room: &mut Room, version: u8, client: u32, number: u64
     write_reply(version, client, number, reply, room).unwrap()
 }
 
-/// Takes room for the record of a request of this size and the longest reply, and for that reply.
+/// Takes `room` for the record of a request whose frame has `request` bytes and of the longest reply, and room for that
+/// reply alone. Fails only if memory runs out, and then nothing is promised of both: the request is refused.
 pub(crate) fn make_rooms(
     room: &mut Vec<u8>,
     reply: &mut Room,

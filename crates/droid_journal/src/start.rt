@@ -36,7 +36,8 @@ pub struct Opened<M> {
 }
 
 impl<M> Opened<M> {
-    /// Puts another machine in the place of this one, and returns this one too.
+    /// Puts another machine in the place of this one, and returns this one too. For a caller that reads a file with one
+    /// machine, and goes on with another that it makes of that one.
     pub fn with<N>(self, machine: N) -> (M, Opened<N>)
         ensures old { result.0 ≡ self.machine }
         ensures new { result.1.machine ≡ machine }
@@ -60,15 +61,16 @@ impl<M> Opened<M> {
     }
 }
 
-/// What a file begins with.
+/// What a file begins with, if that is right.
 enum Beginning {
     /// The header.
     Whole,
-    /// This many bytes of the header, and nothing else.
+    /// This many bytes of the header, less than all, and nothing else; 0 for an empty file.
     Part(usize),
 }
 
-/// Reads what a file begins with.
+/// Reads what a file begins with, through a buffer of 16 MiB. The fault is [`Fault::Header`] if that is no part of the
+/// header.
 fn beginning_of<F: LogFile>(file: &F, header: &[u8], buffer: &mut [u8]) -> Result<Beginning, Fault>
     requires found { F.is_found file.now }
     requires header { length header.now ≤ 4096 }
@@ -86,7 +88,7 @@ fn beginning_of<F: LogFile>(file: &F, header: &[u8], buffer: &mut [u8]) -> Resul
     beginning_in(&buffer[..count], header)
 }
 
-/// Returns what a file begins with, by its first 16 MiB.
+/// Returns what a file begins with, by `seen`, its first 16 MiB or all of a shorter file.
 fn beginning_in(seen: &[u8], header: &[u8]) -> Result<Beginning, Fault>
     requires { length header.now ≤ 4096 }
     ensures begins { (s : List ℕ) → seen.now ≡ take 16777216 s → IfOk result (Knows header.now s) }
@@ -107,7 +109,8 @@ fn beginning_in(seen: &[u8], header: &[u8]) -> Result<Beginning, Fault>
     Ok(Beginning::Part(seen.len()))
 }
 
-/// Writes the part of the header that a file lacks, and syncs it.
+/// Writes the part of the header that a file lacks, which has its first `count` bytes, and syncs it. After an error
+/// more of them may be there: the next start goes on with them.
 fn make_header<F: LogFile>(file: &mut F, header: &[u8], count: usize) -> Result<(), Fault>
     requires { count ≤ length header.now }
     ensures made { (s : List ℕ) → F.has file.old s → IsBegun header.now s count
@@ -123,7 +126,7 @@ fn make_header<F: LogFile>(file: &mut F, header: &[u8], count: usize) -> Result<
     }
 }
 
-/// Truncates a file behind its records, and syncs it.
+/// Truncates a file to `end` bytes, behind its records, and syncs it.
 fn cut_behind<F: LogFile>(file: &mut F, end: u64) -> Result<(), Fault>
     requires found { F.is_found file.old }
     requires within { (s : List ℕ) → F.has file.old s → (length (F.kept file.old) ≤ end) × (end ≤ length s) }
@@ -140,8 +143,8 @@ fn cut_behind<F: LogFile>(file: &mut F, end: u64) -> Result<(), Fault>
     }
 }
 
-/// Returns how many bytes behind the records the search for later turns begins: a mark at the very end of the records
-/// is right.
+/// Returns how many bytes behind the records the search for later turns begins: in version 4 one, since a mark at the
+/// very end of the records is right.
 fn skip_of(form: Form) -> u64
     ensures { result ≡ skipped form }
 {
@@ -151,7 +154,7 @@ fn skip_of(form: Form) -> u64
     }
 }
 
-/// Returns whether the beginning of a turn stands at a place.
+/// Returns whether the beginning of a turn stands at a place of the file: never in version 3, which has no marks.
 fn is_begun_at<F: LogFile>(file: &F, key: Key, at: u64) -> Result<bool, Fault>
     requires found { F.is_found file.now }
     ensures mark { (s : List ℕ) → F.has file.now s → IfOk result (λ is. IsTrue is → IsMark key at (drop at s)) }
@@ -172,7 +175,8 @@ fn is_begun_at<F: LogFile>(file: &F, key: Key, at: u64) -> Result<bool, Fault>
     Ok(is)
 }
 
-/// Returns where a file is cut: behind its records and the beginning of the next turn, if it is there.
+/// Returns where a file is cut: behind its records, which end at `at`, and the beginning of the next turn, if it is
+/// there (`ahead`). `None`: no file is so long.
 fn end_of(at: u64, ahead: bool) -> Option<u64>
     ensures { IfSome result (λ end. end ≡ at + (if ahead then 17 else 0)) }
 {
@@ -185,7 +189,8 @@ fn end_of(at: u64, ahead: bool) -> Option<u64>
     Some(end)
 }
 
-/// Hands a machine all records of a file with this header, and checks that nothing behind them was damaged.
+/// Hands a machine all records of a file with this header, and checks that nothing behind them was damaged. Returns
+/// their end. Writes nothing.
 fn read_all<F: LogFile, M: Machine + Drop>(
     alloc: Global,
     file: &F,
@@ -225,7 +230,7 @@ fn read_all<F: LogFile, M: Machine + Drop>(
     Ok(to)
 }
 
-/// Opens a file that has this header.
+/// Opens a file that has this header: reads its records, and then cuts it behind them.
 fn open_whole<F: LogFile, M: Machine + Drop>(
     alloc: Global,
     file: &mut F,
@@ -278,7 +283,7 @@ fn open_whole<F: LogFile, M: Machine + Drop>(
     })
 }
 
-/// Opens a file that has only a part of this header.
+/// Opens a file that has only the first `count` bytes of this header: makes the header whole. There are no records.
 fn open_begun<F: LogFile, M: Machine + Drop>(
     file: &mut F,
     header: &[u8],
@@ -306,7 +311,7 @@ fn open_begun<F: LogFile, M: Machine + Drop>(
     })
 }
 
-/// Opens a file, and reads it through this buffer.
+/// Does the work of [`open`], and reads the file through this buffer.
 fn open_by<F: LogFile, M: Machine + Drop>(
     alloc: Global,
     file: &mut F,

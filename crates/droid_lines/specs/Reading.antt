@@ -20,7 +20,7 @@ pub record CountsUnless (start : ℕ) (seen : Seen) (count : ℕ) (is_fault : Ty
   pub fault : is_fault → GivesUp start seen
   pub otherwise : (is_fault → ⊥) → Counts start seen count
 
--- ---- for proofs: the parts of a line
+-- ---- for inner clauses and proofs: the parts of a line
 
 -- no line feed is among them
 abbrev pub HasNoFeed : List ℕ → Type 0

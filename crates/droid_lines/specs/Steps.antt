@@ -1,4 +1,4 @@
--- For proofs alone: the outcomes of the parts of sending one line.
+-- For inner clauses and proofs: the outcomes of the parts of sending one line.
 use Rattle.std.specs.Prelude.{◌≡◌, ◌≢◌, ℕ, ◌^◌, ◌⊎◌, List, [], Option, Some, IfSome, Result, Ok, Err, Bool}
 use Rattle.std.specs.Io.KnownBytes.{Appends, Consumes, IsAtEnd, Keeps}
 use Rattle.droid_frame.specs.Frames.{frame_bytes}

@@ -48,7 +48,8 @@ pub(crate) fn exchange<R: SteadyRead, F: SteadyWrite>(
     Ok(printed)
 }
 
-/// Submits a request in its version, and writes its frame.
+/// Submits a request in its version, and writes its frame. Once it is submitted, its number is used, also if the write
+/// fails.
 fn send_request<F: SteadyWrite>(
     client: &mut Client,
     asked: VersionedRequest,
@@ -67,7 +68,7 @@ fn send_request<F: SteadyWrite>(
     }
 }
 
-/// Writes the frame of the request submitted last.
+/// Writes the frame of the request that the client submitted last, which is the last one that waits for a reply.
 fn write_newest<F: SteadyWrite>(client: &Client, frames: &mut F) -> Result<(), WriteFault>
     requires { (core : Core) × (asked : VersionedRequest) × Fits asked.version asked.request
         × (client.now ≡ core_submitting core asked.version asked.request) }
@@ -90,7 +91,7 @@ fn write_newest<F: SteadyWrite>(client: &Client, frames: &mut F) -> Result<(), W
     Ok(())
 }
 
-/// Reads the frame of a reply.
+/// Reads the frame of a reply. The end of the replies is the fault `Closed`: one was due.
 fn read_reply<R: SteadyRead>(alloc: Global, replies: &mut R) -> Result<Frame, SendFault>
     ensures comes { ReplyComes (R.remaining replies.old) (R.remaining replies.new) result }
     ensures failed { IsSound (R.seen replies.old) →

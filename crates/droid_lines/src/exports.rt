@@ -10,7 +10,7 @@ use crate::words::{first_word, name_and_value, u32_in, u32_word, u64_in, u64_wor
 use droid_frame::{Criteria, Criterion, Filter, Method, NodeKind, Request, Text, Texts};
 use std::alloc::{AllocError, Global};
 
-/// Parses `PROFILE FROM MAX` or `PROFILE FROM MAX JOIN CRITERION ..`.
+/// Parses `PROFILE FROM MAX` or `PROFILE FROM MAX JOIN CRITERION ..`, behind `export`.
 #[tactic(auto, unfolding(crate::specs::Exports::export_words))]
 pub fn parse_export(alloc: Global, text: &str) -> Result<Option<Request>, AllocError>
     ensures { IfOk result (λ request. request ≡ export_words text.now) }
@@ -40,7 +40,7 @@ fn export_place(text: &str) -> Option<(u32, u64, u32, Option<&str>)>
     Some((profile, from, u32_in(max)?, rest))
 }
 
-/// Parses the filter after MAX. Without one every record passes.
+/// Parses the filter after MAX. Without one (`None`) every record passes.
 #[tactic(auto, unfolding(crate::specs::Exports::filter_after))]
 fn filter_after(alloc: Global, text: Option<&str>) -> Result<Option<Filter>, AllocError>
     ensures { IfOk result (λ filter. filter ≡ filter_after (option_map (λ text. text.now) text.entry)) }
@@ -54,7 +54,7 @@ fn filter_after(alloc: Global, text: Option<&str>) -> Result<Option<Filter>, All
     }
 }
 
-/// Parses `JOIN CRITERION ..`.
+/// Parses `JOIN CRITERION ..`, where there may be no criterion.
 #[tactic(auto, unfolding(crate::specs::Exports::filter_words))]
 fn parse_filter(alloc: Global, text: &str) -> Result<Option<Filter>, AllocError>
     ensures { IfOk result (λ filter. filter ≡ filter_words text.now) }
@@ -80,7 +80,7 @@ fn criteria_after(alloc: Global, text: Option<&str>) -> Result<Option<Criteria>,
     }
 }
 
-/// Parses `CRITERION ..`.
+/// Parses `CRITERION ..`: one or more, with a space between each two.
 fn parse_criteria(alloc: Global, text: &str) -> Result<Option<Criteria>, AllocError>
     ensures { IfOk result (λ criteria. criteria ≡ criteria_words text.now) }
 {
@@ -94,7 +94,7 @@ fn parse_criteria(alloc: Global, text: &str) -> Result<Option<Criteria>, AllocEr
     Ok(Some(criteria))
 }
 
-/// Parses `NAME=VALUE`.
+/// Parses `NAME=VALUE`. The first `=` ends the name.
 #[tactic(auto, unfolding(crate::specs::Exports::criterion_word))]
 fn parse_criterion(alloc: Global, word: &str) -> Result<Option<Criterion>, AllocError>
     ensures { IfOk result (λ criterion. criterion ≡ criterion_word word.now) }
@@ -105,7 +105,7 @@ fn parse_criterion(alloc: Global, word: &str) -> Result<Option<Criterion>, Alloc
     criterion_of(alloc, name, value)
 }
 
-/// Reads a criterion `name=value`, or returns `None` if there is no such one.
+/// Makes a criterion of its name and its value, or returns `None` if there is no such one.
 #[tactic(auto, unfolding(crate::specs::Exports::criterion_of))]
 fn criterion_of(alloc: Global, name: &str, value: &str) -> Result<Option<Criterion>, AllocError>
     ensures { IfOk result (λ criterion. criterion ≡ criterion_of name.now value.now) }
@@ -129,7 +129,7 @@ fn criterion_of(alloc: Global, name: &str, value: &str) -> Result<Option<Criteri
     }
 }
 
-/// Reads how criteria are joined: `all` or `any`.
+/// Reads how criteria are joined: `all` or `any`. Returns whether all have to hold.
 #[tactic(auto, unfolding(crate::specs::Exports::join_word))]
 fn join_in(word: &str) -> Option<bool>
     ensures { result ≡ join_word word.now }
@@ -143,7 +143,7 @@ fn join_in(word: &str) -> Option<bool>
     }
 }
 
-/// Reads the value of `method`.
+/// Reads the value of `method`: `none`, `Signature` or `Extension`, the words that a printed reply has.
 #[tactic(auto, unfolding(crate::specs::Exports::method_word))]
 fn method_in(word: &str) -> Option<Criterion>
     ensures { result ≡ method_word word.now }
@@ -159,7 +159,7 @@ fn method_in(word: &str) -> Option<Criterion>
     }
 }
 
-/// Reads the value of `mismatch`.
+/// Reads the value of `mismatch`: `true` or `false`.
 #[tactic(auto, unfolding(crate::specs::Exports::mismatch_word))]
 fn mismatch_in(word: &str) -> Option<Criterion>
     ensures { result ≡ mismatch_word word.now }
@@ -173,7 +173,7 @@ fn mismatch_in(word: &str) -> Option<Criterion>
     }
 }
 
-/// Reads the value of the least size.
+/// Reads the value of `atleast`: the least size of a file, in bytes.
 #[tactic(auto, unfolding(crate::specs::Exports::least_word))]
 fn least_in(word: &str) -> Option<Criterion>
     ensures { result ≡ least_word word.now }
@@ -182,7 +182,7 @@ fn least_in(word: &str) -> Option<Criterion>
     Some(Criterion::SizeAtLeast(size))
 }
 
-/// Reads the value of the largest size.
+/// Reads the value of `atmost`: the largest size of a file, in bytes.
 #[tactic(auto, unfolding(crate::specs::Exports::most_word))]
 fn most_in(word: &str) -> Option<Criterion>
     ensures { result ≡ most_word word.now }
@@ -191,7 +191,7 @@ fn most_in(word: &str) -> Option<Criterion>
     Some(Criterion::SizeAtMost(size))
 }
 
-/// Reads the value of `type`.
+/// Reads the value of `type`: `File` or `Folder`.
 #[tactic(auto, unfolding(crate::specs::Exports::kind_word))]
 fn kind_in(word: &str) -> Option<Criterion>
     ensures { result ≡ kind_word word.now }
@@ -205,7 +205,7 @@ fn kind_in(word: &str) -> Option<Criterion>
     }
 }
 
-/// Returns the texts between commas. An empty value gives one empty text.
+/// Returns the texts between the commas of the value of `puid` or `ext`. An empty value gives one empty text.
 fn texts_in(alloc: Global, value: &str) -> Result<Texts, AllocError>
     ensures { IfOk result (λ texts. texts ≡ list_word value.now) }
 {

@@ -2,6 +2,9 @@
 //!
 //! [`parse_line`] reads the request of a line of a script, [`print_reply`] prints a reply as a line. [`send`] is a
 //! client that sends the requests of lines to a service and prints the replies.
+//!
+//! Where a function that reads words returns `None` (`Ok(None)` if it takes memory), the text is outside the grammar,
+//! and the line is bad. `docs/FORMATS.md` has the grammar, and the help of `script` all words.
 #![tactic(auto)]
 
 mod exchange;

@@ -1,4 +1,4 @@
-//! A reader of lines, one at a time.
+//! A reader of lines, one at a time, from a stream that comes in pieces.
 
 ghost use Rattle.std.specs.Prelude.{◌≡◌, ◌<◌, ◌≤◌, ◌-◌, ℕ, List, [], IfOk, IfErr, IfSome, IsErrOf, OnOk, OnErr};
 ghost use Rattle.std.specs.Prelude.{MatchBool, length, take, drop};
@@ -14,7 +14,7 @@ use droid_frame::{ReadFault, Retries, SteadyRead, read_some};
 use std::alloc::{AllocError, Global};
 use std::marker::Model;
 
-/// The most bytes that one read asks for.
+/// The most bytes that one read asks for. The invariant of [`LineReader`] has this number too.
 const CHUNK: usize = 8_192;
 
 /// The bytes that were read but not returned as lines yet. Contracts see these bytes.
@@ -73,7 +73,7 @@ impl LineReader {
     }
 
     /// Moves the bytes before the first line feed to the end of the line, and drops the line feed. Without a line feed,
-    /// moves all bytes. Returns whether there was one.
+    /// moves all bytes. Returns whether there was one. Out of memory, nothing is promised: `send` ends.
     fn move_line(&mut self, line: &mut Vec<u8>) -> Result<bool, AllocError>
         ensures { IfOk result (λ fed. Moves fed self.old self.new line.old.items line.new.items) }
     {
@@ -92,7 +92,7 @@ impl LineReader {
         }
     }
 
-    /// Reads more bytes after all others were returned. Returns whether any came.
+    /// Reads more bytes after all others were returned. Returns whether any came: `false` is the end of the stream.
     fn refill<L: SteadyRead>(
         &mut self,
         reader: &mut L,

@@ -1,4 +1,4 @@
-//! The parser of a line of a script.
+//! The parser of a line of a script, with a client and a number ([`Line`]) or without ([`VersionedRequest`]).
 
 ghost use Rattle.std.specs.Prelude.{◌≡◌, IfOk, IfSome, IsTrue};
 ghost use Rattle.std.specs.Option.{option_map};
@@ -57,7 +57,7 @@ fn parse_text(alloc: Global, text: &str) -> Result<Option<Line>, AllocError>
     parse_numbered(alloc, version, rest)
 }
 
-/// Reads client, number and request of a line.
+/// Reads client, number and request of a line of this version, behind `v2 `.
 #[tactic(auto, unfolding(crate::specs::Lines::numbered_line, crate::specs::Lines::where_fitting))]
 fn parse_numbered(alloc: Global, version: u8, text: &str) -> Result<Option<Line>, AllocError>
     ensures value { IfOk result (λ line. line ≡ numbered_line version text.now) }
@@ -106,7 +106,7 @@ fn request_in(alloc: Global, text: &str) -> Result<Option<VersionedRequest>, All
     parse_unnumbered(alloc, version, rest)
 }
 
-/// Reads the request of a line without client and number.
+/// Reads the request of a line of this version without client and number, behind `v2 `.
 #[tactic(auto, unfolding(crate::specs::Lines::unnumbered_line, crate::specs::Lines::request_where_fitting))]
 fn parse_unnumbered(
     alloc: Global,
@@ -128,7 +128,7 @@ fn parse_unnumbered(
     Ok(Some(VersionedRequest { version, request }))
 }
 
-/// Returns the version of a line, and the line without `v2 ` in front.
+/// Returns the version of a line, and the line without `v2 ` in front. Without these three bytes it is version 1.
 #[tactic(auto, unfolding(crate::specs::Lines::version_at))]
 fn version_of(text: &str) -> (u8, &str)
     ensures { (result.0, result.1.now) ≡ version_at text.now }
@@ -147,7 +147,7 @@ fn fits(version: u8, request: &Request) -> bool
     request.fits(version)
 }
 
-/// Returns the client, the number, the word of the kind, and the text after the space.
+/// Returns the client, the number, the word of the kind, and the text after the space, which there has to be.
 #[tactic(auto, unfolding(crate::specs::Lines::head_at))]
 fn head(text: &str) -> Option<(u32, u64, &str, &str)>
     ensures { option_map (λ x. (x.0, x.1, x.2.now, x.3.now)) result ≡ head_at text.now }

@@ -1,4 +1,4 @@
-//! The printer of replies.
+//! The printer of replies: the line of each kind.
 
 ghost use Rattle.std.specs.Prelude.{◌≡◌, ◌++◌, IfOk, OnOk, string_bytes};
 ghost use Rattle.droid_lines.specs.Printed.{after_commas, answer_line, detail_text, finished_text, following_bytes};
@@ -75,7 +75,7 @@ fn reply_text(alloc: Global, reply: &Reply) -> Result<String, AllocError>
     }
 }
 
-/// Returns the line of a finished file.
+/// Returns the line of a finished file: `finished METHOD MISMATCH HASH PUIDS`, without its line feed.
 #[tactic(auto, unfolding(crate::specs::Printed::finished_text))]
 fn finished_text(
     alloc: Global,
@@ -92,7 +92,7 @@ fn finished_text(
     format!(in alloc; "finished {method} {mismatch} {digits} {puids}")
 }
 
-/// Returns the word for how a file was identified.
+/// Returns the word for how a file was identified. The criterion `method` reads these words.
 fn method_text(method: Method) -> &'static str
     ensures { result.now ≡ method_text method }
 {
@@ -137,7 +137,7 @@ fn append_after_commas(out: &mut String, texts: &[Text]) -> Result<(), AllocErro
     Ok(())
 }
 
-/// Returns what a refusal prints after its number.
+/// Returns what a refusal prints after its number: a space and a number or a word, or nothing.
 fn detail_text(alloc: Global, refusal: Refusal) -> Result<String, AllocError>
     ensures { IfOk result (λ text. string_bytes text ≡ detail_text refusal) }
 {
@@ -153,7 +153,7 @@ fn detail_text(alloc: Global, refusal: Refusal) -> Result<String, AllocError>
     }
 }
 
-/// Returns the word for a limit.
+/// Returns the word for the limit that was reached.
 fn limit_text(limit: Limit) -> &'static str
     ensures { result.now ≡ limit_text limit }
 {

@@ -1,4 +1,4 @@
-//! The text that a line prints: its reply, or `bad line`.
+//! What a line prints: the client takes its reply, whose text is printed; a bad line prints `bad line`.
 
 ghost use Rattle.std.specs.Prelude.{◌≡◌, None, Some, IfOk, IfErr, OnOk, OnErr, IsErrOf, IsSome};
 ghost use Rattle.std.specs.Io.KnownBytes.{Appends};
@@ -31,7 +31,7 @@ pub(crate) fn hear(alloc: Global, client: &mut Client, frame: Frame) -> Result<V
     }
 }
 
-/// Prints the answer that the client holds for this number.
+/// Prints the answer that the client holds for this number: it has just taken it.
 fn print_held(alloc: Global, client: &Client, number: u64) -> Result<Vec<u8>, AllocError>
     requires { IsSome (answer_of client.now number) }
     ensures { (reply : Reply) → answer_of client.now number ≡ Some reply
@@ -41,7 +41,7 @@ fn print_held(alloc: Global, client: &Client, number: u64) -> Result<Vec<u8>, Al
     print_reply(alloc, answer)
 }
 
-/// Prints the last refusal of this number.
+/// Prints the last refusal of this number: the client has just taken it.
 fn print_refusal(alloc: Global, client: &Client, number: u64) -> Result<Vec<u8>, AllocError>
     requires { IsSome (refusal_of client.now number) }
     ensures { (refusal : Refusal) → refusal_of client.now number ≡ Some refusal
@@ -51,14 +51,15 @@ fn print_refusal(alloc: Global, client: &Client, number: u64) -> Result<Vec<u8>,
     print_reply(alloc, &Reply::Refused(refusal))
 }
 
-/// Returns the text of a bad line.
+/// Returns what a bad line prints, with its line feed.
 pub(crate) fn print_bad(alloc: Global) -> Result<Vec<u8>, AllocError>
     ensures { IfOk result (λ printed. printed.items ≡ answer_line None) }
 {
     print_answer(alloc, &None)
 }
 
-/// Writes the text of a line.
+/// Writes what a line prints. An interrupted write is tried again, up to 64 times. After a fault the first bytes may be
+/// written.
 pub(crate) fn write_text<T: SteadyWrite>(text: &mut T, printed: &[u8]) -> Result<(), SendFault>
     ensures ok { OnOk result (Appends (T.contents text.old) (T.contents text.new) printed.now) }
     ensures err { OnErr result (WritesFront (T.contents text.old) (T.contents text.new) printed.now) }

@@ -46,7 +46,7 @@ pub fn parse_request(
     }
 }
 
-/// Parses `LIMIT ALL` in version 1, and `LIMIT ALL HASH` in version 2.
+/// Parses `LIMIT ALL` in version 1, and `LIMIT ALL HASH` in version 2, behind `create`.
 #[tactic(auto, unfolding(crate::specs::Requests::create_words))]
 fn parse_create(version: u8, text: &str) -> Option<Request>
     ensures { result ≡ create_words version text.now }
@@ -58,7 +58,8 @@ fn parse_create(version: u8, text: &str) -> Option<Request>
     }
 }
 
-/// Parses `LIMIT ALL HASH`.
+/// Parses `LIMIT ALL HASH`: the scan limit in bytes, whether formats that have signatures may be found by extension
+/// too, and the kind of hash.
 #[tactic(auto, unfolding(crate::specs::Requests::hashed_create_words))]
 fn parse_hashed_create(text: &str) -> Option<Request>
     ensures { result ≡ hashed_create_words text.now }
@@ -90,7 +91,7 @@ fn hash_in(word: &str) -> Option<HashKind>
     }
 }
 
-/// Parses `LIMIT ALL`. The profile gets MD5.
+/// Parses `LIMIT ALL`, as with a hash. The profile gets MD5.
 #[tactic(auto, unfolding(crate::specs::Requests::plain_create_words))]
 fn parse_plain_create(text: &str) -> Option<Request>
     ensures { result ≡ plain_create_words text.now }
@@ -104,7 +105,7 @@ fn parse_plain_create(text: &str) -> Option<Request>
     })
 }
 
-/// Parses `PROFILE PARENT MODIFIED NAME`.
+/// Parses `PROFILE PARENT MODIFIED NAME`, behind `folder`. The name is all of the rest, and may be empty.
 #[tactic(auto, unfolding(crate::specs::Requests::folder_words))]
 fn parse_folder(alloc: Global, text: &str) -> Result<Option<Request>, AllocError>
     ensures { IfOk result (λ request. request ≡ folder_words text.now) }
@@ -121,7 +122,7 @@ fn parse_folder(alloc: Global, text: &str) -> Result<Option<Request>, AllocError
     }))
 }
 
-/// Parses `PROFILE PARENT MODIFIED SIZE PIECESIZE NAME`.
+/// Parses `PROFILE PARENT MODIFIED SIZE PIECESIZE NAME`, behind `file`. The name is all of the rest, and may be empty.
 #[tactic(auto, unfolding(crate::specs::Requests::file_words))]
 fn parse_file(alloc: Global, text: &str) -> Result<Option<Request>, AllocError>
     ensures { IfOk result (λ request. request ≡ file_words text.now) }
@@ -143,7 +144,7 @@ fn parse_file(alloc: Global, text: &str) -> Result<Option<Request>, AllocError>
     }))
 }
 
-/// Parses `PROFILE FILE INDEX HEX`.
+/// Parses `PROFILE FILE INDEX HEX`, behind `piece`.
 #[tactic(auto, unfolding(crate::specs::Requests::piece_words))]
 fn parse_piece(alloc: Global, text: &str) -> Result<Option<Request>, AllocError>
     ensures { IfOk result (λ request. request ≡ piece_words text.now) }
@@ -162,7 +163,7 @@ fn parse_piece(alloc: Global, text: &str) -> Result<Option<Request>, AllocError>
     }))
 }
 
-/// Reads what stands behind `finish`.
+/// Parses `PROFILE FILE`, behind `finish`.
 #[tactic(auto, unfolding(crate::specs::Requests::finish_words))]
 fn parse_finish(text: &str) -> Option<Request>
     ensures { result ≡ finish_words text.now }
@@ -171,7 +172,7 @@ fn parse_finish(text: &str) -> Option<Request>
     Some(Request::Finish { profile, file })
 }
 
-/// Reads what stands behind `abandon`.
+/// Parses `PROFILE FILE`, behind `abandon`.
 #[tactic(auto, unfolding(crate::specs::Requests::abandon_words))]
 fn parse_abandon(text: &str) -> Option<Request>
     ensures { result ≡ abandon_words text.now }
@@ -180,7 +181,7 @@ fn parse_abandon(text: &str) -> Option<Request>
     Some(Request::Abandon { profile, file })
 }
 
-/// Reads what stands behind `status`.
+/// Parses `PROFILE FILE`, behind `status`.
 #[tactic(auto, unfolding(crate::specs::Requests::status_words))]
 fn parse_status(text: &str) -> Option<Request>
     ensures { result ≡ status_words text.now }
@@ -189,7 +190,7 @@ fn parse_status(text: &str) -> Option<Request>
     Some(Request::Status { profile, file })
 }
 
-/// Parses `PROFILE PARENT MODIFIED`. Returns it with the text after the space.
+/// Parses `PROFILE PARENT MODIFIED`, with which a folder and a file begin. Returns it with the text after the space.
 #[tactic(auto, unfolding(crate::specs::Requests::node_place))]
 fn node_place(text: &str) -> Option<(u32, u32, i64, &str)>
     ensures { option_map (λ x. (x.0, x.1, x.2, x.3.now)) result ≡ node_place text.now }
@@ -200,7 +201,7 @@ fn node_place(text: &str) -> Option<(u32, u32, i64, &str)>
     Some((profile, parent, modified, rest))
 }
 
-/// Parses `SIZE PIECESIZE NAME`.
+/// Parses `SIZE PIECESIZE NAME`: two numbers of bytes, and the rest as the name.
 #[tactic(auto, unfolding(crate::specs::Requests::file_sizes))]
 fn file_sizes(text: &str) -> Option<(u64, u32, &str)>
     ensures { option_map (λ x. (x.0, x.1, x.2.now)) result ≡ file_sizes text.now }
@@ -221,7 +222,7 @@ fn piece_place(text: &str) -> Option<(u32, u32, u32, &str)>
     Some((profile, file, index, rest))
 }
 
-/// Parses `PROFILE FILE`.
+/// Parses `PROFILE FILE`, with nothing after it.
 #[tactic(auto, unfolding(crate::specs::Requests::file_place))]
 fn file_place(text: &str) -> Option<(u32, u32)>
     ensures { result ≡ file_place text.now }

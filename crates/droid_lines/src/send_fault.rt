@@ -1,4 +1,4 @@
-//! The faults of sending.
+//! The faults of sending: why it ended, the names that the program prints, and how one kind of fault becomes another.
 
 ghost use Rattle.std.specs.Prelude.{◌≡◌};
 ghost use Rattle.droid_lines.specs.Faults.{frame_fault_name, send_fault_name};
@@ -34,7 +34,7 @@ pub enum SendFault {
 }
 
 impl SendFault {
-    /// Returns the name that the program prints.
+    /// Returns the name that the program prints. Faults of different streams may have one name, such as `Write`.
     pub fn name(&self) -> &'static str
         ensures { result.now ≡ send_fault_name self.now }
     {
@@ -70,6 +70,7 @@ impl From<ReadFault> for SendFault {
 
     ghost from_gives = { λ _ fault. fault ≡ Lines };
 
+    /// The lines could not be read: in this crate only their reader has this fault.
     fn from(_fault: ReadFault) -> SendFault {
         SendFault::Lines
     }
@@ -80,6 +81,7 @@ impl From<AllocError> for SendFault {
 
     ghost from_gives = { λ _ fault. fault ≡ Memory };
 
+    /// Memory ran out.
     fn from(_error: AllocError) -> SendFault {
         SendFault::Memory
     }
@@ -90,6 +92,7 @@ impl From<SubmitFault> for SendFault {
 
     ghost from_gives = { λ from fault. fault ≡ submit_fault from };
 
+    /// Keeps the name of a fault that the client had when it submitted a request.
     fn from(fault: SubmitFault) -> SendFault {
         match fault {
             SubmitFault::NumbersUsedUp => SendFault::NumbersUsedUp,
@@ -103,6 +106,7 @@ impl From<HearFault> for SendFault {
 
     ghost from_gives = { λ from fault. fault ≡ hear_fault from };
 
+    /// Keeps the name of a fault that the client had when it took a reply.
     fn from(fault: HearFault) -> SendFault {
         match fault {
             HearFault::Malformed => SendFault::Malformed,

@@ -73,7 +73,8 @@ pub fn send<L: SteadyRead, R: SteadyRead, F: SteadyWrite, T: SteadyWrite>(
     Err(SendFault::Memory)
 }
 
-/// Sends one line, and writes its text. Returns whether the line is bad.
+/// Sends one line, and writes what it prints. Returns whether the line is bad: then nothing is sent, and no number
+/// used.
 fn send_line<R: SteadyRead, F: SteadyWrite, T: SteadyWrite>(
     alloc: Global,
     client: &mut Client,

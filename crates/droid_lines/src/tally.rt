@@ -1,4 +1,4 @@
-//! The count of handled lines.
+//! The count of handled lines, and of the bad ones among them.
 
 ghost use Rattle.std.specs.Prelude.{◌≡◌, ◌+◌, ◌<◌, ◌≤◌, ◌^◌};
 ghost use Rattle.droid_lines.specs.Tallies.{with_one_more};
@@ -13,7 +13,7 @@ pub struct Tally {
 }
 
 impl Tally {
-    /// Counts one more line.
+    /// Counts one more line, as a bad one too if it is bad.
     pub fn count(&mut self, is_bad: bool)
         requires { (self.old.bad ≤ self.old.lines) × (self.old.lines + 1 < 2 ^ 64) }
         ensures { self.new ≡ with_one_more is_bad self.old }

@@ -1,18 +1,18 @@
-//! The words of a line.
+//! The words of a line: cut at spaces, and read as numbers or truth values.
 
 ghost use Rattle.std.specs.Prelude.{◌≡◌, ◌==◌, ◌^◌, slice_index};
 ghost use Rattle.std.specs.Option.{option_map};
 ghost use Rattle.droid_lines.specs.Words.{cut_at, first_word, number_below, signed_number, truth_word, number_word};
 ghost use Rattle.droid_lines.specs.Words.{signed_word};
 
-/// Returns the text before the first space (byte 32), and the text after it.
+/// Returns the text before the first space (byte 32), and the text after it. `None`: there is no space.
 pub fn word(text: &str) -> Option<(&str, &str)>
     ensures { option_map (λ x. (x.0.now, x.1.now)) result ≡ cut_at 32 text.now }
 {
     text.split_once(' ')
 }
 
-/// Returns the first word, and the text after the space, if there is one.
+/// Returns the first word, and the text after the space, if there is one. Without a space the whole text is a word.
 #[tactic(auto, unfolding(crate::specs::Words::first_word))]
 pub fn first_word(text: &str) -> (&str, Option<&str>)
     ensures { (result.0.now, option_map (λ x. x.now) result.1) ≡ first_word text.now }
@@ -23,14 +23,14 @@ pub fn first_word(text: &str) -> (&str, Option<&str>)
     }
 }
 
-/// Returns the name before the `=` (byte 61) of a word, and the value after it.
+/// Returns the name before the first `=` (byte 61) of a word, and the value after it. `None`: there is no `=`.
 pub fn name_and_value(word: &str) -> Option<(&str, &str)>
     ensures { option_map (λ x. (x.0.now, x.1.now)) result ≡ cut_at 61 word.now }
 {
     word.split_once('=')
 }
 
-/// Reads an unsigned 32-bit number as the first word. Returns it with the text after the space.
+/// Reads an unsigned 32-bit number as the first word. Returns it with the text after the space, which there has to be.
 #[tactic(auto, unfolding(crate::specs::Words::number_word))]
 pub fn u32_word(text: &str) -> Option<(u32, &str)>
     ensures { option_map (λ x. (x.0, x.1.now)) result ≡ number_word (2 ^ 32) text.now }
@@ -39,7 +39,7 @@ pub fn u32_word(text: &str) -> Option<(u32, &str)>
     Some((u32_in(word)?, rest))
 }
 
-/// Reads an unsigned 64-bit number as the first word. Returns it with the text after the space.
+/// Reads an unsigned 64-bit number as the first word. Returns it with the text after the space, which there has to be.
 #[tactic(auto, unfolding(crate::specs::Words::number_word))]
 pub fn u64_word(text: &str) -> Option<(u64, &str)>
     ensures { option_map (λ x. (x.0, x.1.now)) result ≡ number_word (2 ^ 64) text.now }
@@ -48,7 +48,7 @@ pub fn u64_word(text: &str) -> Option<(u64, &str)>
     Some((u64_in(word)?, rest))
 }
 
-/// Reads a signed 64-bit number as the first word. Returns it with the text after the space.
+/// Reads a signed 64-bit number as the first word. Returns it with the text after the space, which there has to be.
 #[tactic(auto, unfolding(crate::specs::Words::signed_word))]
 pub fn i64_word(text: &str) -> Option<(i64, &str)>
     ensures { option_map (λ x. (x.0, x.1.now)) result ≡ signed_word text.now }
@@ -101,7 +101,7 @@ fn i64_in(word: &str) -> Option<i64>
     word.parse().ok()
 }
 
-/// Returns whether a word begins with `+` (byte 43), which Rust's parser would take.
+/// Returns whether a word begins with `+` (byte 43), which Rust's parser would take. An empty word does not.
 fn has_plus(word: &str) -> bool
     ensures { result ≡ (slice_index word.now 0 == 43) }
 {

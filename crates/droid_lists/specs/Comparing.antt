@@ -1,4 +1,4 @@
--- For proofs: a map that has the paths of all that is known.
+-- For inner clauses and proofs: a map that has the paths of all that is known.
 use Rattle.std.specs.Prelude.{◌≡◌, ℕ, Bool, List}
 use Rattle.std.specs.BTreeMap as tree
 use Rattle.std.specs.Borrow.{Bor}

@@ -59,7 +59,7 @@ known_tests known kept =
 unfoldable pub wrong_known : Known → Kept → Option ℕ
 wrong_known known kept = first_wrong (known_tests known kept)
 
--- the difference of what is known at a place, if there is one
+-- that this column differs from what is known at a place, if there is such a column
 abbrev pub other_column : ℕ → ℕ → Option ℕ → List Difference
 other_column place number None = []
 other_column place number (Some column) = differences.Other place column number ∷ []
@@ -75,7 +75,7 @@ known_from place [] all = []
 known_from place (one ∷ known) all =
     difference_with place one (option_map kept_by (found_in all one.path)) ++ known_from (place + 1) known all
 
--- the records of which nothing is known
+-- whether something is known of this path
 abbrev pub is_known : List Known → List ℕ → Bool
 is_known known path = list_any (λ one. bytes_eq path one.path) known
 

@@ -1,4 +1,4 @@
--- For proofs: a map that stands for the records so far.
+-- For inner clauses and proofs: a map that stands for the records so far.
 use Rattle.std.specs.Prelude.{◌≡◌, ◌<◌, ℕ, ◌+◌, ◌==◌, List, [], ◌∷◌, ◌++◌, length, map, Option, Some, None, slice_get}
 use Rattle.std.specs.Prelude.{if◌then◌else◌}
 use Rattle.std.specs.BTreeMap.{get_by_text}

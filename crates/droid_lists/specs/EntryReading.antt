@@ -1,4 +1,4 @@
--- For proofs: what the calls that read one record promise, behind any records that were read.
+-- For inner clauses and proofs: what the calls that read one record promise, behind any records that were read.
 use Rattle.std.specs.Prelude.{◌≡◌, ◌<◌, ℕ, ◌+◌, ◌^◌, List, [], ◌∷◌, ◌++◌, length, Option, Some, None, Result, Ok, Err}
 use Rattle.std.specs.Borrow.{Bor}
 use Rattle.std.specs.List.{flat_map}

@@ -1,4 +1,4 @@
--- For proofs: maps that stand for what the rows so far say of formats.
+-- For inner clauses and proofs: maps that stand for what the rows so far say of formats.
 use Rattle.std.specs.Prelude.{◌≡◌, ℕ, ◌+◌, ◌||◌, Bool, List, [], ◌∷◌, ◌++◌, length, Option, Some, None, if◌then◌else◌}
 use Rattle.std.specs.BTreeMap.{btree_map_len, get_by_text}
 use Rattle.std.specs.BTreeSet.{contains_text}

@@ -23,7 +23,7 @@ or_none puids = if length puids == 0 then [] ∷ [] else puids
 abbrev pub file_of : List ℕ → List (List ℕ) → FileFormats
 file_of path puids = record { path = path; puids = or_none puids }
 
--- whether a format is among these, and whether all others are
+-- whether a format is among these
 abbrev pub is_among : List (List ℕ) → List ℕ → Bool
 is_among puids puid = list_any (λ one. bytes_eq one puid) puids
 

@@ -1,4 +1,4 @@
--- For proofs: the formats of rows, gathered by path.
+-- For inner clauses and proofs: the formats of rows, gathered by path.
 use Rattle.std.specs.Prelude.{ℕ, List, []}
 use Rattle.std.specs.BTreeMap.{BTreeMap, get_by}
 use Rattle.std.specs.Borrow.{Bor}

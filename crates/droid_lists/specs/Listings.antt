@@ -27,17 +27,17 @@ pub record IsInventory (items inventory : List Item) : Type 0 where
   pub same : IsPermutation items inventory
   pub in_order : AreInOrder (map (λ item. item.path) inventory)
 
--- what a profile's CSV says, and what a list of checksums says, with the fault of either kind
+-- what a profile's CSV says, with its fault as one of a list
 abbrev pub of_profile : Result (List Item) ListFault → Result (List Item) UnreadList
 of_profile (Ok items) = Ok items
 of_profile (Err fault) = Err (faults.Profile fault)
 
--- what a list of checksums says, with the fault of either kind
+-- what a list of checksums says, with its fault as one of a list
 abbrev pub of_manifest : Result (List Item) ManifestFault → Result (List Item) UnreadList
 of_manifest (Ok items) = Ok items
 of_manifest (Err fault) = Err (faults.Manifest fault)
 
--- the fault that is returned
+-- the fault of a profile's CSV, as it is returned: memory is a fault of its own
 abbrev pub profile_fault : ListFault → UnreadList
 profile_fault list.Memory = faults.Memory
 profile_fault list.Header = faults.Profile list.Header
@@ -46,7 +46,7 @@ profile_fault (list.Fields number) = faults.Profile (list.Fields number)
 profile_fault (list.Column number column hash) = faults.Profile (list.Column number column hash)
 profile_fault (list.Contradiction number column) = faults.Profile (list.Contradiction number column)
 
--- the fault of a list of checksums
+-- the fault of a list of checksums, as it is returned: memory is a fault of its own
 abbrev pub manifest_fault : ManifestFault → UnreadList
 manifest_fault manifest.Memory = faults.Memory
 manifest_fault manifest.Empty = faults.Manifest manifest.Empty
@@ -80,7 +80,7 @@ abbrev pub first_in : {A B E : Type 0} → Result (A × B) E → Result A E
 first_in (Ok read) = Ok read.0
 first_in (Err fault) = Err fault
 
--- the kind of the first hash that items have
+-- this kind of hash, or a later one if this is none
 abbrev pub or_later : HashKind → HashKind → HashKind
 or_later kinds.Nothing later = later
 or_later kinds.Md5 later = kinds.Md5

@@ -72,7 +72,7 @@ has_puid puid row = not (length (at row 14) == 0) && bytes_eq puid (at row 14)
 abbrev pub known_in : List Row → List ℕ → Option Texts
 known_in rows puid = option_map texts_in (find (has_puid puid) rows)
 
--- the PUIDs of the rows of a record, in order
+-- the PUID of a row, if it has one
 abbrev pub puid_in : Row → List (List ℕ)
 puid_in row = if length (at row 14) == 0 then [] else at row 14 ∷ []
 
@@ -80,7 +80,7 @@ puid_in row = if length (at row 14) == 0 then [] else at row 14 ∷ []
 abbrev pub puids_by : List Row → List (List ℕ)
 puids_by rows = flat_map puid_in rows
 
--- the PUIDs of rows, each once
+-- these PUIDs and one more, unless it is empty or among them
 abbrev pub with_puid : List (List ℕ) → List ℕ → List (List ℕ)
 with_puid puids puid = if (length puid == 0) || is_among puids puid then puids else puids ++ puid ∷ []
 

@@ -46,12 +46,12 @@ Row = List (List ℕ)
 
 -- ---- numbers
 
--- a number as an export writes it: decimal digits without a zero in front, below 2 ^ 64
+-- the number that was read from a text, if the text is its decimal digits without a zero in front
 abbrev pub if_plain : List ℕ → Option ℕ → Option ℕ
 if_plain text None = None
 if_plain text (Some number) = if bytes_eq text (decimal number) then Some number else None
 
--- a number as an export writes it
+-- a number as an export writes it: decimal digits without a zero in front, below 2 ^ 64
 abbrev pub number_of : List ℕ → Option ℕ
 number_of text = if_plain text (digits_of text)
 
@@ -191,7 +191,7 @@ formats_in row = number_at row 13
 abbrev pub rows_in : Row → ℕ
 rows_in row = max 1 (formats_in row)
 
--- a method exactly where there are formats
+-- METHOD says that the formats were found by signature
 abbrev pub is_by_signature : Row → Bool
 is_by_signature row = bytes_eq (at row 5) (codes "Signature")
 
@@ -219,7 +219,7 @@ is_format_name text = not (length text == 0) && is_note text
 abbrev pub texts_in : Row → Texts
 texts_in row = record { mime = at row 15; name = at row 16; version = at row 17 }
 
--- the first texts of a PUID are what others repeat
+-- what the first row with a PUID may say of it, which others repeat
 abbrev pub are_first : Texts → List Test
 are_first new = (is_note new.mime, 15) ∷ (is_format_name new.name, 16) ∷ (is_note new.version, 17) ∷ []
 

@@ -1,4 +1,4 @@
--- For proofs: what the calls that read a text promise.
+-- For inner clauses and proofs: what the calls that read a text promise.
 use Rattle.std.specs.Prelude.{◌≡◌, ℕ, ◌+◌, List, [], ◌++◌, length, Result, Ok, Err, ⊤}
 use Rattle.std.specs.Borrow.{Bor}
 use Rattle.droid_frame.specs.declared.hash_kind.HashKind.{HashKind}

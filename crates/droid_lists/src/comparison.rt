@@ -23,7 +23,8 @@ use std::alloc::{AllocError, Global};
 use std::collections::BTreeMap;
 
 /// Returns how the records differ from what is known: first what is known, in its order, then the records of which
-/// nothing is known, in theirs.
+/// nothing is known, in theirs. Of each folder or file only the first column that differs is told. Fails only if out of
+/// memory.
 pub(crate) fn compare(
     alloc: Global,
     known: &[Known],
@@ -39,7 +40,7 @@ pub(crate) fn compare(
     Ok(found)
 }
 
-/// Adds the differences of what is known.
+/// Adds the differences of what is known, in its order: that a path is missing, or says something else.
 fn add_known(
     found: &mut Vec<Difference>,
     known: &[Known],
@@ -54,7 +55,7 @@ fn add_known(
     Ok(())
 }
 
-/// Adds the difference of what is known at a place.
+/// Adds the difference of `known`, which stands at this place of what is known, if there is one.
 fn add_one(
     found: &mut Vec<Difference>,
     place: usize,
@@ -83,7 +84,7 @@ fn add_one(
 /// The paths of all that is known.
 type Paths<'a> = BTreeMap<&'a [u8], bool>;
 
-/// Indexes what is known by its paths.
+/// Indexes what is known by its paths. What the map has for a path says nothing: that it is there does.
 fn paths_of<'a>(alloc: Global, known: &'a [Known]) -> Result<Paths<'a>, AllocError>
     ensures { IfOk result (λ paths. HasPaths paths known.now) }
 {
@@ -94,7 +95,7 @@ fn paths_of<'a>(alloc: Global, known: &'a [Known]) -> Result<Paths<'a>, AllocErr
     Ok(paths)
 }
 
-/// Adds the records of which nothing is known.
+/// Adds the records of which nothing is known, in their order. `paths` has all paths that are known.
 fn add_more(
     found: &mut Vec<Difference>,
     paths: &Paths<'_>,
@@ -108,7 +109,7 @@ fn add_more(
     Ok(())
 }
 
-/// Adds a record if nothing is known of it.
+/// Adds a record if nothing is known of its path, which is in column 3.
 fn add_if_more(
     found: &mut Vec<Difference>,
     paths: &Paths<'_>,
@@ -128,7 +129,8 @@ fn add_if_more(
     Ok(())
 }
 
-/// Returns the first column in which a record differs from what is known.
+/// Returns the first column in which a record differs from what is known of its path. Columns that follow from the
+/// path, and what a registry says of a PUID, are not compared.
 #[tactic(auto, unfolding(crate::specs::Differences::wrong_known))]
 fn wrong_known(known: &Known, listed: &Listed) -> Option<u8>
     ensures { result ≡ differences.wrong_known known.now (kept_of listed.now) }
@@ -170,7 +172,7 @@ fn wrong_known(known: &Known, listed: &Listed) -> Option<u8>
     None
 }
 
-/// Returns whether a text is this number, which a folder has not.
+/// Returns whether a text is this number, in decimal digits, for a file, and empty for a folder.
 fn is_number_text(text: &[u8], kind: NodeKind, number: u64) -> bool
     ensures { result ≡ bytes_eq text.now (differences.number_text kind number) }
 {
@@ -181,7 +183,8 @@ fn is_number_text(text: &[u8], kind: NodeKind, number: u64) -> bool
     }
 }
 
-/// Returns whether a text is that of a moment.
+/// Returns whether a text is that of a moment, in seconds since 1970-01-01T00:00:00 UTC. No text is that of a moment
+/// outside the years 1 to 9999.
 fn is_moment_of(modified: i64, text: &[u8]) -> bool
     ensures { result ≡ differences.is_moment_of modified text.now }
 {
@@ -191,7 +194,8 @@ fn is_moment_of(modified: i64, text: &[u8]) -> bool
     text == moment_bytes(modified).as_slice()
 }
 
-/// Returns whether a moment has a text.
+/// Returns whether a moment has a text: from 0001-01-01T00:00:00 to 9999-12-31T23:59:59. The limits are those of
+/// `IsMoment` of `droid_export`, and the prover compares both.
 fn has_text(modified: i64) -> bool
     ensures value { result ≡ differences.has_text modified }
     ensures moment { IsTrue result → IsMoment modified }
@@ -199,7 +203,7 @@ fn has_text(modified: i64) -> bool
     modified >= -62_135_596_800 && modified <= 253_402_300_799
 }
 
-/// Returns whether a field is the lower-case digits of this hash.
+/// Returns whether a field is the lower-case digits of this hash, or empty if there is no hash.
 fn is_hash_text(text: &[u8], hash: &HashValue) -> bool
     ensures { result ≡ bytes_eq text.now (encode_lower (hash_bytes hash.now)) }
 {

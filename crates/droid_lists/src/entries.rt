@@ -1,4 +1,5 @@
-//! The records of a profile's text.
+//! The records of a profile's text that were read so far, found by their paths, and whether the next one may stand
+//! behind them. Columns are counted from 0.
 
 ghost use Rattle.std.specs.Prelude.{◌≡◌, ◌+◌, ◌<◌, ◌^◌, [], IfOk, OnOk, true};
 ghost use Rattle.std.specs.Option.{is_some, option_copied};
@@ -18,7 +19,7 @@ use droid_frame::{HashValue, NodeKind};
 use std::alloc::{AllocError, Global};
 use std::collections::BTreeMap;
 
-/// A record of a text.
+/// A record of a text. (Not the `Listed` of `list_content.rt`, which is a whole list.)
 #[derive(Drop)]
 pub(crate) struct Listed {
     /// The number of its first row, counted from 1 with that of the columns' names.
@@ -43,7 +44,7 @@ pub(crate) struct Entries {
 }
 
 impl Entries {
-    /// Makes one for the time before the first record. Takes no memory.
+    /// Makes the empty one, before the first record: the row of the columns' names is counted. Takes no memory.
     pub(crate) fn new(alloc: Global) -> Entries
         ensures { StandsFor result [] }
     {
@@ -55,14 +56,16 @@ impl Entries {
         }
     }
 
-    /// The records in order.
+    /// Returns the records in the order of the text.
     pub(crate) fn as_slice(&self) -> &[Listed]
         ensures { result.now ≡ self.now.listed.items }
     {
         self.listed.as_slice()
     }
 
-    /// Returns the first wrong column among those that say where a record stands.
+    /// Returns the first wrong column among those that say where a record stands: its ID, path, name, type, parent and
+    /// URI, in this order, since the later ones follow from the path and the type. `None` if it may stand behind the
+    /// records so far.
     pub(crate) fn wrong_place(
         &self,
         alloc: Global,
@@ -96,7 +99,8 @@ impl Entries {
         if same { Ok(None) } else { Ok(Some(2)) }
     }
 
-    /// Returns the ID of the folder with this path, if there is one; that of the top is 0.
+    /// Returns the ID of the folder with this path, or `None` if no such folder was read; that of the top, whose path
+    /// is empty, is 0.
     fn parent(&self, path: &[u8]) -> Option<u64>
         ensures { result ≡ parent_by self.now path.now }
     {
@@ -109,7 +113,7 @@ impl Entries {
         }
     }
 
-    /// Returns the ID of the folder at this path, if one was read.
+    /// Returns the ID of the folder at this path, or `None` if none was read, or a file is there.
     fn folder_id(&self, path: &str) -> Option<u64>
         ensures { result ≡ id_of (listed_at self.now path.now) }
     {
@@ -125,7 +129,7 @@ impl Entries {
         }
     }
 
-    /// Returns the record with a path.
+    /// Returns the record with this path, if one was read.
     pub(crate) fn get(&self, path: &str) -> Option<&Listed>
         ensures { option_copied result ≡ listed_at self.now path.now }
     {
@@ -135,7 +139,8 @@ impl Entries {
         }
     }
 
-    /// Adds a record of so many rows.
+    /// Adds a record of `count` rows, whose path is text: `wrong_place` saw that; without one nothing is added. After
+    /// an error nothing is promised: the reading ends.
     pub(crate) fn add(
         &mut self,
         alloc: Global,
@@ -160,7 +165,7 @@ impl Entries {
     }
 }
 
-/// Returns whether a text is the URI of a folder or file with this path.
+/// Returns whether a text is the URI of a folder or file with this path, as the export writes it.
 fn is_uri(alloc: Global, text: &[u8], path: &str, kind: NodeKind) -> Result<bool, AllocError>
     ensures { IfOk result (λ same. same ≡ bytes_eq text.now (uri path.now kind)) }
 {

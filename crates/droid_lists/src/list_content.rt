@@ -1,4 +1,4 @@
-//! What a list says.
+//! Reads a list of files of any form: its items, the kind of their hashes, and the formats of its files.
 
 ghost use Rattle.std.specs.Prelude.{◌≡◌, IfOk, Ok};
 ghost use Rattle.droid_fixity.specs.Lists.{items_of};
@@ -26,6 +26,7 @@ pub enum UnreadList {
     Twice(SamePath),
 }
 
+// A call that runs out of memory ends the reading with `Memory`, by `?` alone.
 impl From<AllocError> for UnreadList {
     ghost use Rattle.droid_lists.specs.declared.list_content.UnreadList.TheVariants.{Memory};
 
@@ -36,7 +37,7 @@ impl From<AllocError> for UnreadList {
     }
 }
 
-/// What a list says.
+/// What a list says. (Not the `Listed` of `entries.rt`, which is one record.)
 #[derive(Drop)]
 pub struct Listed {
     /// Its form.
@@ -65,7 +66,7 @@ pub fn read_list(
     }
 }
 
-/// Reads a list of this form.
+/// Reads a list of this form, and sees the kind of its hashes. `formats` asks for the formats of files.
 fn list_by(
     alloc: Global,
     form: ListForm,
@@ -84,7 +85,8 @@ fn list_by(
     }
 }
 
-/// Reads the items of a list of this form, and the formats that it gives files.
+/// Reads the items of a list of this form, in order of path, and the formats that it gives files if `formats` asks for
+/// them. A list of checksums gives none.
 fn items_in(
     alloc: Global,
     form: ListForm,
@@ -103,7 +105,7 @@ fn items_in(
     }
 }
 
-/// Reads the items of a profile's CSV, and the formats of its files.
+/// Reads the items of a profile's CSV, in order of path, and the formats of its files if `formats` asks for them.
 fn items_of_profile(
     alloc: Global,
     formats: bool,
@@ -121,7 +123,7 @@ fn items_of_profile(
     }
 }
 
-/// Converts a fault of a profile's CSV.
+/// Returns the fault of a profile's CSV as one of a list: memory is `Memory`, any other is kept.
 fn profile_fault(fault: ListFault) -> UnreadList
     ensures { result ≡ profile_fault fault }
 {
@@ -135,7 +137,7 @@ fn profile_fault(fault: ListFault) -> UnreadList
     }
 }
 
-/// Reads the items of a list of checksums.
+/// Reads the items of a list of checksums, in order of path.
 fn items_of_manifest(
     alloc: Global,
     form: ManifestForm,
@@ -149,7 +151,7 @@ fn items_of_manifest(
     }
 }
 
-/// Converts a fault of a list of checksums.
+/// Returns the fault of a list of checksums as one of a list: memory is `Memory`, any other is kept.
 fn manifest_fault(fault: ManifestFault) -> UnreadList
     ensures { result ≡ manifest_fault fault }
 {
@@ -162,7 +164,7 @@ fn manifest_fault(fault: ManifestFault) -> UnreadList
     }
 }
 
-/// Sorts items by path.
+/// Sorts items by path. Fails with `Twice` if two have one path, never for memory.
 fn in_order(items: Vec<Item>) -> Result<Inventory, UnreadList>
     ensures { Comes (Ok items.items) result }
 {
@@ -176,7 +178,7 @@ fn in_order(items: Vec<Item>) -> Result<Inventory, UnreadList>
     }
 }
 
-/// Returns the kind of the first hash that items have.
+/// Returns the kind of the first hash that items have, or `Nothing` if none has one.
 #[tactic(auto, using(crate::proofs::Listing::no_hash, crate::proofs::Listing::this_hash, crate::proofs::Listing::none_left))]
 fn hash_in(items: &[Item]) -> HashKind
     ensures { result ≡ hash_in items.now }

@@ -1,4 +1,4 @@
-//! The form of a list of files.
+//! Sees from its first line which form a list of files has.
 
 ghost use Rattle.std.specs.Prelude.{◌≡◌, ◌==◌, ◌||◌, IfOk, option_map};
 ghost use Rattle.std.specs.List.{position};
@@ -19,7 +19,8 @@ pub enum ListForm {
 }
 
 impl ListForm {
-    /// Returns the form of a text, by its first line. `in_bag` says whether the folder that it describes is a bag.
+    /// Returns the form of a text, by its first line. `in_bag` says whether the folder that it describes is a bag. Each
+    /// text has a form; whether it is well-formed is seen when it is read.
     pub fn of(alloc: Global, in_bag: bool, text: &[u8]) -> Result<ListForm, AllocError>
         ensures { IfOk result (λ form. form ≡ forms.form_of in_bag text.now) }
     {
@@ -41,7 +42,8 @@ impl ListForm {
     }
 }
 
-/// Returns whether a text begins like the CSV of a profile.
+/// Returns whether a text begins like the CSV of a profile: with the name of its first column, with or without quotes,
+/// and a comma. A byte order mark may stand in front.
 fn is_profile(text: &[u8]) -> bool
     ensures { result ≡ forms.is_profile text.now }
 {
@@ -61,7 +63,8 @@ fn begins(front: &[u8], text: &[u8]) -> bool
     }
 }
 
-/// Returns what stands behind a text, if that stands in front.
+/// Returns what stands behind the text `front`, or `None` if `text` does not begin with it. As `behind` of
+/// `droid_fixity`, which keeps its own to itself.
 fn behind<'a>(front: &[u8], text: &'a [u8]) -> Option<&'a [u8]>
     ensures { option_map (λ rest. rest.now) result ≡ behind front.now text.now }
 {
@@ -71,7 +74,8 @@ fn behind<'a>(front: &[u8], text: &'a [u8]) -> Option<&'a [u8]>
     }
 }
 
-/// Returns the form of a list of checksums.
+/// Returns the form of a list of checksums: that of a bag's manifest only in a bag, and if its first line is one of
+/// such a manifest.
 fn manifest_form(alloc: Global, in_bag: bool, text: &[u8]) -> Result<ManifestForm, AllocError>
     ensures { IfOk result (λ form. form ≡ forms.manifest_form in_bag text.now) }
 {
@@ -82,7 +86,7 @@ fn manifest_form(alloc: Global, in_bag: bool, text: &[u8]) -> Result<ManifestFor
     Ok(form_by(is_of_bag))
 }
 
-/// Returns the form of a list of checksums.
+/// Returns the form of a list of checksums, by whether it is that of a bag.
 fn form_by(is_of_bag: bool) -> ManifestForm
     ensures { result ≡ forms.form_by is_of_bag }
 {
@@ -93,7 +97,7 @@ fn form_by(is_of_bag: bool) -> ManifestForm
     }
 }
 
-/// Returns whether a line of a bag's manifest names a file below the folder `data`.
+/// Returns whether a line, read as a bag's manifest, names a file below the folder `data`. A line at fault does not.
 fn is_of_bag(alloc: Global, line: &[u8]) -> Result<bool, AllocError>
     ensures { IfOk result (λ is. is ≡ forms.has_items (items_of ManifestForm.Bag line.now)) }
 {
@@ -107,7 +111,7 @@ fn is_of_bag(alloc: Global, line: &[u8]) -> Result<bool, AllocError>
     }
 }
 
-/// Returns the first line, without what ends it.
+/// Returns the first line, without the line feed or carriage return that ends it, which a last line may lack.
 fn first_line(text: &[u8]) -> &[u8]
     ensures { result.now ≡ forms.first_line text.now }
 {
@@ -117,7 +121,7 @@ fn first_line(text: &[u8]) -> &[u8]
     }
 }
 
-/// Returns the place of the first line feed or carriage return.
+/// Returns the place of the first line feed or carriage return, counted from 0.
 fn first_end(text: &[u8]) -> Option<usize>
     ensures { result ≡ position (λ b. (b == 10) || (b == 13)) text.now }
 {

@@ -1,4 +1,4 @@
-//! Items of folders and files of a profile.
+//! Makes the item of a folder or file of a profile.
 
 ghost use Rattle.std.specs.Prelude.{◌≡◌, ◌↔◌, IfOk, IsTrue};
 ghost use Rattle.droid_export.specs.Moments.{IsMoment};
@@ -37,7 +37,8 @@ pub fn item_of_node(
     }))
 }
 
-/// Returns whether a moment has a text.
+/// Returns whether a moment has a text: from 0001-01-01T00:00:00 to 9999-12-31T23:59:59, in seconds since 1970. The
+/// limits are those of `IsMoment` of `droid_export`, and the prover compares both.
 fn is_moment(modified: &i64) -> bool
     ensures { IsTrue result ↔ IsMoment modified.now }
 {
@@ -45,7 +46,7 @@ fn is_moment(modified: &i64) -> bool
     modified >= -62_135_596_800 && modified <= 253_402_300_799
 }
 
-/// Returns the size of a file, and nothing for a folder.
+/// Returns the size of a file as the length of its item, and none for a folder.
 fn length_of(kind: NodeKind, size: u64) -> Option<u64>
     ensures { result ≡ nodes.length_of kind size }
 {
@@ -55,7 +56,7 @@ fn length_of(kind: NodeKind, size: u64) -> Option<u64>
     }
 }
 
-/// Returns the hash of a file, and none for a folder.
+/// Returns the hash of a file, and none for a folder, whatever it is given.
 fn hash_of(kind: NodeKind, hash: HashValue) -> HashValue
     ensures { result ≡ nodes.hash_of kind hash }
 {

@@ -12,8 +12,8 @@ use crate::first_bytes::FirstBytes;
 use crate::pool::{cut_run, rest_from};
 use crate::short::front_number;
 
-/// Returns whether none of the alternatives stands at this place. The alternatives stand at the front of `packed`. Only
-/// `true` promises anything: it spares a match by sets of places.
+/// Returns whether none of the alternatives stands at this place. The alternatives stand at the front of `packed`, as
+/// `put_choice` of `pool` writes them. Only `true` promises anything: it spares a match by sets of places.
 pub(crate) fn none_stands(packed: &[u8], bytes: &[u8], place: usize) -> bool
     ensures { IsTrue result → (q : ℕ) → Leads (Choice (alternatives_in packed.now)) bytes.now place q → ⊥ }
 {
@@ -28,7 +28,8 @@ pub(crate) fn none_stands(packed: &[u8], bytes: &[u8], place: usize) -> bool
     true
 }
 
-/// Returns whether the run of bytes stands at this place. Only `false` promises anything.
+/// Returns whether the run of bytes stands in `bytes` at this place. Only `false` promises anything: a false `true`
+/// would cost time, but change no result.
 fn stands_at(run: &[u8], bytes: &[u8], place: usize) -> bool
     ensures { result ≡ false → OccursAt bytes.now run.now place → ⊥ }
 {
@@ -44,8 +45,8 @@ fn stands_at(run: &[u8], bytes: &[u8], place: usize) -> bool
     true
 }
 
-/// Returns the bytes with which an alternative can begin, if none is empty. The alternatives stand at the front of
-/// `packed`.
+/// Returns the bytes with which an alternative can begin, and `None` if one is empty. The alternatives stand at the
+/// front of `packed`, as `put_choice` of `pool` writes them. `None` promises nothing.
 pub(crate) fn first_bytes_of(packed: &[u8]) -> Option<FirstBytes>
     ensures { IfSome result (λ few. BeginsIn few (Choice (alternatives_in packed.now))) }
 {

@@ -1,4 +1,5 @@
-//! The cells of a compact pattern, three bytes each.
+//! The cells of a compact pattern, three bytes each: how a cell is compared with a byte, moves a set of places over it,
+//! limits the first byte of a match, and joins the next cell.
 
 ghost use Rattle.std.specs.Prelude.{◌≡◌, ◌↔◌, ◌+◌, ◌++◌, ◌<◌, ◌≤◌, ℕ, List, IfSome, IsTrue, OnOk, length};
 ghost use Rattle.droid_pattern.specs.FirstBytes.{BeginsIn};
@@ -42,7 +43,7 @@ const _: () = prove!(size_of::<Cell>() == 3);
 impl Cell {
     /// Returns whether the cell matches the byte at this place, or `None` if the cell may match other than one byte.
     ///
-    /// A choice of which no alternative stands at this place is `Some(false)`.
+    /// A choice of which no alternative stands at this place is `Some(false)`. `None` promises nothing.
     pub(crate) fn passes(&self, pool: &[u8], bytes: &[u8], place: usize) -> Option<bool>
         ensures { IfSome result (λ passes.
             (q : ℕ) → Leads (element_at pool.now self.now) bytes.now place q ↔ (IsTrue passes × (q ≡ place + 1))) }
@@ -65,7 +66,7 @@ impl Cell {
     }
 
     /// Returns whether the cell matches the byte just before this position, or `None` if the cell may match other than
-    /// one byte.
+    /// one byte. `None` promises nothing.
     pub(crate) fn passes_before(&self, bytes: &[u8], end: usize) -> Option<bool>
         requires { end ≤ length bytes.now }
         ensures some { IfSome result (λ passes. IsTrue passes → 0 < end) }
@@ -103,7 +104,8 @@ impl Cell {
         }
     }
 
-    /// Joins this cell and the next one, if both are stars. This saves memory; no clause asks for `Some`.
+    /// Returns one cell for this cell and the next one, if both are stars and their number fits. This saves memory; no
+    /// clause asks for `Some`.
     pub(crate) fn joined(self, next: Cell) -> Option<Cell>
         ensures { IfSome result (λ cell.
             (pool : List ℕ) → elements_at pool cell ≡ elements_at pool self ++ elements_at pool next) }
@@ -122,7 +124,11 @@ impl Cell {
         })
     }
 
-    /// Replaces the places by those after this element.
+    /// Replaces the places by those after this element, counted in the direction of the match. None lies past the end
+    /// of `bytes`.
+    ///
+    /// `sets` has the cached bit sets of classes for these bytes and this direction; the call may add some. After an
+    /// error nothing is promised of `bits`: the match ends, and the next one sets its places anew.
     pub(crate) fn step(
         &self,
         pool: &[u8],

@@ -1,4 +1,4 @@
-//! Classes of bytes.
+//! Classes of bytes: whether a byte, or the byte at a place, is in one; and the slot of a class in the cache.
 
 ghost use Rattle.std.specs.Prelude.{◌≡◌, ◌↔◌, ◌-◌, ◌<◌, ◌≤◌, IsTrue, true, length, slice_index};
 ghost use Rattle.droid_pattern.specs.Tokens.{accepts};
@@ -26,7 +26,7 @@ impl Class {
         }
     }
 
-    /// Returns whether there is a byte at this place and it is in the class.
+    /// Returns whether there is a byte at this place, counted from the start of `bytes`, and it is in the class.
     pub(crate) fn is_at(self, bytes: &[u8], place: usize) -> bool
         ensures { IsTrue result ↔ ((place < length bytes.now) × (accepts self (slice_index bytes.now place) ≡ true)) }
     {
@@ -51,8 +51,10 @@ impl Class {
 
     /// Returns the slot of the class in the cache of bit sets.
     ///
-    /// There is a slot for each byte, each excluded byte, each first byte of a range and each last byte of a range. No
-    /// clause asks for different slots: classes of one slot replace each other, which takes time.
+    /// There are four times 256 slots: for each byte, each excluded byte, each first byte of a range and each last byte
+    /// of a range. `class_set::one` asks for a range in two halves, from its first byte to 255 and from 0 to its last
+    /// byte, so that each half has a slot of its own. No clause asks for different slots: classes of one slot replace
+    /// each other, which takes time.
     pub(crate) fn slot(self) -> usize
         ensures { result < 1024 }
     {

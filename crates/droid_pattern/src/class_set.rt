@@ -1,6 +1,11 @@
-//! The bit set of a class: the places in a file at which a byte of the class stands.
+//! The bit sets of classes: computes the set of places at which a byte of a class stands, caches it, and moves a
+//! pattern's places over one byte of a class with it.
+//!
+//! 64 is the number of bits of a word (`IsPlace` of `specs/Places.antt`), here as in `Direction::next_bytes`; the
+//! prover ties them. After an error the cached sets are still right, as far as they go; of a pattern's places nothing
+//! is promised then, since the match ends and the next one sets its places anew.
 
-ghost use Rattle.std.specs.Prelude.{◌≡◌, ◌↔◌, ◌+◌, ◌*◌, ◌<◌, ◌≤◌, ℕ, true, [], OnOk, length};
+ghost use Rattle.std.specs.Prelude.{◌≡◌, ◌↔◌, ◌+◌, ◌*◌, ◌<◌, ◌≤◌, ℕ, IsTrue, true, [], OnOk, length};
 ghost use Rattle.std.specs.Int.{bit_at};
 ghost use Rattle.droid_pattern.specs.Places.{IsPlace};
 ghost use Rattle.droid_pattern.specs.Tokens.{accepts};
@@ -9,6 +14,7 @@ ghost use Rattle.droid_pattern.specs.Positions.{byte_behind, IsSetOf, AreSetsOf}
 use crate::bit_sets::bit_set::BitSet;
 use crate::class::Class;
 use crate::direction::Direction;
+use memchr::memchr;
 use std::alloc::{AllocError, Global};
 
 /// A class and its bit set, computed for as many words as a pattern has needed so far.
@@ -21,7 +27,8 @@ pub(crate) struct ClassSet {
 }
 
 impl ClassSet {
-    /// Makes a set with no words. Takes no memory.
+    /// Makes a set with no words. It is right for every class, so the class that it gets means nothing. Takes no
+    /// memory.
     fn new(alloc: Global) -> ClassSet
         ensures { result.bits ≡ [] }
     {
@@ -31,7 +38,8 @@ impl ClassSet {
         }
     }
 
-    /// Makes this the set of `class`, computed for at least `count` words.
+    /// Makes this the set of `class`, computed for at least `count` words. Words of this class that are there stay;
+    /// those of another class are dropped.
     fn prepare(
         &mut self,
         alloc: Global,
@@ -53,7 +61,7 @@ impl ClassSet {
     }
 }
 
-/// Computes the bit set of a class up to `count` words.
+/// Adds words to the bit set of a class until it has at least `count`.
 fn extend(
     bits: &mut BitSet,
     class: Class,
@@ -71,7 +79,8 @@ fn extend(
     Ok(())
 }
 
-/// Computes one word of the bit set of a class.
+/// Returns the word at index `place` of the bit set of a class: its bit i says whether the byte after 64 × `place` + i
+/// bytes, in this direction, is in the class. Bits past the end of the bytes are 0.
 fn word_of(class: Class, place: usize, bytes: &[u8], direction: Direction) -> u64
     ensures { (i : ℕ) → i < 64 → (bit_at result i ≡ 1)
         ↔ ((64 * place + i < length bytes.now)
@@ -79,14 +88,27 @@ fn word_of(class: Class, place: usize, bytes: &[u8], direction: Direction) -> u6
 {
     let start = place.saturating_mul(64);
     // For speed; no clause needs it.
-    let absent = direction.lacks(class, bytes, start);
+    let absent = lacks(class, start, bytes, direction);
     if absent {
         return 0;
     }
     word_by_byte(class, start, bytes, direction)
 }
 
-/// Computes the word for the 64 bytes from `start` on, byte by byte.
+/// Returns whether the 64 bytes from `start` on, in this direction, are known to have none of the class. Only `true`
+/// promises anything: it spares `word_of` a look at each byte.
+fn lacks(class: Class, start: usize, bytes: &[u8], direction: Direction) -> bool
+    ensures { IsTrue result → (i : ℕ) → i < 64 → start + i < length bytes.now
+        → accepts class (byte_behind direction bytes.now (start + i)) ≡ true → ⊥ }
+{
+    match class {
+        Class::Byte(wanted) => memchr(wanted, direction.next_bytes(bytes, start)).is_none(),
+        Class::Range { .. } | Class::Except(_) => false,
+    }
+}
+
+/// Returns the word for the 64 bytes after the first `start`, in this direction: bit i is 1 if the byte after `start` +
+/// i bytes is in the class. Looks at each byte.
 fn word_by_byte(class: Class, start: usize, bytes: &[u8], direction: Direction) -> u64
     ensures { (i : ℕ) → i < 64 → (bit_at result i ≡ 1)
         ↔ ((start + i < length bytes.now) × (accepts class (byte_behind direction bytes.now (start + i)) ≡ true)) }
@@ -100,7 +122,8 @@ fn word_by_byte(class: Class, start: usize, bytes: &[u8], direction: Direction) 
     word
 }
 
-/// Replaces the places by those after one byte of the class.
+/// Keeps the places whose next byte, in this direction, is in the class, and moves each of them up by one. `sets` has
+/// the cached sets for these bytes and this direction.
 pub(crate) fn one(
     sets: &mut Vec<ClassSet>,
     bits: &mut BitSet,
@@ -138,7 +161,7 @@ pub(crate) fn one(
     }
 }
 
-/// Replaces the places by those after one byte of the class, by the one set of this class.
+/// Does the work of `one` with the set of the class itself, whatever the class is.
 fn step_class(
     sets: &mut Vec<ClassSet>,
     bits: &mut BitSet,
@@ -160,7 +183,7 @@ fn step_class(
     bits.keep_step(&sets[slot].bits)
 }
 
-/// Keeps the places whose next byte is in the class.
+/// Keeps the places whose next byte, in this direction, is in the class, and doesn't move them.
 fn keep_class(
     sets: &mut Vec<ClassSet>,
     bits: &mut BitSet,
@@ -181,7 +204,7 @@ fn keep_class(
     Ok(())
 }
 
-/// Adds sets with no words until there are at least `count` sets.
+/// Adds sets with no words until there are at least `count` sets, so that the slots below `count` can be used.
 fn fill_slots(
     sets: &mut Vec<ClassSet>,
     alloc: Global,

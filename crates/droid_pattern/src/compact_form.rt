@@ -1,4 +1,4 @@
-//! The compact form in which a pattern stays in memory.
+//! Packs the tokens of a pattern into the compact form in which it stays in memory: cells, and a pool of bytes.
 //!
 //! `cells_len` and `pool_len` have no contract: they are the capacities of the two vectors, and a wrong one would cost
 //! memory, but change no pattern.
@@ -24,8 +24,8 @@ pub(crate) struct Packed {
     pub(crate) pool: Vec<u8>,
 }
 
-/// Converts the tokens to the compact form. Both vectors get the exact capacity that they need, which saves memory; no
-/// clause asks for it.
+/// Converts the tokens to the compact form: a cell for each, but one for several stars in a row. Both vectors get the
+/// exact capacity that they need, which saves memory; no clause asks for it.
 pub(crate) fn pack(alloc: Global, tokens: &[Token]) -> Result<Packed, AllocError>
     ensures { IfOk result (λ packed. elements_of packed ≡ map element_of tokens.now) }
 {
@@ -52,7 +52,7 @@ fn cells_len(tokens: &[Token]) -> usize {
     len
 }
 
-/// Returns the number of bytes of the pool that the tokens need.
+/// Returns the number of bytes that `put` adds to the pool for all tokens.
 fn pool_len(tokens: &[Token]) -> usize {
     let mut len = 0usize;
     for token in tokens {
@@ -61,7 +61,7 @@ fn pool_len(tokens: &[Token]) -> usize {
     len
 }
 
-/// Adds a cell at the end, or joins it with the last cell.
+/// Adds a cell at the end. If it and the last cell are stars, joins them instead: the last cell then counts one more.
 fn add(cells: &mut Vec<Cell>, cell: Cell) -> Result<(), AllocError>
     ensures { OnOk result ((pool : List ℕ)
         → flat_map (elements_at pool) cells.new.items
@@ -77,7 +77,8 @@ fn add(cells: &mut Vec<Cell>, cell: Cell) -> Result<(), AllocError>
     Ok(())
 }
 
-/// Returns the cell of this token, and adds to the pool what doesn't fit into the cell.
+/// Returns the cell of this token, and adds to the end of the pool what doesn't fit into the cell: the two numbers of a
+/// gap, or the alternatives of a choice. `Token::pool_len` counts these bytes for the capacity.
 fn put(pool: &mut Vec<u8>, token: &Token) -> Result<Cell, AllocError>
     ensures grown { OnOk result ((added : List ℕ) × (pool.new.items ≡ pool.old.items ++ added)) }
     ensures one { IfOk result (λ cell. more_of cell ≡ 0) }
@@ -108,7 +109,7 @@ fn put(pool: &mut Vec<u8>, token: &Token) -> Result<Cell, AllocError>
     }
 }
 
-/// Returns the cell of an element that is one byte.
+/// Returns the cell that matches one byte of the class. It fits into a cell, so the pool doesn't matter.
 fn cell_of_class(class: Class) -> Cell
     ensures element { (pool : List ℕ) → element_at pool result ≡ element_of_class class }
     ensures one { more_of result ≡ 0 }

@@ -8,7 +8,7 @@ ghost use Rattle.droid_pattern.specs.Positions.{Path};
 
 use crate::cell::Cell;
 
-/// Returns whether the cells match from this position on, or `None` if sets are needed.
+/// Returns whether the cells match from this position on, one after another, or `None` if sets are needed.
 ///
 /// A comparison decides it if each cell before the first one that fails is one byte, and that cell is one byte or a
 /// choice.
@@ -28,7 +28,7 @@ pub(crate) fn settled_at(cells: &[Cell], pool: &[u8], bytes: &[u8], at: usize) -
     Some(true)
 }
 
-/// Returns whether the cells match up to this position, or `None` if sets are needed.
+/// Returns whether the cells match up to this position, from the last one back, or `None` if sets are needed.
 ///
 /// A comparison decides it if each cell from the last one back to the first one that fails is one byte.
 pub(crate) fn settled_before(cells: &[Cell], bytes: &[u8], end: usize) -> Option<bool>

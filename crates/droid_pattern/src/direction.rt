@@ -1,11 +1,7 @@
-//! The direction of a match.
+//! The direction of a match, and the bytes that come next in it.
 
-ghost use Rattle.std.specs.Prelude.{◌≡◌, ◌<◌, ◌+◌, ℕ, IsTrue, true, length, slice_index};
-ghost use Rattle.droid_pattern.specs.Tokens.{accepts};
+ghost use Rattle.std.specs.Prelude.{◌≡◌, ◌<◌, ◌+◌, ℕ, length, slice_index};
 ghost use Rattle.droid_pattern.specs.Positions.{byte_behind};
-
-use crate::class::Class;
-use memchr::memchr;
 
 /// The direction in which a pattern is matched.
 #[derive(Clone, Copy)]
@@ -17,7 +13,8 @@ pub(crate) enum Direction {
 }
 
 impl Direction {
-    /// Returns the byte after the first `place` bytes, in this direction.
+    /// Returns the byte after the first `place` bytes, in this direction. Place 0 has the first byte of `bytes` behind
+    /// it, or, toward the start, the last one.
     pub(crate) fn byte_behind(self, bytes: &[u8], place: usize) -> u8
         requires { place < length bytes.now }
         ensures { result ≡ byte_behind self bytes.now place }
@@ -28,20 +25,9 @@ impl Direction {
         }
     }
 
-    /// Returns whether the 64 bytes from `start` on, in this direction, are known to have none of the class. Only a
-    /// `true` promises anything: it spares a look at each byte.
-    pub(crate) fn lacks(self, class: Class, bytes: &[u8], start: usize) -> bool
-        ensures { IsTrue result → (i : ℕ) → i < 64 → start + i < length bytes.now
-            → accepts class (byte_behind self bytes.now (start + i)) ≡ true → ⊥ }
-    {
-        match class {
-            Class::Byte(wanted) => memchr(wanted, self.next_bytes(bytes, start)).is_none(),
-            Class::Range { .. } | Class::Except(_) => false,
-        }
-    }
-
-    /// Returns the 64 bytes from `start` on, in this direction, or fewer at the end. They stay in file order.
-    fn next_bytes(self, bytes: &[u8], start: usize) -> &[u8]
+    /// Returns the 64 bytes from `start` on, in this direction, or fewer at the end. They stay in file order. 64 is the
+    /// number of bits of a word, for `lacks` of `class_set`. No clause forbids further bytes: they would cost time.
+    pub(crate) fn next_bytes(self, bytes: &[u8], start: usize) -> &[u8]
         ensures { (i : ℕ) → i < 64 → start + i < length bytes.now
             → ((k : ℕ) × (k < length result.now)
             × (slice_index result.now k ≡ byte_behind self bytes.now (start + i))) }

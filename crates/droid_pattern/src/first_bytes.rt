@@ -1,4 +1,4 @@
-//! The bytes with which a match can begin.
+//! The bytes with which a match can begin, as two ranges: whether a byte is one of them, and how they grow by a byte.
 
 ghost use Rattle.std.specs.Prelude.{◌≡◌, ◌↔◌, ◌≤◌, ℕ, IsTrue};
 ghost use Rattle.droid_pattern.specs.FirstBytes.{Has};
@@ -27,7 +27,7 @@ impl FirstBytes {
         }
     }
 
-    /// Returns whether this byte is one of them.
+    /// Returns whether this byte lies in one of the two ranges.
     pub fn has(self, byte: u8) -> bool
         ensures { IsTrue result ↔ Has self byte }
     {
@@ -53,14 +53,14 @@ impl FirstBytes {
         }
     }
 
-    /// Returns whether both ranges are the same.
+    /// Returns whether both ranges are equal, as `range` makes them. Then the other one is free to take a byte.
     fn is_one_range(self) -> bool
         ensures { IsTrue result → (self.low ≡ self.other_low) × (self.high ≡ self.other_high) }
     {
         self.low == self.other_low && self.high == self.other_high
     }
 
-    /// Makes the byte the second range.
+    /// Makes the byte the other range. Both ranges are equal before, so no byte is lost.
     fn beside(self, byte: u8) -> FirstBytes
         requires low { self.low ≡ self.other_low }
         requires high { self.high ≡ self.other_high }
@@ -108,7 +108,8 @@ impl FirstBytes {
     }
 }
 
-/// Returns how far a byte is from a range. It has no contract, as [`FirstBytes::is_near`], which alone calls it.
+/// Returns how far a byte is from a range, 0 if it is inside. It has no contract, as [`FirstBytes::is_near`], which
+/// alone calls it.
 fn distance(low: u8, high: u8, byte: u8) -> u8 {
     if byte < low {
         low - byte

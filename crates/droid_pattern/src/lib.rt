@@ -1,6 +1,7 @@
 //! The patterns of PRONOM's byte sequences: reads their text and finds the bytes that they match.
 //!
 //! The places that a match has reached so far are a bit set, which moves over one element of the pattern at a time.
+//! A place is the number of bytes passed so far, in the direction of the match; a position counts from the start.
 #![tactic(auto)]
 
 mod alternatives;

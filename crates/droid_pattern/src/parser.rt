@@ -1,4 +1,6 @@
 //! Reads the text of a pattern, element by element.
+//!
+//! `split_at_mark`, `byte_of` and `number_of` are public because `droid_signature_pattern` reads the same parts.
 
 ghost use Rattle.std.specs.Prelude.{◌≡◌, ◌++◌, ◌∷◌, ℕ, List, map, IfOk, IsErrOf, MatchOption, Contains};
 ghost use Rattle.droid_pattern.specs.Patterns.{Element};
@@ -13,7 +15,7 @@ use crate::token::Token;
 use memchr::memchr;
 use std::alloc::Global;
 
-/// Reads all tokens of the text.
+/// Reads all tokens of the text; the empty text has none. Where a text begins with no token, returns `BadPattern`.
 pub(crate) fn tokens_of(alloc: Global, text: &[u8]) -> Result<Vec<Token>, PatternFault>
     ensures spelled { IfOk result (λ tokens. SpellsAll text.now (map element_of tokens.items)) }
     ensures only { (es : List Element) → SpellsAll text.now es
@@ -30,7 +32,7 @@ pub(crate) fn tokens_of(alloc: Global, text: &[u8]) -> Result<Vec<Token>, Patter
     Ok(tokens)
 }
 
-/// Reads the first token of the text. Returns it and the text after it.
+/// Reads the first token of the text. Returns it and the text after it, or `BadPattern` if the text begins with none.
 fn token_of(alloc: Global, text: &[u8]) -> Result<(Token, &[u8]), PatternFault>
     ensures front { IfOk result (λ found. IsOnlyFront text.now (element_of found.0) found.1.now) }
     ensures bad { IsErrOf result PatternFault.BadPattern → HasNoFront text.now }
@@ -61,7 +63,7 @@ fn token_of(alloc: Global, text: &[u8]) -> Result<(Token, &[u8]), PatternFault>
     }
 }
 
-/// Reads a token of two characters: `61` or `??`.
+/// Reads a token of two characters: `61` or `??`. Returns `None` for any others.
 fn token_of_pair(first: u8, second: u8) -> Option<Token>
     ensures { MatchOption result ((e : Element) → SpellsInPair first second e → ⊥)
         (λ token. SpellsInPair first second (element_of token)) }
@@ -73,7 +75,7 @@ fn token_of_pair(first: u8, second: u8) -> Option<Token>
     Some(Token::One(Class::Byte(byte)))
 }
 
-/// Returns the text before the first `mark` and the text after it.
+/// Returns the text before the first `mark` and the text after it, or `None` if there is no `mark`.
 pub fn split_at_mark(mark: u8, text: &[u8]) -> Option<(&[u8], &[u8])>
     ensures { MatchOption result (Contains text.now mark → ⊥)
         (λ halves. (text.now ≡ halves.0.now ++ mark ∷ halves.1.now) × (Contains halves.0.now mark → ⊥)) }
@@ -82,7 +84,7 @@ pub fn split_at_mark(mark: u8, text: &[u8]) -> Option<(&[u8], &[u8])>
     Some((&text[..position], &text[position + 1..]))
 }
 
-/// Reads the text between braces: `3`, `2-5` or `2-*`.
+/// Reads the text between braces: `3`, `2-5` or `2-*`. Returns `None` for any other text, `5-2` included.
 fn gap_of(body: &[u8]) -> Option<Token>
     ensures { MatchOption result ((e : Element) → SpellsInBraces body.now e → ⊥)
         (λ token. SpellsInBraces body.now (element_of token)) }
@@ -100,7 +102,7 @@ fn gap_of(body: &[u8]) -> Option<Token>
     Some(Token::Gap { least, more })
 }
 
-/// Reads the text between brackets: `61:7A` or `!61`.
+/// Reads the text between brackets: `61:7A` or `!61`. Returns `None` for any other text, `7A:61` included.
 fn class_of(body: &[u8]) -> Option<Class>
     ensures { MatchOption result ((e : Element) → SpellsInBrackets body.now e → ⊥)
         (λ class. SpellsInBrackets body.now (element_of_class class)) }
@@ -120,7 +122,8 @@ fn class_of(body: &[u8]) -> Option<Class>
     }
 }
 
-/// Reads the text between parentheses: alternatives separated by `|`.
+/// Reads the text between parentheses: one or more alternatives, separated by `|`. One that is empty, or no digits, is
+/// `BadPattern`.
 fn choice_of(alloc: Global, body: &[u8]) -> Result<Vec<Vec<u8>>, PatternFault>
     ensures spelled { IfOk result (λ found. SpellsChoice body.now (map (λ v. v.items) found.items)) }
     ensures bad { IsErrOf result PatternFault.BadPattern → (found : List (List ℕ)) → SpellsChoice body.now found → ⊥ }
@@ -137,7 +140,8 @@ fn choice_of(alloc: Global, body: &[u8]) -> Result<Vec<Vec<u8>>, PatternFault>
     Ok(alternatives)
 }
 
-/// Reads one or more bytes, each as two digits.
+/// Reads one or more bytes, each as two hexadecimal digits. No digits, a single one at the end and any other character
+/// are `BadPattern`.
 fn alternative_of(alloc: Global, digits: &[u8]) -> Result<Vec<u8>, PatternFault>
     ensures spelled { IfOk result (λ bytes. SpellsAlternative digits.now bytes.items) }
     ensures bad { IsErrOf result PatternFault.BadPattern → (bs : List ℕ) → SpellsAlternative digits.now bs → ⊥ }
@@ -158,7 +162,7 @@ fn alternative_of(alloc: Global, digits: &[u8]) -> Result<Vec<u8>, PatternFault>
     Ok(bytes)
 }
 
-/// Returns the byte that two hexadecimal digits stand for.
+/// Returns the byte that two hexadecimal digits, in either case, stand for, or `None` if one of them is no digit.
 pub fn byte_of(high: u8, low: u8) -> Option<u8>
     ensures { MatchOption result ((b : ℕ) → IsPair high low b → ⊥) (IsPair high low) }
 {
@@ -167,7 +171,7 @@ pub fn byte_of(high: u8, low: u8) -> Option<u8>
     Some((16 * high + low) as u8)
 }
 
-/// Returns the number that one to five decimal digits stand for, if it is at most 65,535.
+/// Returns the number that one to five decimal digits stand for, if it is at most 65,535, and otherwise `None`.
 pub fn number_of(digits: &[u8]) -> Option<u16>
     ensures { MatchOption result ((n : ℕ) → IsNumber digits.now n → ⊥) (IsNumber digits.now) }
 {

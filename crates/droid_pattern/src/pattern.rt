@@ -1,4 +1,5 @@
-//! The pattern of a byte sequence.
+//! The pattern of a byte sequence: reads it, and looks for its matches. One offset is compared directly, if that
+//! decides it; anything else is matched by sets of places.
 
 ghost use Rattle.std.specs.Prelude.{◌≡◌, ◌↔◌, ◌≤◌, List, length, IsTrue, IfOk, IfSome, OnErr, IsErrOf};
 ghost use Rattle.droid_pattern.specs.Patterns.{Element, MatchesFrom, MatchesTo, BeginsWithin, EndsWithin};
@@ -17,7 +18,8 @@ use crate::token::any_byte;
 use std::alloc::{AllocError, Global};
 use std::marker::Model;
 
-/// The most bytes that the text of a pattern may have. This limit is the project's own.
+/// The most bytes that the text of a pattern may have. This limit is the project's own. `Spells` of
+/// `specs/PatternText.antt` has the same number, and the prover ties them.
 const TEXT_LIMIT: usize = 4096;
 
 /// The pattern of a byte sequence, in a part of PRONOM's syntax. Contracts see the list of its elements.
@@ -43,9 +45,9 @@ impl Model for Pattern {
 impl Pattern {
     /// Reads the text of a pattern.
     ///
-    /// `61` is that byte, `??` any byte, `{3}`, `{2-5}`, `{2-*}` and `*` a gap of that many bytes, `[61:7A]` a byte
-    /// of a range, `[!61]` any other byte, and `(61|6263)` one of several runs of bytes. A text has at most 4,096
-    /// bytes, and at least one element is not a gap. Any other text is an error, `BadPattern`.
+    /// `61` is that byte, `??` any byte, `{3}`, `{2-5}`, `{2-*}` and `*` a gap of that many bytes, `[61:7A]` a byte of
+    /// a range, `[!61]` any other byte, and `(61|6263)` one of several runs of bytes. A text has at most 4,096 bytes,
+    /// and at least one element is not a gap. Any other text is an error, `BadPattern`; `Memory` is the other one.
     pub fn read(alloc: Global, text: &str) -> Result<Pattern, PatternFault>
         // The text spells the pattern that is returned.
         ensures spelled { IfOk result (λ pattern. Spells text.now pattern) }
@@ -66,7 +68,7 @@ impl Pattern {
     }
 
     /// Returns the bytes with which a match can begin, if the pattern's first element limits them: a byte, a range of
-    /// bytes, or alternatives none of which is empty.
+    /// bytes, or alternatives none of which is empty. `None` promises nothing; it is always right.
     pub fn first_bytes(&self) -> Option<FirstBytes>
         ensures { IfSome result (λ few. AreFirst few self.now) }
     {
@@ -74,8 +76,8 @@ impl Pattern {
         cell.first_bytes(self.packed.pool.as_slice())
     }
 
-    /// Returns whether a match begins at this position. The specification names this call; a registry calls
-    /// `begins_with`.
+    /// Returns whether a match begins at this position, after the first `at` bytes. The specification names this call;
+    /// a registry calls `begins_with`.
     pub fn matches_from(&self, alloc: Global, bytes: &[u8], at: usize) -> Result<bool, AllocError>
         requires { at ≤ length bytes.now }
         ensures { IfOk result (λ found. IsTrue found ↔ MatchesFrom self.now bytes.now at) }
@@ -84,8 +86,8 @@ impl Pattern {
         self.begins_with(alloc, bytes, at, at, &mut classes)
     }
 
-    /// Returns whether a match ends just before this position. The specification names this call; a registry calls
-    /// `ends_with`.
+    /// Returns whether a match ends just before this position, with the first `end` bytes. The specification names this
+    /// call; a registry calls `ends_with`.
     pub fn matches_to(&self, alloc: Global, bytes: &[u8], end: usize) -> Result<bool, AllocError>
         requires { end ≤ length bytes.now }
         ensures { IfOk result (λ found. IsTrue found ↔ MatchesTo self.now bytes.now end) }
@@ -94,7 +96,8 @@ impl Pattern {
         self.ends_with(alloc, &bytes[..end], 0, 0, &mut classes)
     }
 
-    /// Returns whether a match begins at an offset from `low` to `high`.
+    /// Returns whether a match begins at an offset from `low` to `high`, both included, from the start of the bytes.
+    /// `high` may lie past their end.
     ///
     /// `classes` caches what is known of these bytes, so that the next pattern is faster.
     pub fn begins_with(
@@ -117,7 +120,8 @@ impl Pattern {
         self.begins_by_sets(alloc, bytes, low, high, classes)
     }
 
-    /// Returns whether a match begins at this offset if the bytes there decide it, and `None` if sets are needed.
+    /// Returns whether a match begins at this offset if a comparison with the bytes there decides it, and `None` if
+    /// sets are needed. `None` promises nothing.
     fn settled_from(&self, bytes: &[u8], at: usize) -> Option<bool>
         ensures { IfSome result (λ found. IsTrue found ↔ BeginsWithin self.now bytes.now at at) }
     {
@@ -127,7 +131,8 @@ impl Pattern {
         settled_at(&self.packed.cells, &self.packed.pool, bytes, at)
     }
 
-    /// Does the work of `begins_with` by sets of places.
+    /// Does the work of `begins_with` by sets of places: takes the offsets from `low` to `high`, and replaces them,
+    /// cell by cell, by the places after the cell. A match is found if a place is left after the last cell.
     fn begins_by_sets(
         &self,
         alloc: Global,
@@ -159,7 +164,8 @@ impl Pattern {
         Ok(!classes.places.is_empty())
     }
 
-    /// Returns whether a match ends at an offset from `low` to `high` before the end of the bytes.
+    /// Returns whether a match ends at an offset from `low` to `high`, both included, before the end of the bytes.
+    /// `high` may be more than there are bytes.
     ///
     /// `classes` caches what is known of these bytes, so that the next pattern is faster.
     pub fn ends_with(
@@ -182,8 +188,8 @@ impl Pattern {
         self.ends_by_sets(alloc, bytes, low, high, classes)
     }
 
-    /// Returns whether a match ends at this offset from the end if the bytes there decide it, and `None` if sets are
-    /// needed.
+    /// Returns whether a match ends at this offset from the end if a comparison with the bytes before it decides it,
+    /// and `None` if sets are needed. `None` promises nothing.
     fn settled_to(&self, bytes: &[u8], offset: usize) -> Option<bool>
         ensures { IfSome result (λ found. IsTrue found ↔ EndsWithin self.now bytes.now offset offset) }
     {
@@ -193,7 +199,8 @@ impl Pattern {
         settled_before(&self.packed.cells, bytes, bytes.len() - offset)
     }
 
-    /// Does the work of `ends_with` by sets of places.
+    /// Does the work of `ends_with` by sets of places, as `begins_by_sets`, but from the end of the bytes toward their
+    /// start, and from the last cell to the first.
     fn ends_by_sets(
         &self,
         alloc: Global,

@@ -1,4 +1,4 @@
-//! The errors of reading a pattern.
+//! The errors of reading a pattern, and how errors of allocation become one.
 
 ghost use Rattle.std.specs.Prelude.{◌≡◌};
 ghost use Rattle.droid_pattern.specs.declared.pattern_fault.PatternFault.TheVariants.{Memory};

@@ -1,4 +1,4 @@
-//! Numbers in two bytes each.
+//! Numbers up to 65,535 as two bytes, the high one first: in a cell and in the pool of a pattern.
 
 ghost use Rattle.std.specs.Prelude.{◌≡◌, ◌<◌, ◌++◌, OnOk};
 ghost use Rattle.droid_pattern.specs.Cells.{number_of, number_bytes, front_number};
@@ -23,7 +23,7 @@ impl Short {
         }
     }
 
-    /// Returns the number.
+    /// Joins the two bytes into the number, which is at most 65,535.
     pub(crate) fn get(self) -> usize
         ensures value { result ≡ number_of self }
         ensures small { result < 65536 }
@@ -32,7 +32,7 @@ impl Short {
     }
 }
 
-/// Adds the two bytes of this number to the end of the pool.
+/// Adds the two bytes of this number to the end of the pool, the high one first.
 pub(crate) fn put_number(pool: &mut Vec<u8>, number: u16) -> Result<(), AllocError>
     ensures { OnOk result (pool.new.items ≡ pool.old.items ++ number_bytes number) }
 {
@@ -41,7 +41,7 @@ pub(crate) fn put_number(pool: &mut Vec<u8>, number: u16) -> Result<(), AllocErr
     pool.extend_from_slice(&[high, low])
 }
 
-/// Returns the number in the first two bytes, and 0 if there are fewer.
+/// Returns the number in the first two bytes, the high one first, and 0 if there are fewer than two.
 pub(crate) fn front_number(bytes: &[u8]) -> usize
     ensures value { result ≡ front_number bytes.now }
     ensures small { result < 65536 }

@@ -1,4 +1,4 @@
-//! Moves a set of places over a choice between runs of bytes.
+//! Moves a set of places over a choice between runs of bytes: over each run by itself, byte by byte.
 
 ghost use Rattle.std.specs.Prelude.{OnOk, length};
 ghost use Rattle.droid_pattern.specs.Patterns.{Choice};
@@ -13,7 +13,11 @@ use crate::pool::{cut_run, rest_from};
 use crate::short::front_number;
 use std::alloc::{AllocError, Global};
 
-/// Replaces the places by those after one of the alternatives. The alternatives stand at the front of `packed`.
+/// Replaces the places by those after one of the alternatives. The alternatives stand at the front of `packed`, as
+/// `put_choice` of `pool` writes them.
+///
+/// `sets` has the cached bit sets of classes for these bytes; the call may add some. After an error nothing is promised
+/// of `bits`: the match ends, and the next one sets its places anew.
 pub(crate) fn choice(
     sets: &mut Vec<ClassSet>,
     bits: &mut BitSet,
@@ -43,7 +47,8 @@ pub(crate) fn choice(
     bits.set_from(&found)
 }
 
-/// Replaces the places by those after this run of bytes.
+/// Keeps the places at which the run `literal` stands, and moves each of them up by its length. Toward the start, the
+/// run is compared from its last byte to its first.
 fn follow(
     sets: &mut Vec<ClassSet>,
     bits: &mut BitSet,

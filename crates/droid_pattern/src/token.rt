@@ -1,4 +1,4 @@
-//! The tokens of a pattern's text.
+//! The tokens of a pattern's text: the elements as the parser reads them, before they are packed.
 
 ghost use Rattle.std.specs.Prelude.{◌≡◌, map};
 ghost use Rattle.droid_pattern.specs.Patterns.{is_gap, has_byte};
@@ -22,7 +22,7 @@ pub(crate) enum Token {
 }
 
 impl Token {
-    /// Returns whether the element is a gap. A gap may match no byte at all.
+    /// Returns whether the element is a gap, `{..}` or `*`. A gap may match no byte at all.
     pub(crate) fn is_gap(&self) -> bool
         ensures { result ≡ is_gap (element_of self.now) }
     {
@@ -37,7 +37,8 @@ impl Token {
         matches!(self, Token::OpenGap { least: 0 })
     }
 
-    /// Returns the number of bytes of the pool that the element needs.
+    /// Returns the number of bytes that `put` of `compact_form` adds to the pool for the element: two numbers of two
+    /// bytes for a gap; for a choice the number of alternatives, and each run.
     pub(crate) fn pool_len(&self) -> usize {
         match self {
             Token::One(_) | Token::AnyByte | Token::OpenGap { .. } => 0,
@@ -47,7 +48,7 @@ impl Token {
     }
 }
 
-/// Returns the number of bytes of the pool that these runs need, each with its length.
+/// Returns the number of bytes of the pool that these runs need, each with its length of two bytes.
 fn runs_len(runs: &[Vec<u8>]) -> usize {
     let mut len = 0usize;
     for run in runs {
@@ -56,7 +57,7 @@ fn runs_len(runs: &[Vec<u8>]) -> usize {
     len
 }
 
-/// Returns whether at least one element is not a gap.
+/// Returns whether at least one element is not a gap, so that a match has a byte. `Pattern::read` refuses other texts.
 pub(crate) fn any_byte(tokens: &[Token]) -> bool
     ensures { result ≡ has_byte (map element_of tokens.now) }
 {

@@ -1,4 +1,5 @@
--- How the text of records goes to the writers: at once, or later with that of other records (for proofs).
+-- How the text of records goes to the writers: at once, or later with that of other records (for inner clauses and
+-- proofs).
 use Rattle.std.specs.Prelude.{◌≡◌, ℕ, ◌<◌, Bool, true, false, MatchBool, List, [], ◌++◌, length, Option, Some, None}
 use Rattle.std.specs.Io.KnownBytes.{Appends}
 use Rattle.droid_frame.specs.Seen.{IsSound}

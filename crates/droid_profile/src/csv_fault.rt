@@ -19,6 +19,7 @@ pub enum CsvFault {
     Manifest,
 }
 
+// A call that runs out of memory ends the profile with `Memory`, by `?` alone.
 impl From<AllocError> for CsvFault {
     ghost use Rattle.droid_profile.specs.declared.csv_fault.CsvFault.TheVariants.{Memory};
 

@@ -1,4 +1,4 @@
-//! Writes the profile of a tree.
+//! Profiles a tree into a CSV and a list of checksums, up to the last bytes that are pending.
 
 ghost use Rattle.std.specs.Prelude.{◌≡◌, ◌≤◌, IfErr, IfOk};
 ghost use Rattle.droid_frame.specs.Seen.{IsSound};
@@ -63,7 +63,7 @@ pub fn write_profile<T: Tree, W: Watcher, O: SteadyWrite, M: SteadyWrite>(
 }
 
 /// Returns the fault of a walk that ended early, after the rows and the lines of the records that were taken are
-/// written. If a writer stopped, nothing more is written.
+/// written. If a writer stopped, nothing more is written, and its fault is returned in place of the walk's.
 fn end_early<O: SteadyWrite, M: SteadyWrite>(
     recipient: &mut CsvRecipient<'_, O, M>,
     fault: ProfileFault,
@@ -86,7 +86,8 @@ fn end_early<O: SteadyWrite, M: SteadyWrite>(
     }
 }
 
-/// Returns the fault of the writer that was written to last.
+/// Returns the fault of the writer that was written to last, which is the one that stopped: the list's if `wrote_list`,
+/// otherwise the CSV's.
 fn fault_of(wrote_list: bool) -> CsvFault
     ensures { result ≡ stopped_writer wrote_list }
 {

@@ -18,7 +18,8 @@ use droid_frame::{HashKind, Record, SteadyWrite, WriteFault};
 use droid_pronom::Registry;
 use std::alloc::{AllocError, Global};
 
-/// So many bytes are pending before they are written, in rows and lines that are whole.
+/// Rows are written once this many bytes of them are pending, and then all of them; so are lines. `IsFew` of the
+/// definitions has the number too, and the prover compares both.
 const PENDING: usize = 65_536;
 
 /// Writes records as CSV, and the checksums of files as a list.
@@ -63,7 +64,8 @@ impl<'a, O, M> CsvRecipient<'a, O, M> {
 }
 
 impl<O: SteadyWrite, M: SteadyWrite> CsvRecipient<'_, O, M> {
-    /// Begins anew, with the names of the columns. Fails only if memory runs out.
+    /// Begins anew, with the names of the columns pending, as they are for this kind of hash. Fails only if memory runs
+    /// out; nothing is promised of the rows and lines then.
     pub(crate) fn begin(&mut self, alloc: Global, hash: HashKind) -> Result<(), AllocError>
         ensures rows { OnOk result (self.new.rows ≡ row_text (header hash)) }
         ensures lines { OnOk result (self.new.lines.items ≡ []) }
@@ -78,7 +80,7 @@ impl<O: SteadyWrite, M: SteadyWrite> CsvRecipient<'_, O, M> {
         Ok(())
     }
 
-    /// Adds the rows and the line of a record. If memory runs out, nothing changes.
+    /// Adds the rows and the line of a record to what is pending. If memory runs out, nothing changes.
     fn add(&mut self, next: &Record) -> Result<(), AllocError>
         requires { IsTrue (is_moment next.now.modified) }
         ensures added { OnOk result (Takes O.contents O.seen M.contents M.seen self.old next.now self.new) }
@@ -95,7 +97,8 @@ impl<O: SteadyWrite, M: SteadyWrite> CsvRecipient<'_, O, M> {
         }
     }
 
-    /// Adds the line of a record, if a list is wanted.
+    /// Adds the line of a record, if a list is wanted: nothing for a folder, or without a hash. If memory runs out,
+    /// nothing changes.
     fn add_line(&mut self, next: &Record) -> Result<(), AllocError>
         ensures same { self.new ≡ record self.old { lines = self.new.lines } }
         ensures added { OnOk result
@@ -109,7 +112,8 @@ impl<O: SteadyWrite, M: SteadyWrite> CsvRecipient<'_, O, M> {
         }
     }
 
-    /// Writes the rows and the lines if enough of them are pending.
+    /// Writes the rows if 64 KiB of them are pending, and then the lines if as many of those are. After an error
+    /// `wrote_list` says which writer stopped.
     fn write_full(&mut self) -> Result<(), WriteFault>
         ensures ok { OnOk result (GoesOn O.contents O.seen M.contents M.seen self.old [] [] self.new) }
         ensures few { OnOk result (IsFew self.new) }
@@ -120,7 +124,7 @@ impl<O: SteadyWrite, M: SteadyWrite> CsvRecipient<'_, O, M> {
         self.write_full_lines()
     }
 
-    /// Writes the rows that wait, once there are 64 KiB of them.
+    /// Writes the rows that are pending, once there are 64 KiB of them.
     fn write_full_rows(&mut self) -> Result<(), WriteFault>
         ensures ok { OnOk result (GoesOn O.contents O.seen M.contents M.seen self.old [] [] self.new) }
         ensures few { OnOk result (length self.new.rows < 65536) }
@@ -133,7 +137,7 @@ impl<O: SteadyWrite, M: SteadyWrite> CsvRecipient<'_, O, M> {
         self.write_rows()
     }
 
-    /// Writes the lines of the list that wait, once there are 64 KiB of them.
+    /// Writes the lines of the list that are pending, once there are 64 KiB of them.
     #[tactic(auto, using(crate::proofs::FewPending::few_lines))]
     fn write_full_lines(&mut self) -> Result<(), WriteFault>
         ensures rows { self.new.rows ≡ self.old.rows }
@@ -148,7 +152,8 @@ impl<O: SteadyWrite, M: SteadyWrite> CsvRecipient<'_, O, M> {
         self.write_list()
     }
 
-    /// Writes all rows that are pending.
+    /// Writes all rows that are pending, after which there are none. After an error part of them may be written, and
+    /// `wrote_list` is false.
     fn write_rows(&mut self) -> Result<(), WriteFault>
         ensures ok { OnOk result (GoesOn O.contents O.seen M.contents M.seen self.old [] [] self.new) }
         ensures emptied { OnOk result (self.new.rows ≡ []) }
@@ -160,7 +165,8 @@ impl<O: SteadyWrite, M: SteadyWrite> CsvRecipient<'_, O, M> {
         self.rows.write_to(&mut self.csv)
     }
 
-    /// Writes all lines that are pending.
+    /// Writes all lines that are pending, if there is a list. After an error part of them may be written, and
+    /// `wrote_list` is true.
     fn write_list(&mut self) -> Result<(), WriteFault>
         ensures rows { (self.new.csv ≡ self.old.csv) × (self.new.rows ≡ self.old.rows)
             × (self.new.registry.now ≡ self.old.registry.now) }
@@ -181,7 +187,8 @@ impl<O: SteadyWrite, M: SteadyWrite> CsvRecipient<'_, O, M> {
         }
     }
 
-    /// Writes all rows and lines that are pending.
+    /// Writes all rows and then all lines that are pending, at the end. Fails with the fault of the writer that
+    /// stopped; if the CSV's did, no line is written.
     pub(crate) fn write_rest(&mut self) -> Result<(), CsvFault>
         ensures ok { OnOk result (WritesRest O.contents O.seen M.contents M.seen self.old self.new) }
         ensures err { IfErr result (λ fault.
@@ -203,6 +210,8 @@ impl<O: SteadyWrite, M: SteadyWrite> Recipient for CsvRecipient<'_, O, M> {
 
     ghost fails = { λ old next fault new. Fails O.contents O.seen O.room M.contents M.seen M.room old next fault new };
 
+    // Adds the record to what is pending, and then writes that if it is enough. So after a fault of a writer the record
+    // was added; after `Memory` it was not.
     fn take(&mut self, next: &Record) -> Result<(), RecipientFault> {
         match self.add(next) {
             Ok(()) => {}

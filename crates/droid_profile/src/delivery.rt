@@ -24,7 +24,8 @@ use droid_frame::{Record, Reply};
 use droid_tree::{Skipped, Watcher};
 use std::alloc::{AllocError, Global};
 
-/// Hands these rows out, one after the other. Returns whether nothing was skipped, symbolic links aside.
+/// Hands these rows out, one after the other; `files` are those of the batch, and each was read. Returns whether
+/// nothing was skipped, symbolic links aside.
 pub(crate) fn hand_out<W: Watcher, R: Recipient>(
     alloc: Global,
     watcher: &mut W,
@@ -56,14 +57,16 @@ pub(crate) fn hand_out<W: Watcher, R: Recipient>(
     Ok(whole)
 }
 
-/// Returns whether both are true. A function, so that the proofs of the loops that call it do not split.
+/// Returns whether both are true. A function, so that the proofs of the loops that call it, here and in `profile`, do
+/// not split.
 pub(crate) fn both(first: bool, second: bool) -> bool
     ensures { result ≡ (first && second) }
 {
     first && second
 }
 
-/// Hands out one row.
+/// Hands out one row: its record to the recipient, if it has one, and then a report to the watcher. Returns false if it
+/// was skipped, unless as a symbolic link.
 fn hand_row<W: Watcher, R: Recipient>(
     alloc: Global,
     watcher: &mut W,
@@ -103,14 +106,14 @@ fn hand_row<W: Watcher, R: Recipient>(
     }
 }
 
-/// Returns whether something was skipped as a symbolic link.
+/// Returns whether something was skipped as a symbolic link, which leaves a profile whole.
 fn is_link(why: Skipped) -> bool
     ensures { result ≡ is_link_reason why }
 {
     why == Skipped::Link
 }
 
-/// Hands out a file, or reports why it was dropped.
+/// Hands out a file that was read, or reports why it was dropped. Returns false if it was dropped.
 fn hand_file<W: Watcher, R: Recipient>(
     alloc: Global,
     watcher: &mut W,
@@ -148,7 +151,7 @@ fn hand_file<W: Watcher, R: Recipient>(
     }
 }
 
-/// Gives a record to the recipient.
+/// Gives a record to the recipient. What it did with a record that it did not take, its own relation `fails` says.
 fn give<R: Recipient>(recipient: &mut R, shown: &Record) -> Result<(), ProfileFault>
     requires { IsTrue (is_moment shown.now.modified) }
     ensures taken { OnOk result (R.takes recipient.old shown.now recipient.new) }
@@ -161,7 +164,7 @@ fn give<R: Recipient>(recipient: &mut R, shown: &Record) -> Result<(), ProfileFa
     }
 }
 
-/// Returns what a service replies when it has finished the file: the watcher learns it in that form.
+/// Returns what a service replies when it has finished the file with this record: the watcher learns it in that form.
 fn reply_of(alloc: Global, shown: &Record) -> Result<Reply, AllocError>
     ensures { IfOk result (λ reply.
         reply ≡ replies.Finished shown.now.method shown.now.mismatch shown.now.hash shown.now.puids) }

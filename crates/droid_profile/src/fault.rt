@@ -14,6 +14,7 @@ pub enum ProfileFault {
     Recipient(RecipientFault),
 }
 
+// A call that runs out of memory ends the profiling with `Memory`, by `?` alone.
 impl From<AllocError> for ProfileFault {
     ghost use Rattle.std.specs.Prelude.{◌≡◌};
     ghost use Rattle.droid_profile.specs.declared.fault.ProfileFault.TheVariants.{Memory};

@@ -13,8 +13,8 @@ ghost use Rattle.droid_profile.specs.ProfileRecords.{records_of};
 ghost use Rattle.droid_profile.specs.Visits.{Follow, InTurn, IsVisit, Visit, numbers_of};
 ghost use Rattle.droid_profile.specs.declared.options.Options.{Options};
 
-/// A profile whose nodes are those of a tree's entries has exactly the records of these entries: of each folder and of
-/// each file, with its path, its hash and its formats.
+/// States that a profile whose nodes are those of a tree's entries has exactly the records of these entries: of each
+/// folder and of each file, with its path, its hash and its formats.
 pub fn a_tree_is_shown_as_its_profile()
     ensures { (registry : Contents) (setting : Setting) (options : Options) (visits : List Visit)
         (left : List PendingFolder) (nodes : List Node)
@@ -23,7 +23,7 @@ pub fn a_tree_is_shown_as_its_profile()
         → records setting (profile_with options nodes) ≡ records_of registry options visits }
 {}
 
-/// Each tree has such a profile.
+/// States that for each tree there are such nodes.
 pub fn each_tree_has_a_profile()
     ensures { (visits : List Visit) → AllByRecursion IsVisit visits
         → (nodes : List Node) × AreNodesOf (all_lying visits) nodes }

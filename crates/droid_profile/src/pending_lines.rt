@@ -1,4 +1,4 @@
-//! The lines of a list of checksums that are not written yet.
+//! The lines of a list of checksums that are not written yet: adds one, and writes them all.
 
 ghost use Rattle.std.specs.Prelude.{◌≡◌, ◌++◌, ◌<◌, ◌^◌, [], IfErr, OnErr, OnOk, length};
 ghost use Rattle.std.specs.Io.KnownBytes.{Appends};
@@ -10,7 +10,8 @@ use droid_fixity::add_line;
 use droid_frame::{Record, SteadyWrite, WriteFault, WriteState, write_all};
 use std::alloc::AllocError;
 
-/// Appends the line of a file. A folder has none. If memory runs out, nothing changes.
+/// Appends the line of the file with this record. A folder has none, and neither has a file without a hash. If memory
+/// runs out, nothing changes.
 pub(crate) fn add_file(lines: &mut Vec<u8>, shown: &Record) -> Result<(), AllocError>
     ensures added { OnOk result (lines.new.items ≡ lines.old.items ++ line_of shown.now) }
     ensures unchanged { OnErr result (lines.new.items ≡ lines.old.items) }
@@ -21,7 +22,8 @@ pub(crate) fn add_file(lines: &mut Vec<u8>, shown: &Record) -> Result<(), AllocE
     add_line(lines, shown.hash, shown.path.as_str())
 }
 
-/// Writes the lines, after which there are none. If not all can be written, they stay as they are.
+/// Writes the lines, after which there are none. If the writer stops, it has their first bytes, and `lines` stay as
+/// they are.
 pub(crate) fn write_lines<M: SteadyWrite>(
     writer: &mut M,
     lines: &mut Vec<u8>,
@@ -41,7 +43,8 @@ pub(crate) fn write_lines<M: SteadyWrite>(
     Ok(())
 }
 
-/// Writes a text, or as much of it as the writer takes.
+/// Writes a text. After an error the writer has its first bytes, and `fault.written` says how many; an interrupted
+/// write is tried again, up to 64 times.
 fn write_text<M: SteadyWrite>(writer: &mut M, bytes: &[u8]) -> Result<(), WriteFault>
     requires { length bytes.now < 2 ^ 64 }
     ensures ok { OnOk result (Appends (M.contents writer.old) (M.contents writer.new) bytes.now) }

@@ -1,4 +1,4 @@
-//! The profile of a tree.
+//! Profiles a tree, batch by batch.
 
 ghost use Rattle.std.specs.Prelude.{◌≡◌, ◌≤◌, ◌&&◌, [], Bool, IfErr, IfOk, OnOk, length};
 ghost use Rattle.std.specs.List.{AllByRecursion};
@@ -64,7 +64,8 @@ pub fn profile<T: Tree, W: Watcher, R: Recipient>(
     }
 }
 
-/// Reads the files of a batch, and hands its rows out.
+/// Reads the files of a batch, hands its rows out, and leaves both lists empty for the next batch. Returns whether
+/// nothing was skipped, symbolic links aside. After an error nothing is promised of `rows` and `batch`.
 fn settle<T: Tree, W: Watcher, R: Recipient>(
     profiler: &mut Profiler<T, W, R>,
     registry: &Registry,

@@ -1,5 +1,5 @@
--- For proofs: how a file is identified from its first and last bytes, and the flags that the steps return for each
--- format.
+-- For inner clauses and proofs: how a file is identified from its first and last bytes, and the flags that the steps
+-- return for each format.
 use Rattle.std.specs.Prelude.{◌≡◌, ◌↔◌, ℕ, Bool, true, not, ◌&&◌, List, [], ◌∷◌, Some, slice_get}
 use Rattle.droid_pattern.specs.Patterns.{BeginsWithin, EndsWithin}
 use Rattle.droid_pronom.specs.declared.rows.Anchor.{Anchor}

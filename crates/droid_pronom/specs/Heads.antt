@@ -1,4 +1,4 @@
--- The bytes at one offset without one of which a signature does not hit.
+-- For inner clauses and proofs: the offset at which a signature needs one of some bytes, or else does not hit.
 use Rattle.std.specs.Prelude.{◌≡◌, List, [], ◌∷◌, Option, Some, None, ⊤}
 use Rattle.droid_pattern.specs.FirstBytes.{AreFirst}
 use Rattle.droid_pronom.specs.declared.head.Head.{Head}

@@ -1,4 +1,4 @@
--- For proofs: what the calls that add one record promise, in the code's own types.
+-- For inner clauses and proofs: what the calls that add one record promise, in the code's own types.
 use Rattle.std.specs.Prelude.{◌≡◌, ℕ, List, None, Result, Ok, Err, ⊤}
 use Rattle.csv.specs.declared.error.ErrorKind.{ErrorKind}
 use Rattle.csv.specs.declared.error.ErrorKind.TheVariants as csv

@@ -1,4 +1,4 @@
--- For proofs: the fields of a registry and its contents.
+-- For inner clauses and proofs: the fields of a registry and its contents.
 use Rattle.std.specs.Prelude.{◌≡◌, ℕ, ◌↔◌, List, length, Some, slice_get, true}
 use Rattle.std.specs.BTreeMap.{get_by_text}
 use Rattle.droid_pronom.specs.Registry.{Contents, IsRegistry, IsSigned, place_of}

@@ -1,4 +1,6 @@
 //! Checks and reads single fields of a registry file's records.
+//!
+//! The limits stand in `specs/RegistryFields.antt` too, and the prover ties them; docs/REGISTRY.md has them for users.
 
 ghost use Rattle.std.specs.Prelude.{◌≡◌};
 ghost use Rattle.std.specs.Char.{is_ascii_digit};
@@ -14,7 +16,7 @@ pub fn is_puid(text: &str) -> bool
     has_bytes(text, 1, 32) && are_puid_bytes(text)
 }
 
-/// Returns whether a text has only ASCII letters, digits, `/` and `-`.
+/// Returns whether a text has only ASCII letters, digits, `/` and `-`, as a PUID; the empty text too.
 fn are_puid_bytes(text: &str) -> bool
     ensures { result ≡ list_all field.is_puid_byte text.now }
 {
@@ -22,7 +24,7 @@ fn are_puid_bytes(text: &str) -> bool
         .all(|c| c.is_ascii_alphanumeric() || c == b'/' || c == b'-')
 }
 
-/// Returns whether a text has `least` to `most` bytes.
+/// Returns whether a text has `least` to `most` bytes, both included.
 fn has_bytes(text: &str, least: usize, most: usize) -> bool
     ensures { result ≡ field.has_bytes least most text.now }
 {
@@ -36,7 +38,7 @@ pub(crate) fn is_name(text: &str) -> bool
     has_bytes(text, 1, 255)
 }
 
-/// Returns whether the text may be a version or a media type: at most 255 bytes.
+/// Returns whether the text may be a version or a media type: at most 255 bytes, perhaps none.
 pub(crate) fn is_note(text: &str) -> bool
     ensures { result ≡ field.is_note text.now }
 {
@@ -50,14 +52,14 @@ pub(crate) fn is_extension(text: &str) -> bool
     has_bytes(text, 1, 64) && are_extension_bytes(text)
 }
 
-/// Returns whether a text has no dot and no slash.
+/// Returns whether a text has no dot and no slash, as an extension; the empty text too.
 fn are_extension_bytes(text: &str) -> bool
     ensures { result ≡ list_all field.is_extension_byte text.now }
 {
     text.bytes().all(|c| c != b'.' && c != b'/')
 }
 
-/// Reads a number of 1 to 5 decimal digits, at most 65,535.
+/// Reads a number of 1 to 5 decimal digits, at most 65,535. Returns `None` for any other text.
 pub(crate) fn number_of(text: &str) -> Option<u16>
     ensures { result ≡ field.number_of text.now }
 {
@@ -68,14 +70,14 @@ pub(crate) fn number_of(text: &str) -> Option<u16>
     }
 }
 
-/// Returns whether a text has only ASCII digits.
+/// Returns whether a text has only ASCII digits; the empty text too.
 fn are_digits(text: &str) -> bool
     ensures { result ≡ list_all is_ascii_digit text.now }
 {
     text.bytes().all(|c| c.is_ascii_digit())
 }
 
-/// Reads the anchor of a byte sequence: `BOF` or `EOF`.
+/// Reads the anchor of a byte sequence: `BOF` or `EOF`. Returns `None` for any other text.
 pub(crate) fn anchor_of(text: &str) -> Option<Anchor>
     ensures { result ≡ field.anchor_of text.now }
 {
@@ -88,7 +90,8 @@ pub(crate) fn anchor_of(text: &str) -> Option<Anchor>
     }
 }
 
-/// Reads the three fields that say where a byte sequence may match. `min` must not exceed `max`.
+/// Reads the three fields that say where a byte sequence may match. Returns `None` if one of them is not of its form,
+/// or if `min` exceeds `max`.
 pub fn offsets_of(anchor: &str, min: &str, max: &str) -> Option<Offsets>
     ensures { result ≡ field.offsets_of anchor.now min.now max.now }
 {

@@ -1,4 +1,4 @@
-//! The bytes of which a signature needs one at one offset.
+//! The bytes of which a signature needs one at one offset: a quick test that passes over most signatures.
 
 ghost use Rattle.std.specs.Prelude.{◌↔◌, ◌<◌, IfSome, IsTrue, length, slice_index};
 ghost use Rattle.droid_pronom.specs.Heads.{IsHeadOf};
@@ -35,7 +35,8 @@ impl Head {
         }
     }
 
-    /// Returns whether one of the bytes stands at their offset in these bytes.
+    /// Returns whether one of the bytes stands at their offset in `first`, the file's first bytes. If these end before
+    /// it, none does.
     pub(crate) fn is_in(self, first: &[u8]) -> bool
         ensures { IsTrue result
             ↔ ((self.offset < length first.now) × Has self.bytes (slice_index first.now self.offset)) }

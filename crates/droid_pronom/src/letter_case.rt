@@ -1,4 +1,4 @@
-//! Converts letters to lower case.
+//! Converts ASCII letters to lower case: extensions are compared so.
 
 ghost use Rattle.std.specs.Prelude.{◌≡◌, IfOk};
 ghost use Rattle.std.specs.Str.{str_to_ascii_lowercase};

@@ -1,4 +1,5 @@
-//! The rows of a registry's tables. A row names a format by its place in the registry, counted from 0.
+//! The rows of a registry's tables: extensions, priorities, and signatures with their byte sequences. A row names a
+//! format by its place in the registry, counted from 0.
 
 ghost use Rattle.std.specs.Prelude.{◌≡◌, ◌++◌, ◌∷◌, [], ℕ, List, IsTrue, IfOk, OnOk, OnErr};
 ghost use Rattle.std.specs.List.{AllByRecursion};
@@ -70,7 +71,7 @@ impl Model for Signature {
 }
 
 impl Signature {
-    /// Makes a signature with its first byte sequence. Fails only if memory runs out.
+    /// Makes a signature of the format at `place` with its first byte sequence. Fails only if memory runs out.
     pub fn new(alloc: Global, place: u32, first: ByteSequence) -> Result<Signature, AllocError>
         ensures { IfOk result (λ signature. signature ≡ record { place = place; sequences = first ∷ [] }) }
     {
@@ -84,7 +85,8 @@ impl Signature {
         })
     }
 
-    /// Adds a byte sequence. Fails only if memory runs out, and then leaves the signature as it was.
+    /// Adds a byte sequence, after the others; all have to hit. Fails only if memory runs out, and then leaves the
+    /// signature as it was.
     pub fn push(&mut self, sequence: ByteSequence) -> Result<(), AllocError>
         ensures ok { OnOk result (self.new ≡ record self.old { sequences = self.old.sequences ++ sequence ∷ [] }) }
         ensures err { OnErr result (self.new ≡ self.old) }
@@ -100,8 +102,8 @@ impl Signature {
         self.place
     }
 
-    /// Returns whether a byte among the file's first bytes shows that not all byte sequences hit. Only `true` promises
-    /// anything: it spares the search for matches.
+    /// Returns whether a byte among `first`, the file's first bytes, shows that not all byte sequences hit. Only `true`
+    /// promises anything: it spares the search for matches.
     pub(crate) fn is_ruled_out(&self, first: &[u8]) -> bool
         ensures { IsTrue result → (last : List ℕ) → AllByRecursion (HitsWindows first.now last) self.now.sequences → ⊥ }
     {

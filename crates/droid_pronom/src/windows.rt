@@ -16,7 +16,8 @@ use crate::steps::puids::{is_any_set, puids_of};
 use droid_frame::{Method, Texts};
 use std::alloc::{AllocError, Global};
 
-/// Returns, for each format, whether it hits and priority leaves it.
+/// Returns, for each format, a flag: whether it hits in the windows `first` and `last`, and no format that hits has
+/// priority over it.
 fn left_formats(
     alloc: Global,
     registry: &Registry,
@@ -37,7 +38,8 @@ fn left_formats(
     unbeaten(alloc, hit.as_slice(), beaten.as_slice())
 }
 
-/// Returns the PUIDs of the formats that the extension names. `wanted` is the extension in lower case.
+/// Returns the PUIDs of the formats that the extension names, in the registry's order; none if it is empty. `wanted` is
+/// the extension in lower case. `match_all` lets it name formats that have a signature too.
 fn named_puids(
     alloc: Global,
     registry: &Registry,
@@ -60,7 +62,8 @@ fn named_puids(
     puids_of(alloc, registry.formats(), named.as_slice())
 }
 
-/// Identifies a file: by the signatures that hit in its first and last bytes, or else by the extension of its name.
+/// Does the work of `Registry::identify`, for windows of any length: identifies a file by the signatures that hit in
+/// its first and last bytes, or else by the extension of its name.
 pub(crate) fn identify_windows(
     alloc: Global,
     registry: &Registry,

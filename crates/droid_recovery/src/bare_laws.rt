@@ -1,4 +1,5 @@
-//! Laws of bare worlds. Each is the contract of a function that does nothing, and is proved with it.
+//! Laws of bare worlds, in which some files have no bytes: what judging a request comes to there. Each is the contract
+//! of a function that does nothing, and is proved with it.
 
 ghost use Rattle.std.specs.Prelude.{◌≡◌, ◌++◌, ◌∷◌, ℕ, List, true, false};
 ghost use Rattle.droid_recovery.specs.BareFiles.{FinishesBare};

@@ -13,7 +13,9 @@ use crate::revival_fault::RecoveryFault;
 use droid_core::{Holdings, Stamp, entry_of};
 use droid_frame::Reply;
 
-/// Keeps the reply to a piece of a bare file.
+/// Keeps the reply to a piece of a bare file, under the piece's stamp. `Memory` if memory runs out; `Unfit` if a reply
+/// is kept under this number, the number is 2^63 or more, or the store refuses the reply. What the holdings have of the
+/// file stays as it is; whether they have such a file is not looked at, since the frame does not say which one it is.
 pub fn recover_piece(
     holdings: &mut Holdings,
     stamp: Stamp,

@@ -23,7 +23,9 @@ use droid_core::{
 use droid_frame::{Filter, Refusal, Reply, Request};
 
 /// Handles an accepted command that needs no bytes of a bare file, or one that came again, and returns its reply. It is
-/// the one that the command got, or says that memory ran out.
+/// the one that the command got, or says that memory ran out. A number of 2^63 or more is refused as Malformed. Any
+/// other request is answered as droid_core does, under a used number with NumberReused, but a query under a new number
+/// with Malformed.
 pub fn recover_command(holdings: &mut Holdings, stamp: Stamp, request: Request) -> Reply
     requires version { IsVersion stamp.version }
     ensures recovers { (setting : Setting) (bare : Bare) (history : History) (entry : Accepted)
@@ -50,7 +52,8 @@ pub fn recover_command(holdings: &mut Holdings, stamp: Stamp, request: Request) 
     }
 }
 
-/// Judges a command under a new number, and carries it out if it is accepted.
+/// Judges a command under a new number, and carries it out if it is accepted, by the calls of droid_core. A query is
+/// refused as Malformed, as no journal has one.
 fn apply(holdings: &mut Holdings, stamp: Stamp, request: Request) -> Result<Reply, Refusal>
     requires new { reply_for stamp.client stamp.number holdings.old.store ≡ None }
     requires small { stamp.number < 2 ^ 63 }

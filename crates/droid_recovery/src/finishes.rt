@@ -21,7 +21,9 @@ use droid_core::{Holdings, Stamp, entry_of};
 use droid_frame::{HashValue, Reply, Texts};
 use droid_store::{Entry, Store};
 
-/// Finishes a bare file: what was found is taken from the reply.
+/// Finishes a bare file: keeps the reply, with what it says was found, and then drops the file's assembly, which takes
+/// no memory. `Memory` if memory runs out; `Unfit` if a reply is kept under this number, the number is 2^63 or more,
+/// the file is not an unfinished one, or the reply is no Finished that fits it.
 pub fn recover_finish(
     holdings: &mut Holdings,
     stamp: Stamp,
@@ -53,7 +55,8 @@ pub fn recover_finish(
     Ok(())
 }
 
-/// Keeps the reply to the Finish of a file, and what it says was found.
+/// Keeps the reply to the Finish of a file, and what it says was found, in one commit. `entry` is the row of this
+/// reply. `Unfit` if it is no Finished, or [`see_file`] or the store says so; `Memory` if memory runs out.
 fn keep_reply(
     store: &mut Store,
     entry: &Entry,
@@ -88,7 +91,8 @@ fn keep_reply(
     }
 }
 
-/// Checks that the file is unfinished, and that the store can keep this hash and these identifiers of it.
+/// Checks that the file is unfinished, that the hash is of its profile's kind, and that the identifiers are words, so
+/// that the store can keep them. `Unfit` if not; `Memory` if a look-up fails.
 #[tactic(auto, using(crate::proofs::WordLists::words_of, crate::proofs::WordLists::words_seen))]
 fn see_file(
     store: &mut Store,

@@ -1,4 +1,9 @@
-//! Reading bare frames, which droid_compaction writes in the place of the frames of a bare file's requests.
+//! Reading bare frames, which droid_compaction writes in the place of the frames of a bare file's requests. A body
+//! begins with what is left of the request, the mark of a piece or the body of a Finish, and ends with the body of the
+//! reply.
+//!
+//! In the clauses 5 is `FINISH`, 131 `TAKEN` and 132 `FINISHED` of droid_frame's `kinds`, and 16 is `MARK`; the prover
+//! ties them.
 
 ghost use Rattle.std.specs.Prelude.{◌≡◌, ◌++◌, ℕ, IfOk, MatchResult, length};
 ghost use Rattle.droid_core.specs.Changes.{stamp_of};
@@ -14,10 +19,12 @@ use droid_frame::kinds::{FINISH, FINISHED, TAKEN};
 use droid_frame::{Blob, BodyFault, Frame, Reply, mark, reply_of};
 use std::alloc::Global;
 
-/// How many bytes a mark has.
+/// How many bytes a mark has, which is an MD5. It stands in front of a bare piece's body: the prover ties it to
+/// `bare_piece` of droid_compaction.
 const MARK: usize = 16;
 
-/// How many bytes the body of a Finish has.
+/// How many bytes the body of a Finish has: the numbers of a profile and a file, four bytes each. It stands in front of
+/// a bare Finish's body, as `bare_finish` of droid_compaction has it.
 const FINISH_BODY: usize = 8;
 
 /// A bare piece.
@@ -42,7 +49,7 @@ pub(crate) struct BareFinish {
     pub(crate) reply: Reply,
 }
 
-/// Reads a bare piece. `Unfit`: its body is not a mark and then that of a Taken.
+/// Reads a bare piece. `Unfit`: its body is not a mark and then that of a Taken. `Memory`: memory ran out.
 pub(crate) fn read_piece(alloc: Global, frame: &Frame) -> Result<BarePiece, RecoveryFault>
     ensures stamp { IfOk result (λ it. it.stamp.version ≡ frame.now.version) }
     ensures reply { IfOk result (λ it. HasReplySpelling frame.now.version it.reply × (reply_kind it.reply ≡ 131)) }
@@ -68,7 +75,8 @@ pub(crate) fn read_piece(alloc: Global, frame: &Frame) -> Result<BarePiece, Reco
     }
 }
 
-/// Reads a bare Finish. `Unfit`: its body is not the numbers of a profile and a file and then the body of a Finished.
+/// Reads a bare Finish; its mark is computed from the body of the Finish in front. `Unfit`: its body is not the numbers
+/// of a profile and a file and then the body of a Finished. `Memory`: memory ran out.
 pub(crate) fn read_finish(alloc: Global, frame: &Frame) -> Result<BareFinish, RecoveryFault>
     ensures stamp { IfOk result (λ it. it.stamp.version ≡ frame.now.version) }
     ensures reply { IfOk result (λ it. HasReplySpelling frame.now.version it.reply × (reply_kind it.reply ≡ 132)) }
@@ -103,7 +111,8 @@ pub(crate) fn read_finish(alloc: Global, frame: &Frame) -> Result<BareFinish, Re
     }
 }
 
-/// Reads the body of a reply of this kind, in the frame's version.
+/// Reads the body of a reply of this kind from `bytes`, a part of the frame's body, in the frame's version. `Unfit`:
+/// they spell none. `Memory`: memory ran out for a copy of them, or for the reply.
 fn read_reply(alloc: Global, frame: &Frame, kind: u8, bytes: &[u8]) -> Result<Reply, RecoveryFault>
     ensures found { IfOk result (λ it. HasReplySpelling frame.now.version it × (reply_kind it ≡ kind)) }
     ensures its { (reply : ReplyValue) → SpellsReply frame.now.version kind bytes.now reply
@@ -126,7 +135,7 @@ fn read_reply(alloc: Global, frame: &Frame, kind: u8, bytes: &[u8]) -> Result<Re
     }
 }
 
-/// Returns these 16 bytes as a mark.
+/// Returns these bytes, which are 16, as a mark.
 fn mark_in(bytes: &[u8]) -> [u8; MARK]
     requires { length bytes.now ≡ 16 }
     ensures { result ≡ bytes.now }
@@ -136,7 +145,7 @@ fn mark_in(bytes: &[u8]) -> [u8; MARK]
     mark
 }
 
-/// Reads a big-endian number of four bytes.
+/// Reads a big-endian number of four bytes, which are all of `bytes`.
 fn number_in(bytes: &[u8]) -> u32
     requires { length bytes.now ≡ 4 }
     ensures { (number : ℕ) → bytes.now ≡ u32_bytes number → IsU32 number → result ≡ number }

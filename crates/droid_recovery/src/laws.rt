@@ -1,4 +1,5 @@
-//! Laws of recovery. Each is the contract of a function that does nothing, and is proved with it.
+//! Laws of holdings that are recovered from records: at the beginning, and once all bare files have ended. Each is the
+//! contract of a function that does nothing, and is proved with it.
 
 ghost use Rattle.std.specs.Prelude.{◌≡◌, []};
 ghost use Rattle.droid_recovery.specs.BareWorlds.{Bare, HaveEnded};

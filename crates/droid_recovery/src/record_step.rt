@@ -1,4 +1,7 @@
-//! Handling the frame of one record, by its kind.
+//! Handling the frame of one record of a journal, by its kind: a bare piece, a bare Finish, or a whole request.
+//!
+//! In the clauses 68 is `BARE_PIECE` and 69 `BARE_FINISH` of droid_compaction; its law `a_bare_frame_spells_no_request`
+//! ties them.
 
 ghost use Rattle.std.specs.Prelude.{◌≡◌, ◌≢◌, ℕ, true};
 ghost use Rattle.droid_core_spec.specs.MemoryFaults.{is_out_of_memory};
@@ -16,7 +19,9 @@ use droid_compaction::{BARE_FINISH, BARE_PIECE};
 use droid_core::{Holdings, Stamp};
 use droid_frame::{BodyFault, Frame, Refusal, Reply, request_of};
 
-/// Handles the frame of a record, whose mark this is. Refuses a frame that no record can have.
+/// Handles the frame of a record, whose mark this is, and returns the reply that belongs to it. The reply is a refusal
+/// only where no service could have accepted such a request here, or where memory runs out. Not each such request is
+/// refused: a bare piece does not say of which file it is.
 pub(crate) fn take(holdings: &mut Holdings, frame: Frame, mark: [u8; 16]) -> Reply
     requires readable { IsReadable frame }
     requires mark { mark ≡ mark_of frame.kind frame.body }
@@ -29,7 +34,8 @@ pub(crate) fn take(holdings: &mut Holdings, frame: Frame, mark: [u8; 16]) -> Rep
     }
 }
 
-/// Handles the frame of a request whose bytes are all there.
+/// Handles the frame of a request whose bytes are all there, by [`recover_command`]. A frame that spells no request is
+/// refused as Malformed; Memory if memory runs out for the request.
 fn take_whole(holdings: &mut Holdings, frame: Frame, mark: [u8; 16]) -> Reply
     requires readable { IsReadable frame }
     requires mark { mark ≡ mark_of frame.kind frame.body }
@@ -50,7 +56,8 @@ fn take_whole(holdings: &mut Holdings, frame: Frame, mark: [u8; 16]) -> Reply
     }
 }
 
-/// Handles a bare piece.
+/// Handles a bare piece, kind 68: returns the reply that its frame has, after it was kept. If the frame can't be read,
+/// or the reply not be kept, returns the refusal of [`refused`].
 fn take_piece(holdings: &mut Holdings, frame: &Frame) -> Reply
     requires readable { IsReadable frame.now }
     requires kind { frame.now.kind ≡ 68 }
@@ -66,7 +73,8 @@ fn take_piece(holdings: &mut Holdings, frame: &Frame) -> Reply
     }
 }
 
-/// Handles a bare Finish.
+/// Handles a bare Finish, kind 69: returns the reply that its frame has, after it was kept with what it says was found.
+/// If the frame can't be read, or the reply not be kept, returns the refusal of [`refused`].
 fn take_finish(holdings: &mut Holdings, frame: &Frame) -> Reply
     requires readable { IsReadable frame.now }
     requires kind { frame.now.kind ≡ 69 }
@@ -87,7 +95,8 @@ fn take_finish(holdings: &mut Holdings, frame: &Frame) -> Reply
     }
 }
 
-/// Returns the refusal for a fault.
+/// Returns the refusal for a fault: Memory for `Memory`, Malformed for `Unfit`. No client gets it: opening the journal
+/// fails by it.
 fn refused(fault: RecoveryFault) -> Reply
     ensures refused { is_refused result ≡ true }
     ensures memory { fault ≡ RecoveryFault.Memory → is_out_of_memory result ≡ true }

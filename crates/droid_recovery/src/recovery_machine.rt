@@ -24,13 +24,15 @@ use droid_store::{Store, StoreFault};
 use std::alloc::{AllocError, Global};
 use std::num::NonZeroUsize;
 
-/// The machine that reads a journal that was made small. It gives each record's request the reply of that record, and
-/// refuses any other request.
+/// The machine that reads a journal that was made small. It gives the request of each record that such a journal can
+/// have the reply of that record, or says that memory ran out. Not every other request is refused: opening, in
+/// `replay.rt` of droid_journal, compares the reply with the record's.
 pub struct RecoveringMachine {
     holdings: Holdings,
 }
 
-// Written by hand, so that the crates above do not prove again how each part is dropped.
+// Frees its one field, as a derived `Drop` would. Written by hand, so that the crates above do not prove again how each
+// part is dropped. No clause says more.
 impl Drop for RecoveringMachine {
     fn drop(self) {
         let RecoveringMachine {
@@ -40,8 +42,8 @@ impl Drop for RecoveringMachine {
 }
 
 impl RecoveringMachine {
-    /// Makes a machine that has read nothing yet, for a service with this registry and these limits. Fails only if
-    /// memory runs out.
+    /// Makes a machine that has read nothing yet, for a service with this registry and these limits, which are at most
+    /// those of `Limits` in droid_core; its `AreAllowed` ties the numbers. Fails only if memory runs out.
     pub fn new(
         alloc: Global,
         registry: Registry,
@@ -92,6 +94,8 @@ impl Machine for RecoveringMachine {
 
     ghost gives = { standing.GivesReply };
 
+    /// Handles the frame of the next record, whose mark this is. It is accepted if its reply is no refusal: a journal
+    /// has accepted requests alone.
     fn handle(&mut self, frame: Frame, mark: [u8; 16]) -> Handled {
         let reply = take(&mut self.holdings, frame, mark);
         let accepted = accepts(&reply);
@@ -99,7 +103,7 @@ impl Machine for RecoveringMachine {
     }
 }
 
-/// Returns whether a reply is no refusal.
+/// Returns whether a reply is no refusal, so that its request may stand in a journal.
 fn accepts(reply: &Reply) -> bool
     ensures { result ≡ not (is_refused reply.now) }
 {

@@ -12,7 +12,8 @@ use droid_core::Stamp;
 use droid_frame::{HashValue, NUMBER_LIMIT, Text, Texts};
 use droid_store::{Entry, NodeState, Store, StoreFault};
 
-/// Returns the row of the reply that is kept under the number of this stamp. `Unfit`: the number is not below 2^63.
+/// Returns the row of the reply that is kept under the client and number of this stamp, or `None` if there is none.
+/// `Unfit`: the number is not below 2^63. `Memory`: memory ran out.
 pub(crate) fn kept_row(store: &mut Store, stamp: Stamp) -> Result<Option<Entry>, RecoveryFault>
     ensures same { store.new ≡ store.old }
     ensures found { IfOk result (λ row. row ≡ reply_for stamp.client stamp.number store.old) }
@@ -28,7 +29,8 @@ pub(crate) fn kept_row(store: &mut Store, stamp: Stamp) -> Result<Option<Entry>,
     }
 }
 
-/// Checks that no reply is kept under the number of this stamp, and that the number is below 2^63.
+/// Checks that no reply is kept under the client and number of this stamp, and that the number is below 2^63. `Unfit`
+/// if not; `Memory` if memory runs out.
 pub(crate) fn see_new(store: &mut Store, stamp: Stamp) -> Result<(), RecoveryFault>
     ensures same { store.new ≡ store.old }
     ensures new { OnOk result (reply_for stamp.client stamp.number store.old ≡ None) }
@@ -46,7 +48,8 @@ pub(crate) fn see_new(store: &mut Store, stamp: Stamp) -> Result<(), RecoveryFau
     }
 }
 
-/// Returns whether this profile's files have hashes of the kind of this one.
+/// Returns whether there is this profile, and its files have hashes of the kind of this one. Fails only if memory runs
+/// out.
 pub(crate) fn is_of_kind(
     store: &mut Store,
     profile: u32,
@@ -63,7 +66,7 @@ pub(crate) fn is_of_kind(
     }
 }
 
-/// Returns whether this profile has an unfinished file with this number.
+/// Returns whether this profile has an unfinished file with this number. Fails only if memory runs out.
 pub(crate) fn is_open(store: &mut Store, profile: u32, file: u32) -> Result<bool, StoreFault>
     ensures same { store.new ≡ store.old }
     ensures found { IfOk result (λ it. IsTrue it ↔ IsOpen profile file store.old) }
@@ -76,14 +79,15 @@ pub(crate) fn is_open(store: &mut Store, profile: u32, file: u32) -> Result<bool
     }
 }
 
-/// Returns whether each text is a word: not empty and without a space.
+/// Returns whether each text is a word: not empty and without a space. The store keeps identifiers in one text with
+/// spaces between them.
 pub(crate) fn are_words(texts: &Texts) -> bool
     ensures { result ≡ list_all is_word texts.now }
 {
     are_all_words(texts.as_slice())
 }
 
-/// Does the work of [`are_words`].
+/// Does the work of [`are_words`], on a slice.
 fn are_all_words(texts: &[Text]) -> bool
     ensures { result ≡ list_all is_word texts.now }
 {
@@ -106,7 +110,7 @@ fn is_word(text: &str) -> bool
     false
 }
 
-/// Returns whether bytes have a space.
+/// Returns whether bytes have a space, which is 32.
 fn has_space(bytes: &[u8]) -> bool
     ensures { result ≡ list_any (λ byte. byte == 32) bytes.now }
 {

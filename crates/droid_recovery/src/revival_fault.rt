@@ -1,4 +1,4 @@
-//! Why a request could not be recovered.
+//! `RecoveryFault`: why a request could not be recovered from a record.
 
 ghost use Rattle.std.specs.Prelude.{◌≡◌};
 
@@ -19,6 +19,7 @@ impl From<StoreFault> for RecoveryFault {
 
     ghost from_gives = { λ fault it. it ≡ of_store fault };
 
+    /// Reports a lack of memory as `Memory`, and whatever else the store refused as `Unfit`: no service accepted it.
     fn from(fault: StoreFault) -> RecoveryFault {
         match fault {
             StoreFault::Memory => RecoveryFault::Memory,

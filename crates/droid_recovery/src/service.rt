@@ -1,4 +1,4 @@
-//! The service of recovered holdings.
+//! The service that is made of recovered holdings, at the end of a journal.
 
 ghost use Rattle.std.specs.NonZero.{non_zero_usize_get};
 ghost use Rattle.std.specs.Prelude.{◌≡◌, IfOk};

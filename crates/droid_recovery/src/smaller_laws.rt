@@ -1,4 +1,5 @@
-//! Laws of smaller journals. Each is the contract of a function that does nothing, and is proved with it.
+//! Laws of making a journal smaller: its history stays. Each is the contract of a function that does nothing, and is
+//! proved with it.
 
 ghost use Rattle.std.specs.Prelude.{◌≡◌, [], ℕ, Bool, false, true, List};
 ghost use Rattle.droid_core_spec.specs.Histories.{History, world_of};

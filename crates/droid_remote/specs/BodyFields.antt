@@ -1,4 +1,4 @@
--- For proofs only: numbers inside a body.
+-- For inner clauses and proofs: numbers inside a body.
 use Rattle.std.specs.Prelude.{ℕ, List, take, drop}
 use Rattle.std.specs.Int.{w32, w64, from_be_bytes}
 

@@ -1,4 +1,4 @@
--- For proofs only: the number of a request, by its kind and body.
+-- For inner clauses and proofs: the number of a request, by its kind and body, as `Numbers` has it by what it asks.
 use Rattle.std.specs.Prelude.{ℕ, ◌==◌, if◌then◌else◌, List, ◌∷◌, ◌++◌, take, unwrap_or}
 use Rattle.droid_frame.specs.Fields.{u32_bytes}
 use Rattle.droid_remote.specs.BodyFields.{u32_in, u64_in}

@@ -1,4 +1,4 @@
--- For proofs only: tests of whether a body spells a request of a submission.
+-- For inner clauses and proofs: tests of whether a body spells a request of a submission (`Submitted`).
 use Rattle.std.specs.Prelude.{ℕ, ◌==◌, nat_le, nat_lt, ◌&&◌, if◌then◌else◌, Bool, false, List, length, drop}
 use Rattle.std.specs.Prelude.{slice_index}
 use Rattle.std.specs.Str.{is_utf8}

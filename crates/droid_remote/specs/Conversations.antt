@@ -30,6 +30,7 @@ AreAwaited at_end (Called (Failed attempt request why) ∷ deeds) = ⊥
 AreAwaited at_end (deed ∷ deeds) = AreAwaited at_end deeds
 
 module _ (client : ℕ) (name : List ℕ) where
+  -- the frame of a call's request, under its number
   abbrev pub frame_of_call : Call → Frame
   frame_of_call call = frame_of client name (attempt_of call) (request_of call)
 
@@ -43,6 +44,7 @@ module _ (client : ℕ) (name : List ℕ) where
       remember known (frame_of client name attempt request) reply
   known_behind known _ = known
 
+  -- what is known of it after these deeds
   abbrev pub known_after : KnownRequests → List Deed → KnownRequests
   known_after known [] = known
   known_after known (deed ∷ deeds) = known_after (known_behind known deed) deeds
@@ -56,6 +58,7 @@ module _ (client : ℕ) (name : List ℕ) where
       AreAwaited at_end deeds → IsTaken known facts events (frame_of client name 0 request)
   IsDone at_end known facts events _ deeds = Unit {0}
 
+  -- each of these deeds is done, given what is known after those before it
   abbrev pub AreDone : (at_end : Bool) → KnownRequests → List Fact → List Event → List Deed → Type 0
   AreDone at_end known facts events [] = Unit {0}
   AreDone at_end known facts events (deed ∷ deeds) =

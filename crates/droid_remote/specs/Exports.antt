@@ -63,6 +63,7 @@ module _ (client : ℕ) (name : List ℕ) (profile : ℕ) where
   abbrev pub part_frame : ℕ → Frame
   part_frame from = frame_of client name 0 (part_request profile from)
 
+  -- the frame asks for a part, at some offset
   abbrev pub IsPartFrame : Frame → Type 0
   IsPartFrame frame = (from : ℕ) × (frame ≡ part_frame from)
 

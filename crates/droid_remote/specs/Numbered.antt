@@ -10,6 +10,7 @@ abbrev pub request_at : ℕ → ℕ → Request → Frame
 request_at client number request =
     record { version = 2; kind = request_kind request; client = client; number = number; body = request_body 2 request }
 
--- the frame of a request in the submission of this name; `attempt` counts for an AddFile alone, and is 0 at first
+-- the frame of a request in the submission of this name; `attempt` counts for an AddFolder or AddFile alone, and is 0
+-- at first
 abbrev pub frame_of : (client : ℕ) → (name : List ℕ) → (attempt : ℕ) → Request → Frame
 frame_of client name attempt request = request_at client (number_of name attempt request) request

@@ -97,6 +97,7 @@ module _ (client : ℕ) (name : List ℕ) where
     pub answers : AnswersHere does known (profile_frame options) reply facts old new
 
   module _ (options : Options) where
+    -- the frame asks for a profile with one of the pairs
     abbrev pub IsOfPair : Frame → Type 0
     IsOfPair frame = (turn : ℕ) × (frame ≡ profile_frame (with_pair turn options))
 

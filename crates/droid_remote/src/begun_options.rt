@@ -1,4 +1,9 @@
-//! Finds out with which options a submission was begun.
+//! Finds out with which options a submission was begun: asks for its profile with each pair of hash and `match_all`, on
+//! the connection that stands.
+//!
+//! The clauses say what was written and read. No clause holds which fault an error is: the only caller
+//! (`droid_cmd_submit`) takes each one for "not found out". It is `Memory`, here or in the service; `Broken`, if no
+//! connection stands or it breaks; or `Stranger`, if another reply came. Asking stops at the first.
 
 ghost use Rattle.std.specs.Prelude.{◌≡◌, IfOk, IsSome, MatchResult};
 ghost use Rattle.droid_remote.specs.Answering.{IsReplyTo};
@@ -16,12 +21,13 @@ use droid_frame::{BodyFault, Frame, HashKind, Refusal, Reply, Request, reply_of}
 use droid_upload::Options;
 use std::alloc::Global;
 
-/// How many pairs there are of a hash and whether all formats are matched.
+/// How many pairs there are: each of the three kinds of hash, without and with `match_all`. [`with_pair`] has as many
+/// arms, and `Finds` the same number, which the prover ties.
 const PAIRS: u32 = 6;
 
 /// Returns the options that the submission of this name was begun with: these, with another hash or another
 /// `match_all`. To be called after the service refused a profile with `NumberReused`. Returns `None` if it refuses all
-/// pairs of them so: then the scan limit is another one.
+/// pairs of them so: then the scan limit is another one. A sender that was stopped fails with its own fault.
 ///
 /// Asks only on the connection that stands. On a new connection, a service that was restarted could make a profile with
 /// options that nobody asked for.
@@ -49,7 +55,8 @@ pub fn options_of<C: Connection>(
     Ok(found)
 }
 
-/// Asks for a profile with each pair, one after the other, until one is made. Returns its options.
+/// Asks for a profile with each pair, one after the other, until one is made. Returns its options, or `None` if the
+/// service refuses all pairs with `NumberReused`.
 fn try_pairs<C: Connection>(
     sender: &mut Sender<C>,
     options: Options,
@@ -71,7 +78,8 @@ fn try_pairs<C: Connection>(
     Ok(None)
 }
 
-/// Returns the options with the pair of this number, from 0 on.
+/// Returns the options with the pair of this number, 0 to 5: no hash, MD5, SHA-256, each first without and then with
+/// `match_all`. A greater number has the last pair.
 fn with_pair(turn: u32, options: Options) -> Options
     ensures { result ≡ with_pair turn options }
 {
@@ -85,7 +93,7 @@ fn with_pair(turn: u32, options: Options) -> Options
     }
 }
 
-/// Returns the options with another pair.
+/// Returns the options with this hash and `match_all` in the place of theirs. The other three stay.
 fn pair_of(options: Options, match_all: bool, hash: HashKind) -> Options
     ensures { result ≡ record options { match_all = match_all; hash = hash } }
 {
@@ -121,7 +129,8 @@ fn is_made<C: Connection>(sender: &mut Sender<C>, options: Options) -> Result<bo
     Ok(made)
 }
 
-/// Returns whether the reply is Made; if not, it must be the refusal NumberReused.
+/// Returns true for Made and false for the refusal NumberReused. A refusal because of memory is the fault `Memory`, any
+/// other reply `Stranger`.
 fn see_made(reply: Reply) -> Result<bool, TransferFault>
     ensures { IfOk result (λ made. IsVerdict made reply) }
 {
@@ -133,7 +142,8 @@ fn see_made(reply: Reply) -> Result<bool, TransferFault>
     }
 }
 
-/// Writes a frame on the connection that stands and reads its reply. Makes no new connection.
+/// Writes a frame on the connection that stands and reads its reply. Makes no new connection: if none stands, or it
+/// breaks, that is the fault `Broken`.
 fn ask_here<C: Connection>(
     in_flight: &mut InFlight<C>,
     frame: &Frame,
@@ -150,7 +160,8 @@ fn ask_here<C: Connection>(
     Ok(reply)
 }
 
-/// Writes a frame on the connection that stands.
+/// Writes a frame on the connection that stands. If none stands, nothing is written; if it breaks, none stands
+/// afterwards. Both are the fault `Broken`.
 fn write_here<C: Connection>(
     in_flight: &mut InFlight<C>,
     frame: &Frame,
@@ -171,7 +182,8 @@ fn write_here<C: Connection>(
     }
 }
 
-/// Reads the next frame on the connection that stands.
+/// Reads the next frame, behind [`write_here`], when a connection stands. If it breaks, none stands afterwards, and the
+/// fault is `Broken`.
 fn read_here<C: Connection>(in_flight: &mut InFlight<C>) -> Result<Frame, TransferFault>
     ensures { MatchResult result (λ came. ReadsHere C.does came in_flight.old in_flight.new) (λ _.
         ReadsNotHere C.does in_flight.old in_flight.new) }
@@ -185,7 +197,8 @@ fn read_here<C: Connection>(in_flight: &mut InFlight<C>) -> Result<Frame, Transf
     }
 }
 
-/// Reads the reply to a request from a frame.
+/// Reads the reply to the request `frame` from the frame `came`. It is the fault `Stranger` if that has another
+/// version, client or number, or spells no reply, and `Memory` if there is none to read it.
 fn reply_to(alloc: Global, frame: &Frame, came: Frame) -> Result<Reply, TransferFault>
     ensures { IfOk result (IsReplyTo frame.now came) }
 {

@@ -10,7 +10,8 @@ use crate::numbering::numbers::number_of;
 use droid_frame::{Blob, Frame, Request, request_frame};
 use std::alloc::{AllocError, Global};
 
-/// The version of all frames.
+/// The version of all frames of a submission: 2, as `number_of` reads bodies, and `request_at` of
+/// `specs/Numbered.antt`.
 const VERSION: u8 = 2;
 
 /// Returns the frame of the request that this kind and body spell, under its number in the submission of this name, or
@@ -39,7 +40,8 @@ pub(crate) fn numbered_frame(
     }
 }
 
-/// Makes the frame of a request, under its number in the submission of this name.
+/// Makes the frame of a request of a submission, under its number in the submission of this name, as at the first
+/// attempt. Fails only if memory runs out.
 pub(crate) fn frame_of(
     alloc: Global,
     client: u32,

@@ -12,7 +12,12 @@ use droid_frame::{Frame, Limit, Refusal, Reply};
 use std::alloc::{AllocError, Global};
 
 /// Sends a frame and returns its reply. While the service has no place for another unfinished file, sends it again
-/// after a pause. Fails with `Busy` when the time that may be waited is over.
+/// after a pause. Fails with `Busy` when the time that may be waited is over; the connection measures it, from the
+/// first such reply on. Other faults are those of [`InFlight::ask`], and `Memory` if there is none for a copy of the
+/// frame.
+///
+/// `u64::MAX` tries are never made. `GivesUp` of `specs/TransferFaults.antt` has that number, so that `Busy` behind
+/// them is proved.
 pub(crate) fn ask_patiently<C: Connection>(
     in_flight: &mut InFlight<C>,
     frame: Frame,
@@ -43,6 +48,7 @@ pub(crate) fn ask_patiently<C: Connection>(
 }
 
 /// Sends a copy of a frame and returns its reply, or `None` if the service has no place for another unfinished file.
+/// Fails as [`ask_copy`].
 fn ask_once<C: Connection>(
     in_flight: &mut InFlight<C>,
     frame: &Frame,
@@ -61,7 +67,8 @@ fn ask_once<C: Connection>(
     Ok(Some(reply))
 }
 
-/// Sends a copy of a frame and returns its reply.
+/// Sends a copy of a frame and returns its reply, whatever it is. The frame itself may have to be sent again. Without
+/// memory for the copy nothing is sent, and all stays; other faults are those of [`InFlight::ask`].
 fn ask_copy<C: Connection>(
     in_flight: &mut InFlight<C>,
     frame: &Frame,
@@ -77,7 +84,7 @@ fn ask_copy<C: Connection>(
     Ok(reply)
 }
 
-/// Copies a frame, which may have to be sent again.
+/// Copies the frame of a request, with its number. Fails only if memory runs out.
 fn copy_of(alloc: Global, frame: &Frame) -> Result<Frame, AllocError>
     ensures { IfOk result (λ copy. copy ≡ frame.now) }
 {
@@ -91,7 +98,7 @@ fn copy_of(alloc: Global, frame: &Frame) -> Result<Frame, AllocError>
     })
 }
 
-/// Returns whether the service has no place for another unfinished file.
+/// Returns whether a reply refuses for the limit of unfinished files: the one refusal that a while may end.
 fn is_busy(reply: &Reply) -> bool
     ensures { result ≡ is_busy reply.now }
 {

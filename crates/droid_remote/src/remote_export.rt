@@ -1,4 +1,4 @@
-//! Reads the export of a profile in parts.
+//! Reads the export of a profile in parts of 1 MiB, one request after the other, and joins them.
 
 ghost use Rattle.std.specs.Prelude.{◌≡◌, ◌+◌, ◌≤◌, ◌++◌, false, max, None, [], IfErr, IfOk, IsSome, IsTrue, OnErr};
 ghost use Rattle.std.specs.Prelude.{OnOk, length, vec_capacity, vec_len};
@@ -16,10 +16,15 @@ use crate::transfer::transfer_fault::TransferFault;
 use droid_frame::{Blob, Criteria, Filter, PART_LIMIT, Refusal, Reply, Request};
 use std::alloc::Global;
 
-/// The most bytes of an export that a client reads.
+/// The most bytes of an export that a client reads: 1 GiB. `export_limit` of `specs/Exports.antt` and the clauses
+/// `bound` and `within` have the number too, as do clauses of `droid_cmd_submit` and its
+/// `specs/CheckedSubmissions.antt`: the prover ties these. So have the texts of the fault TooLong (`faults.rt` of
+/// `droid_terminal`, `submit_help.rt` of `droid_arguments`), which `submit_lies.py` and the case `help_of_submit` of
+/// `tests/program` hold, and docs/SERVICE.md, which nothing ties.
 pub const EXPORT_LIMIT: u64 = 1_073_741_824;
 
-/// How many parts an export has at most.
+/// How many parts an export has at most: [`EXPORT_LIMIT`] in parts of `PART_LIMIT` bytes. With fewer, the end of
+/// [`download`] would not be proved.
 const PARTS: u32 = 1_024;
 
 /// A part of an export.
@@ -78,7 +83,9 @@ pub fn export<C: Connection>(
     Ok(one)
 }
 
-/// Reads the parts of an export, one after the other, and appends them. Returns whether all are of one export.
+/// Does what [`export`] does, with a sender that was not stopped. It asks for a part from the byte on that the parts so
+/// far end at, until the announced length is there; a part of another export ends it with false. After an error the
+/// parts that came before it stay in the text.
 fn download<C: Connection>(
     sender: &mut Sender<C>,
     profile: u32,
@@ -119,7 +126,7 @@ fn download<C: Connection>(
     Ok(true)
 }
 
-/// Returns whether two parts are of one export.
+/// Returns whether two parts are of one export: it had as many bytes, and the service had accepted as many commands.
 fn are_of_one(first: &Part, other: &Part) -> bool
     ensures one { IsTrue result → (other.now.as_of ≡ first.now.as_of) × (other.now.total ≡ first.now.total) }
     ensures apart { result ≡ false → (other.now.as_of ≡ first.now.as_of) × (other.now.total ≡ first.now.total) → ⊥ }
@@ -130,7 +137,8 @@ fn are_of_one(first: &Part, other: &Part) -> bool
     other.total == first.total
 }
 
-/// Reserves room for an announced export, exactly. Fails if it is longer than a client reads.
+/// Reserves room for `total` bytes behind the text, exactly. More than [`EXPORT_LIMIT`] is the fault `Long`, and no
+/// memory is `NoRoom`.
 fn reserve_text(text: &mut Vec<u8>, total: u64) -> Result<(), DownloadFault>
     ensures same { text.new.items ≡ text.old.items }
     ensures within { OnOk result (total ≤ 1073741824) }
@@ -144,7 +152,8 @@ fn reserve_text(text: &mut Vec<u8>, total: u64) -> Result<(), DownloadFault>
     Ok(())
 }
 
-/// Appends the part at offset `from` and returns the offset behind it.
+/// Appends the part at offset `from` of the export to the text, and returns the offset behind it. Without memory it is
+/// the fault `NoRoom`, and the text stays.
 fn append_part(text: &mut Vec<u8>, from: u64, part: &Part) -> Result<u64, DownloadFault>
     requires { from + length part.now.bytes ≤ part.now.total }
     ensures after { IfOk result (λ after. after ≡ from + length part.now.bytes) }
@@ -157,14 +166,14 @@ fn append_part(text: &mut Vec<u8>, from: u64, part: &Part) -> Result<u64, Downlo
     Ok(from + bytes.len() as u64)
 }
 
-/// Returns how many bytes the part at this offset of a text has.
+/// Returns how many bytes the part at offset `from` of an export of `total` bytes has: `PART_LIMIT`, or what is left.
 fn part_length(total: u64, from: u64) -> u64
     ensures { result ≡ part_length total from }
 {
     total.saturating_sub(from).min(PART_LIMIT as u64)
 }
 
-/// Requests the part at this offset. Fails if it has not as many bytes as it should.
+/// Requests the part at this offset. Fails as [`ask_reply`], or as [`part_of`] says of the reply.
 fn ask_part<C: Connection>(
     sender: &mut Sender<C>,
     profile: u32,
@@ -186,7 +195,8 @@ fn ask_part<C: Connection>(
     Ok(part)
 }
 
-/// Requests the part at this offset and returns the reply, whatever it is.
+/// Requests the part at this offset, under its number in the submission, and returns the reply, whatever it is. Fails
+/// as [`InFlight::ask`], or if memory for the request runs out.
 fn ask_reply<C: Connection>(
     sender: &mut Sender<C>,
     profile: u32,
@@ -209,7 +219,7 @@ fn ask_reply<C: Connection>(
     Ok(reply)
 }
 
-/// Returns the request for the part at this offset.
+/// Returns the request for the part at this offset: in the largest size, with all records.
 fn part_request(alloc: Global, profile: u32, from: u64) -> Request
     ensures { result ≡ part_request profile from }
 {
@@ -224,7 +234,8 @@ fn part_request(alloc: Global, profile: u32, from: u64) -> Request
     }
 }
 
-/// Returns the part in a reply to the request for the part at this offset.
+/// Returns the part in a reply to the request for the part at this offset. A refusal is the fault `Refused`, or
+/// `Memory` if the service has none; any other reply, or a part of another length, is `Stranger`.
 fn part_of(reply: Reply, from: u64) -> Result<Part, TransferFault>
     ensures part { IfOk result (λ part. reply ≡ replies.Part part.as_of part.total part.bytes) }
     ensures full { IfOk result (λ part. length part.bytes ≡ part_length part.total from) }

@@ -16,7 +16,9 @@ pub enum RemoteFault {
     Sending(TransferFault),
 }
 
-/// Returns the fault of a walk that ended early. If no reply came, the sender says why.
+/// Returns the fault of a walk that ended early. `stopped` is the sender's: why it sends no more. Where the walk only
+/// says `Ended`, that is the fault; if the sender has none, or the walk ended for a reason of its own, it is the
+/// walk's.
 pub(crate) fn remote_fault_of(stopped: Option<TransferFault>, fault: SubmissionFault) -> RemoteFault
     ensures { result ≡ remote_fault_of stopped fault }
 {
@@ -42,6 +44,7 @@ impl From<TransferFault> for DownloadFault {
 
     ghost from_gives = { λ from fault. fault ≡ Sending from };
 
+    /// Says that a part was not received, for this reason.
     fn from(fault: TransferFault) -> DownloadFault {
         DownloadFault::Sending(fault)
     }
@@ -52,6 +55,7 @@ impl From<AllocError> for DownloadFault {
 
     ghost from_gives = { λ _ fault. fault ≡ NoRoom };
 
+    /// Says that there is no memory for the export's text. Memory that a request lacks is `Sending`, by the one above.
     fn from(_error: AllocError) -> DownloadFault {
         DownloadFault::NoRoom
     }

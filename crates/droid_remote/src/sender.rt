@@ -1,4 +1,4 @@
-//! The client of a service behind a connection.
+//! The client of a submission: numbers its requests, sends them over a connection, and stops for good after a fault.
 
 ghost use Rattle.std.specs.Prelude.{◌≡◌, None, [], IfErr, OnOk};
 ghost use Rattle.droid_remote.specs.Calls.{EndsAll, Wherever};
@@ -44,7 +44,8 @@ impl<C: Connection> Sender<C> {
         }
     }
 
-    /// Waits for the replies to all pieces in flight.
+    /// Waits for the replies to all pieces in flight, which must be Taken. Any fault, a refused piece included, stops
+    /// the sender; one that was stopped returns its fault.
     pub(crate) fn settle(&mut self) -> Result<(), TransferFault>
         ensures settled { OnOk result
             (Wherever self.old.in_flight (λ known facts.
@@ -71,6 +72,9 @@ impl<C: Connection> Sender<C> {
 impl<C: Connection> Client for Sender<C> {
     ghost calls = { CallsSender C.does };
 
+    /// Sends a request under its number, again while the service has no place, and waits for its reply and those to the
+    /// pieces before it. A sender that was stopped, and what is no request of a submission, is `Ended`: nothing is
+    /// sent. Any other fault is passed on by [`client_fault_of`], and stops the sender unless a piece was refused.
     fn ask(&mut self, attempt: u32, kind: u8, body: Blob) -> Result<Reply, ClientFault> {
         match self.stopped {
             Some(_) => return Err(ClientFault::Ended),
@@ -89,6 +93,9 @@ impl<C: Connection> Client for Sender<C> {
         }
     }
 
+    /// Sends a piece under its number. The reply comes later; only where sixteen (`IN_FLIGHT_LIMIT`) are in flight is
+    /// the oldest awaited. Nothing is sent, and `Ended` is returned, in the same cases as above; any other fault does
+    /// what it does there.
     fn send(&mut self, body: Blob) -> Result<(), ClientFault> {
         match self.stopped {
             Some(_) => return Err(ClientFault::Ended),
@@ -107,7 +114,8 @@ impl<C: Connection> Client for Sender<C> {
     }
 }
 
-/// Returns what the walk learns of a fault: a refused piece, or that nothing more is sent.
+/// Returns what the walk learns of a fault: how a piece was refused, or only `Ended`: that nothing more is sent. The
+/// reason then stands in [`Sender::stopped`].
 fn client_fault_of(fault: TransferFault) -> ClientFault
     ensures { result ≡ client_fault_of fault }
 {
@@ -117,7 +125,8 @@ fn client_fault_of(fault: TransferFault) -> ClientFault
     }
 }
 
-/// Returns why no more requests are sent after a fault. A refused piece is no reason.
+/// Returns why no more requests are sent after a fault, or `None` after a refused piece: the sender goes on, and
+/// `changed_by` of `droid_upload` decides: NumberReused ends the file alone, every other refusal the submission.
 fn stop_of(fault: TransferFault) -> Option<TransferFault>
     ensures { result ≡ stop_of fault }
 {

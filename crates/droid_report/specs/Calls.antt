@@ -1,4 +1,5 @@
--- For proofs: what the calls that read a profile promise, in the code's own types.
+-- What the calls that read a profile promise, in the code's own types. `read_report` promises `GivesReport`; the others
+-- are for inner clauses and proofs.
 use Rattle.std.specs.Prelude.{◌≡◌, ◌≢◌, ℕ, List, [], None, Result, Ok, Err}
 use Rattle.std.specs.Option.{option_map}
 use Rattle.droid_frame.specs.declared.item.Item.{Item}
@@ -20,12 +21,12 @@ pub record IsDraft (draft : inside.Draft) (read : Draft) : Type 0 where
   pub counts : AreCounts read.lines draft.counts
   pub fresh : read.header ≡ None → read.lines ≡ []
 
--- a call gave what was expected, unless memory ran out
+-- A call that ends a reading returned the report of the expected profile, or the expected fault; or memory ran out.
 abbrev pub Gives : Result Report ListFault → Result Profile ListFault → Type 0
 Gives (Ok report) expected = (profile : Profile) × (expected ≡ Ok profile) × IsReport profile report
 Gives (Err fault) expected = fault ≢ faults.Memory → expected ≡ Err fault
 
--- the same of a call that changes a draft
+-- A call that takes a record left the expected draft, or returned the expected fault; or memory ran out.
 abbrev pub Leaves : Result (Unit {0}) ListFault → inside.Draft → Result Draft ListFault → Type 0
 Leaves (Ok done) new expected = (read : Draft) × (expected ≡ Ok read) × IsDraft new read
 Leaves (Err fault) new expected = fault ≢ faults.Memory → expected ≡ Err fault

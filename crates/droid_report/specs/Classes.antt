@@ -56,7 +56,7 @@ pub record AreClasses (lines : List Line) (classes : Classes) : Type 0 where
   pub sizes : IsTally by.Size lines classes.sizes.items
   pub depths : IsTally by.Depth lines classes.depths.items
 
--- ---- for proofs: one row more
+-- ---- for inner clauses and proofs: one row more
 
 -- a table before the first row
 unfoldable pub no_files : By → List ℕ

@@ -88,7 +88,7 @@ group_of alike key lines = option_map (sum_of alike (has_key alike key) lines) (
 abbrev pub AreGroups : Alike → List Line → BTreeMap (String Global) GroupSum → Type 0
 AreGroups alike lines groups = (key : List ℕ) → sum_at groups key ≡ group_of alike key lines
 
--- ---- for proofs: one row more
+-- ---- for inner clauses and proofs: one row more
 
 -- the group that a row begins, before that row is counted
 abbrev pub fresh : Alike → Line → Summed

@@ -1,4 +1,4 @@
--- For proofs: characters of a text in a page.
+-- For inner clauses and proofs: characters of a text in a page, as `Escapes` has its bytes.
 use Rattle.std.specs.Prelude.{ℕ, ◌+◌, ◌==◌, nat_lt, List, codes, encode_utf8, if◌then◌else◌}
 
 -- the picture of a control character (U+2400 to U+241F, U+2421), or the character itself

@@ -52,7 +52,7 @@ pub record AreLists (lines : List Line) (lists : Lists) : Type 0 where
   pub oldest : lines_in lists.oldest.items ≡ ranked ranks.Oldest 20 lines
   pub newest : lines_in lists.newest.items ≡ ranked ranks.Newest 20 lines
 
--- ---- for proofs: one row more
+-- ---- for inner clauses and proofs: one row more
 
 -- the first rows that count for a total, after one row more
 abbrev pub first_after : What → ℕ → List Line → Line → List Line

@@ -39,7 +39,8 @@ abbrev pub cut_rows : Measure → List Group → List Group → List (List Seen)
 cut_rows measure first rest =
     map (picture_row measure (most_of measure first rest)) first ++ rest_rows measure (most_of measure first rest) rest
 
--- how many groups have a bar of their own, where lists have at most this many rows
+-- How many groups have a bar of their own, where lists have at most this many rows. 12 goes with the word in
+-- `texts.TWELVE`.
 abbrev pub most_named : ℕ → ℕ
 most_named limit = if limit == 0 then 0 else 12
 

@@ -78,7 +78,7 @@ pub record AreRanked (key : Group → ℕ) (groups ranked : List Group) : Type 0
   pub in_order : IsSortedByKey key nat_cmp ranked
   pub ties : IsStableByKey key nat_cmp groups ranked
 
--- ---- for proofs: one group more
+-- ---- for inner clauses and proofs: one group more
 
 -- what groups come to with one more
 abbrev pub with_group : GroupsTotal → Group → GroupsTotal

@@ -103,7 +103,7 @@ class_table title note head by counts limit = record {
   rows = take limit (class_rows by counts);
 }
 
--- the tables by year, size and depth; those by size and depth have all rows, of which there are at most 65
+-- the tables by year, size and depth; those by size and depth have all rows: at most 65, the last class of depths and 0
 abbrev pub class_tables : Classes → ℕ → List Shown
 class_tables classes limit =
     class_table texts.YEARS.now texts.YEARS_NOTE.now texts.YEAR.now by.Year classes.years.items limit

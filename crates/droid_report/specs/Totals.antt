@@ -71,7 +71,7 @@ pub record AreTotals (lines : List Line) (totals : Totals) : Type 0 where
   pub empty : totals.empty ≡ total what.Empty lines
   pub bytes : totals.bytes ≡ total_bytes lines
 
--- ---- for proofs: one row more
+-- ---- for inner clauses and proofs: one row more
 
 -- a total after one row more
 abbrev pub counted : What → ℕ → Line → ℕ

@@ -1,4 +1,4 @@
-//! Files by year, by size and by depth.
+//! Counts files by year, by size and by depth: a class is the place of a count in one of three tables.
 
 ghost use Rattle.std.specs.Prelude.{◌≡◌, ◌+◌, ◌<◌, ℕ, IfOk, IfSome, get_or, vec_len};
 ghost use Rattle.droid_report.specs.Lines.{line_of};
@@ -34,7 +34,7 @@ pub struct Classes {
 impl Classes {
     ghost use Rattle.droid_report.specs.declared.classes.By.TheVariants as by;
 
-    /// Starts with zeros.
+    /// Makes the three tables with a 0 for each class. Fails only if memory runs out.
     pub(crate) fn new(alloc: Global) -> Result<Classes, AllocError>
         ensures years { IfOk result (λ classes. classes.years.items ≡ no_files by.Year) }
         ensures sizes { IfOk result (λ classes. classes.sizes.items ≡ no_files by.Size) }
@@ -50,7 +50,7 @@ impl Classes {
         })
     }
 
-    /// Counts a row, if it is the first of a file.
+    /// Counts a file in each table, by its first row; a file without a date is in no year.
     pub(crate) fn add(&mut self, row: &Row)
         ensures years { IsCountedIn by.Year (line_of row.now) self.old.years.items self.new.years.items }
         ensures sizes { IsCountedIn by.Size (line_of row.now) self.old.sizes.items self.new.sizes.items }
@@ -62,14 +62,15 @@ impl Classes {
     }
 }
 
-/// Returns a zero for each class.
+/// Makes a table with a 0 for each class, from 0 to the last. Fails only if memory runs out.
 fn zeros(alloc: Global, by: By) -> Result<Vec<u64>, AllocError>
     ensures { IfOk result (λ table. table.items ≡ no_files by) }
 {
     vec![in alloc; 0; last_class(by) + 1]
 }
 
-/// Counts a row, if it is the first of a file that has a class.
+/// Adds 1 to the class of a file, by its first row, if it has a class. A count stays at 2^64 - 1. Each table has a
+/// place for each class; the test of its length is for the prover, which has to see that the place is there.
 fn count_row(table: &mut Vec<u64>, row: &Row, by: By)
     ensures { IsCountedIn by (line_of row.now) table.old.items table.new.items }
 {
@@ -81,7 +82,11 @@ fn count_row(table: &mut Vec<u64>, row: &Row, by: By)
     }
 }
 
-/// Returns the class that has all that is larger.
+/// Returns the last class, which has all that is larger: [`class_of`] ends at the same three numbers. Each stands in
+/// its own definition too; no clause ties them to each other, nor to `ALL_ROWS` of `view/tables.rt`. A table that ended
+/// earlier would leave files uncounted. `numbers_of.py` of `tests/program/report` has the three as well.
+///
+/// 9999 is the greatest year of four digits. 32 is the length of [`POWERS`], as 4^32 is above all sizes. 64 is chosen.
 fn last_class(by: By) -> usize
     ensures { result ≡ last_class by }
 {
@@ -92,7 +97,7 @@ fn last_class(by: By) -> usize
     }
 }
 
-/// Returns the class of a row, if it is the first of a file that has one.
+/// Returns the class of a file by its first row. A further row of it, a folder and an unknown date have none.
 fn class_in(row: &Row, by: By) -> Option<usize>
     ensures { (class : ℕ) → is_in by class (line_of row.now) ≡ is_class result class }
 {
@@ -103,7 +108,9 @@ fn class_in(row: &Row, by: By) -> Option<usize>
     }
 }
 
-/// Returns the class of a file.
+/// Returns the class of a file: the year, [`size_class`], or the number of slashes, each at most [`last_class`]. A file
+/// without a date has no year. Only for slashes is there more: a year that was read has four digits, and `size_class`
+/// ends at 32 by itself.
 fn class_of(facts: Facts, by: By) -> Option<usize>
     ensures { result ≡ class_of by facts }
 {
@@ -117,7 +124,7 @@ fn class_of(facts: Facts, by: By) -> Option<usize>
     }
 }
 
-/// The powers of four from 1 to 4^31.
+/// The powers of four from 1 to 4^31: `powers` of `specs/Classes.antt` has the same, which the prover ties.
 const POWERS: [u64; 32] = [
     0x1,
     0x4,
@@ -153,7 +160,8 @@ const POWERS: [u64; 32] = [
     0x4000000000000000,
 ];
 
-/// Returns the place of the first power of four that is above a size.
+/// Returns the place in [`POWERS`] of the first power of four that is above a size in bytes, or 32: 0 has class 0, and
+/// 4^n to 4^(n + 1) - 1 have class n + 1. `view/class_names.rt` names them by their least size.
 #[tactic(auto, unfolding(crate::specs::Classes::size_class))]
 fn size_class(size: u64) -> usize
     ensures { result ≡ size_class size }

@@ -1,4 +1,4 @@
-//! The counts of a profile's rows.
+//! All counts of a profile's rows, side by side: a row is handed to each of them.
 
 ghost use Rattle.std.specs.Prelude.{◌++◌, ◌∷◌, [], List, IfOk, OnOk};
 ghost use Rattle.droid_report.specs.Lines.{line_of};
@@ -13,7 +13,9 @@ use crate::totals::Totals;
 use std::alloc::{AllocError, Global};
 use std::collections::BTreeMap;
 
-/// The counts of a profile's rows. They grow row by row, and take no memory for each but that of the files' hashes.
+/// The counts of a profile's rows. They grow row by row. Of a row something is kept only if it begins a group, whose
+/// key and label stay (of a file with another content than all before: its hash, size and path), or stands in a list.
+/// No clause says so.
 pub struct Counts {
     /// The totals.
     pub totals: Totals,
@@ -27,7 +29,7 @@ pub struct Counts {
     pub lists: Lists,
 }
 
-// Written by hand, so that no place that drops one drops each part.
+// Written by hand: taken apart here once, instead of at each place that drops one. A new field also gets a line here.
 impl Drop for Counts {
     fn drop(self) {
         let Counts {
@@ -43,7 +45,7 @@ impl Drop for Counts {
 impl Counts {
     ghost use Rattle.droid_report.specs.Reports.{AreCounts};
 
-    /// Starts before the first row.
+    /// Makes the counts of no row. Fails only if memory runs out.
     pub fn new(alloc: Global) -> Result<Counts, AllocError>
         ensures { IfOk result (AreCounts []) }
     {

@@ -1,4 +1,7 @@
-//! A profile that is being read.
+//! Takes the records of a CSV one by one, the header first, and counts its rows.
+//!
+//! After a fault nothing is promised of the draft: the only caller, `read_rows` of `report.rt`, drops it. All that take
+//! a record may also fail with `Memory`.
 
 ghost use Rattle.std.specs.Prelude.{◌≡◌, ◌≢◌, IfOk, None, Some};
 ghost use Rattle.std.specs.Option.{option_copied, option_map};
@@ -14,7 +17,8 @@ use droid_export::{Column, Header, ListFault, said};
 use droid_frame::HashKind;
 use std::alloc::{AllocError, Global};
 
-/// The columns that a report is made of beside those that [`droid_export::read_profile`] needs.
+/// The columns that a report is made of beside those that [`droid_export::read_profile`] needs: `needed` of
+/// `specs/Rows.antt` has the same, which the prover ties.
 const NEEDED: [Column; 5] = [
     Column::Method,
     Column::ExtensionMismatch,
@@ -25,13 +29,16 @@ const NEEDED: [Column; 5] = [
 
 /// What was read so far.
 pub(crate) struct Draft {
+    // None before the first record.
     header: Option<Header>,
+    // How many records, with the header.
     records: u64,
+    // The last row: the next one may be of the same file.
     last: Option<Row>,
     counts: Counts,
 }
 
-// Written by hand, so that no place that drops one drops each part.
+// Written by hand: taken apart here once, instead of at each place that drops one. A new field also gets a line here.
 impl Drop for Draft {
     fn drop(self) {
         let Draft {
@@ -49,7 +56,7 @@ impl Draft {
     ghost use Rattle.droid_report.specs.Rows.{Draft as Read, facts_of, finished, nothing_read, taken};
     ghost use Rattle.droid_report.specs.Rows.{with_header, with_row};
 
-    /// Makes a draft before the first record.
+    /// Makes the draft before the first record: no header, no rows, all counts zero.
     pub(crate) fn new(alloc: Global) -> Result<Draft, AllocError>
         ensures { IfOk result (λ draft. IsDraft draft nothing_read) }
     {
@@ -62,7 +69,7 @@ impl Draft {
         })
     }
 
-    /// Adds a record: the header first, then the rows.
+    /// Takes one record more: the first is the header, each other one a row. Returns the first fault of the record.
     pub(crate) fn take(&mut self, alloc: Global, row: ByteRecord) -> Result<(), ListFault>
         ensures { (old : Read) → IsDraft self.old old → Leaves result self.new (taken old (fields_of row)) }
     {
@@ -72,7 +79,7 @@ impl Draft {
         }
     }
 
-    /// Takes the first record, which has to be the header of a profile's CSV.
+    /// Takes the first record, or returns `Header` if it does not have the names of a profile's columns.
     fn take_header(&mut self, row: &ByteRecord) -> Result<(), ListFault>
         ensures { (old : Read) → IsDraft self.old old → old.header ≡ None
             → Leaves result self.new (with_header (header_of (fields_of row.now))) }
@@ -83,7 +90,7 @@ impl Draft {
         }
     }
 
-    /// Begins the rows behind a header, if it has the columns that are needed.
+    /// Keeps the header, which is record 1, or returns `Missing` with the first column of [`NEEDED`] that it lacks.
     fn begin(&mut self, header: Header) -> Result<(), ListFault>
         ensures { (old : Read) → IsDraft self.old old → old.header ≡ None
             → Leaves result self.new (with_header (Some header)) }
@@ -98,7 +105,8 @@ impl Draft {
         }
     }
 
-    /// Adds a row behind this header. Columns that the CSV lacks are read as empty.
+    /// Takes a record behind this header. If the CSV lacks columns, the record is first widened to all columns, with
+    /// empty fields for those.
     fn take_behind(
         &mut self,
         alloc: Global,
@@ -118,7 +126,9 @@ impl Draft {
         self.take_row(alloc, header.hash, wide)
     }
 
-    /// Takes a record behind the header: it counts as a row and is kept till the next, which may be of the same file.
+    /// Counts a row that has all columns, and keeps it till the next, which may be of the same file. Returns `Column`
+    /// with the first column that [`facts_of`] finds wrong, and the record's number: the header is record 1. `hash` is
+    /// the header's, and stands in this fault: it names the column of hashes.
     fn take_row(&mut self, alloc: Global, hash: HashKind, row: ByteRecord) -> Result<(), ListFault>
         ensures { (old : Read) → IsDraft self.old old → old.header ≢ None
             → Leaves result self.new (with_row old hash (fields_of row) (facts_of (fields_of row))) }
@@ -148,7 +158,7 @@ impl Draft {
         }
     }
 
-    /// Returns the report.
+    /// Returns the report of all records that were taken, or `Header` if there was none.
     pub(crate) fn finish(self) -> Result<Report, ListFault>
         ensures { (old : Read) → IsDraft self old → Gives result (finished old.header old.lines) }
     {
@@ -168,7 +178,8 @@ impl Draft {
     }
 }
 
-/// Returns whether a row has the ID of another, if there is one.
+/// Returns whether a row has the ID of the row before it, `other`: then it is a further format of the same file. The
+/// first row has none before it.
 fn has_id(other: Option<&Row>, row: &ByteRecord) -> bool
     ensures { result ≡ profiles.has_id (option_map line_of (option_copied other.entry)) (fields_of row.now) }
 {

@@ -1,4 +1,4 @@
-//! What a row says beside its texts.
+//! The facts of a row: its fields as numbers and kinds, read once when the row is read.
 
 use droid_frame::{Method, NodeKind};
 

@@ -1,4 +1,4 @@
-//! Why a profile cannot be read.
+//! Why a CSV has no report.
 
 ghost use Rattle.std.specs.Prelude.{◌≡◌};
 
@@ -21,6 +21,7 @@ impl From<AllocError> for ProfileFault {
 
     ghost from_gives = { λ _ fault. fault ≡ Csv Memory };
 
+    /// Tells that memory ran out as the fault of the CSV with this name.
     fn from(_error: AllocError) -> ProfileFault {
         ProfileFault::Csv(ListFault::Memory)
     }

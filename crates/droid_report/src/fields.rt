@@ -1,4 +1,8 @@
-//! The fields of a row. What [`droid_export::read_profile`] judges is read without a fault here.
+//! Reads facts from the bytes of a row's fields.
+//!
+//! A row is read here only after [`droid_export::read_profile`] has taken the whole CSV ("judged" below). So TYPE,
+//! SIZE, FORMAT_COUNT and LAST_MODIFIED cannot be wrong here; METHOD and EXTENSION_MISMATCH, which it does not look at,
+//! can.
 
 ghost use Rattle.std.specs.Prelude.{◌≡◌, ◌==◌, IsTrue, length};
 ghost use Rattle.droid_report.specs.Fields as fields;
@@ -6,7 +10,7 @@ ghost use Rattle.droid_report.specs.Fields as fields;
 use droid_export::{kind_of, number_of};
 use droid_frame::{Method, NodeKind};
 
-/// Reads METHOD.
+/// Reads METHOD: `Signature`, `Extension`, or nothing, which a folder has too. Returns `None` for any other text.
 pub(crate) fn method_of(text: &[u8]) -> Option<Method>
     ensures { result ≡ fields.method_of text.now }
 {
@@ -24,7 +28,7 @@ pub(crate) fn method_of(text: &[u8]) -> Option<Method>
     }
 }
 
-/// Reads EXTENSION_MISMATCH.
+/// Reads EXTENSION_MISMATCH: `true` or `false`. Returns `None` for any other text, nothing included.
 pub(crate) fn truth_of(text: &[u8]) -> Option<bool>
     ensures { result ≡ fields.truth_of text.now }
 {
@@ -39,21 +43,22 @@ pub(crate) fn truth_of(text: &[u8]) -> Option<bool>
     }
 }
 
-/// Reads TYPE of a row that was judged.
+/// Reads TYPE of a judged row, where it is `File` or `Folder`. Any other text counts as `Folder`.
 pub(crate) fn kind_in(text: &[u8]) -> NodeKind
     ensures { result ≡ fields.kind_in text.now }
 {
     kind_of(text).unwrap_or(NodeKind::Folder)
 }
 
-/// Reads SIZE or FORMAT_COUNT of a row that was judged: a folder has neither, which counts as 0.
+/// Reads SIZE or FORMAT_COUNT of a judged row: decimal digits below 2^64. A folder has neither, which counts as 0.
 pub(crate) fn number_in(text: &[u8]) -> u64
     ensures { result ≡ fields.number_in text.now }
 {
     number_of(text).unwrap_or(0)
 }
 
-/// Reads the year of LAST_MODIFIED, which may be empty, of a row that was judged.
+/// Reads the year of LAST_MODIFIED of a judged row: its first four bytes, `yyyy`. Returns `None` if it has fewer, which
+/// in a judged row means that it is empty, or if these are no digits.
 pub(crate) fn year_of(text: &[u8]) -> Option<u64>
     ensures { result ≡ fields.year_of text.now }
 {
@@ -64,7 +69,8 @@ pub(crate) fn year_of(text: &[u8]) -> Option<u64>
     }
 }
 
-/// Returns the digits of a text as one number, or 2^64 - 1 if it is more.
+/// Returns the digits of a text as one number, or 2^64 - 1 if it is more; 0 if it has none. LAST_MODIFIED has 14
+/// digits, the year first, so a later moment has the greater number.
 pub(crate) fn digits_of(text: &[u8]) -> u64
     ensures { result ≡ fields.digits_of text.now }
 {
@@ -75,7 +81,8 @@ pub(crate) fn digits_of(text: &[u8]) -> u64
     number
 }
 
-/// Appends a digit to a number; another byte changes nothing.
+/// Appends the digit `b`, in ASCII, to a decimal number, or returns 2^64 - 1 if that is more. Another byte changes
+/// nothing.
 fn with_digit(number: u64, b: u8) -> u64
     ensures { result ≡ fields.with_digit number b }
 {
@@ -88,7 +95,7 @@ fn with_digit(number: u64, b: u8) -> u64
     }
 }
 
-/// Counts the slashes of a path.
+/// Counts the slashes of a path. FILE_PATH begins with one, so a file at the top has 1.
 pub(crate) fn depth_of(path: &[u8]) -> usize
     ensures { result ≡ fields.depth_of path.now }
 {

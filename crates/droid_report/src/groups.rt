@@ -1,4 +1,4 @@
-//! Rows that are alike.
+//! Groups of rows with one key, as they grow row by row: how many rows, and the sum of their sizes.
 
 ghost use Rattle.std.specs.Prelude.{◌≡◌, ℕ, List, Some, IfOk, OnOk, false, if◌then◌else◌, option_map, string_bytes};
 ghost use Rattle.std.specs.Prelude.{unwrap_or};
@@ -27,7 +27,9 @@ pub struct GroupSum {
 /// For each key what the rows that have it come to.
 pub type Groups = BTreeMap<String, GroupSum>;
 
-/// Adds a row to its group, unless it is like no other.
+/// Adds a row to the group of its key, which it begins if there is none. A row with an empty key is in no group. The
+/// group is taken out of the table, grown and put back: so it may be gone if memory runs out, and `Counts::add` says
+/// that the counts are then of no use.
 pub(crate) fn add_row(
     groups: &mut Groups,
     alloc: Global,
@@ -47,7 +49,7 @@ pub(crate) fn add_row(
     Ok(())
 }
 
-/// Removes a group and returns it, if it is there.
+/// Takes the group of a key out of the table, or returns `None` if there is none. The others stay.
 fn taken(groups: &mut Groups, key: &str) -> Option<GroupSum>
     ensures value { option_map summed result ≡ sum_at groups.old key.now }
     ensures others { (other : List ℕ) → bytes_eq key.now other ≡ false
@@ -56,7 +58,7 @@ fn taken(groups: &mut Groups, key: &str) -> Option<GroupSum>
     groups.remove(key)
 }
 
-/// Sets a group.
+/// Puts a group under its key, in the place of what is there. The others stay. Fails only if memory runs out.
 fn put(groups: &mut Groups, key: String, sum: GroupSum) -> Result<(), AllocError>
     ensures { OnOk result ((other : List ℕ)
         → sum_at groups.new other
@@ -66,7 +68,7 @@ fn put(groups: &mut Groups, key: String, sum: GroupSum) -> Result<(), AllocError
     Ok(())
 }
 
-/// Returns a group with one row more. Without a group it is that row's own.
+/// Returns the group `old` with this row counted, or the group that the row begins if there is none.
 fn sum_with(
     alloc: Global,
     old: Option<GroupSum>,
@@ -82,7 +84,7 @@ fn sum_with(
     }
 }
 
-/// Returns the group of a row that is the first of its kind.
+/// Returns the group of a row that is the first with its key: named by it, and with the row itself counted.
 fn begun(alloc: Global, row: &Row, alike: Alike) -> Result<GroupSum, AllocError>
     ensures { IfOk result (λ sum. summed sum ≡ grown (fresh alike (line_of row.now)) row.now.facts.size) }
 {
@@ -97,7 +99,7 @@ fn begun(alloc: Global, row: &Row, alike: Alike) -> Result<GroupSum, AllocError>
     Ok(with_size(sum, first_size))
 }
 
-/// Counts a row of this size.
+/// Counts one row more of this size, in bytes. Count and sum stay at 2^64 - 1 when they are there.
 fn with_size(sum: GroupSum, size: u64) -> GroupSum
     ensures { summed result ≡ grown (summed sum) size }
 {

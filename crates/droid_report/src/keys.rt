@@ -1,4 +1,4 @@
-//! What rows have in common.
+//! The key by which rows are grouped, and the name of the group that a row begins.
 
 ghost use Rattle.std.specs.Prelude.{◌≡◌, IfOk, string_bytes};
 ghost use Rattle.droid_report.specs.Lines.{line_of};
@@ -19,7 +19,10 @@ pub enum Alike {
     Content,
 }
 
-/// Returns the key of a row. It is empty for a row that is like no other.
+/// Returns the key of a row: rows with one key are a group. It is the PUID, so that a file with several formats is in
+/// the group of each; or hash and size of a file, of its first row alone. It is empty for a row that is in no group:
+/// by format one without a PUID; by content one that is not the first of a file, or has no hash. Fails only if memory
+/// runs out.
 pub(crate) fn key_of(alloc: Global, row: &Row, alike: Alike) -> Result<String, AllocError>
     ensures { IfOk result (λ key. string_bytes key ≡ groups.key_of alike (line_of row.now)) }
 {
@@ -29,7 +32,7 @@ pub(crate) fn key_of(alloc: Global, row: &Row, alike: Alike) -> Result<String, A
     }
 }
 
-/// Returns the hash of a file and its size, or nothing if it has no hash.
+/// Returns the hash of a file, `, ` and its size. It is empty without a hash, and for all but a file's first row.
 fn content_key(alloc: Global, row: &Row) -> Result<String, AllocError>
     ensures { IfOk result (λ key. string_bytes key ≡ groups.key_of alike.Content (line_of row.now)) }
 {
@@ -41,7 +44,8 @@ fn content_key(alloc: Global, row: &Row) -> Result<String, AllocError>
     }
 }
 
-/// Returns the name of the group that a row begins: the name and version of its format, or its path.
+/// Returns the name of the group that a row begins: of a format its name and version, of equal files the path of the
+/// first. Fails only if memory runs out.
 pub(crate) fn label_of(alloc: Global, row: &Row, alike: Alike) -> Result<String, AllocError>
     ensures { IfOk result (λ label. string_bytes label ≡ groups.label_of alike (line_of row.now)) }
 {

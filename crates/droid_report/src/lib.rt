@@ -1,6 +1,9 @@
 //! Reads the CSV of a profile, counts what is in it, and makes a page of the counts.
 //!
 //! `html` has pages as trees of elements: no text can become markup. `view` makes the page's tables.
+//!
+//! A call that returns an `AllocError` fails only if memory runs out. What it was to grow is then of no use: each
+//! caller passes the error on, until what was begun is dropped.
 #![tactic(auto)]
 
 mod classes;

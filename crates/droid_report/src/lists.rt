@@ -1,4 +1,6 @@
-//! Lists of files.
+//! The page's lists of files: the first of a kind, and the largest, oldest and newest. They grow row by row.
+//!
+//! After an error a list may have the row already: `Counts::add` says so, and its caller drops the counts.
 
 ghost use Rattle.std.specs.Prelude.{◌≡◌, ◌++◌, ◌∷◌, ◌≤◌, [], IfOk, OnOk, length, nat_lt};
 ghost use Rattle.std.specs.List.{insert, position_or_len};
@@ -37,7 +39,10 @@ pub struct Lists {
     pub newest: Vec<Row>,
 }
 
-/// How many rows a list of the first has at most.
+/// How many rows a list of the first has at most. The page shows no more: 200 is also the greatest limit of
+/// `view/page.rt`, to which nothing but these lines ties it. The prover ties this number and the two below to
+/// `AreLists` and `ListsAfter`, and this one to the clause of [`keep_first`]. `numbers_of.py` of `tests/program/report`
+/// has all three, and so have the comments of [`Lists`].
 const MOST_ROWS: usize = 200;
 
 /// How many rows the list of the largest has at most.
@@ -68,7 +73,7 @@ impl Lists {
         }
     }
 
-    /// Adds a row to the lists that it belongs to.
+    /// Puts a copy of a row into each list that it belongs to and that has room for it, or where it displaces another.
     pub(crate) fn add(&mut self, row: &Row) -> Result<(), AllocError>
         ensures { OnOk result (ListsAfter (line_of row.now) self.old self.new) }
     {
@@ -82,7 +87,7 @@ impl Lists {
     }
 }
 
-/// Adds a row at the end, if it counts for a total and there is room.
+/// Adds a copy of a row at the end, if it counts for the total `what` and the list has fewer than [`MOST_ROWS`].
 fn keep_first(list: &mut Vec<Row>, row: &Row, what: What) -> Result<(), AllocError>
     ensures { OnOk result
         (lines_in list.new.items ≡ lists.first_after what 200 (lines_in list.old.items) (line_of row.now)) }
@@ -97,7 +102,7 @@ fn keep_first(list: &mut Vec<Row>, row: &Row, what: What) -> Result<(), AllocErr
     Ok(())
 }
 
-/// Adds a copy of a row at the end.
+/// Adds a copy of a row at the end. Fails only if memory runs out.
 fn push_row(list: &mut Vec<Row>, row: &Row) -> Result<(), AllocError>
     ensures { OnOk result (lines_in list.new.items ≡ lines_in list.old.items ++ line_of row.now ∷ []) }
 {
@@ -106,7 +111,8 @@ fn push_row(list: &mut Vec<Row>, row: &Row) -> Result<(), AllocError>
     Ok(())
 }
 
-/// Adds a row in its place, if it is among the first of the order.
+/// Puts a copy of a row in its place, if that is among the first `limit` of the order, behind its equals. What then is
+/// over the limit falls out at the end.
 fn keep_ranked(list: &mut Vec<Row>, row: &Row, rank: Rank, limit: usize) -> Result<(), AllocError>
     ensures { OnOk result
         (lines_in list.new.items ≡ lists.ranked_after rank limit (lines_in list.old.items) (line_of row.now)) }
@@ -123,7 +129,7 @@ fn keep_ranked(list: &mut Vec<Row>, row: &Row, rank: Rank, limit: usize) -> Resu
     Ok(())
 }
 
-/// Adds a copy of a row at a place.
+/// Puts a copy of a row at a place, in front of what stood there. Fails only if memory runs out.
 fn insert_row(list: &mut Vec<Row>, place: usize, row: &Row) -> Result<(), AllocError>
     requires { place ≤ length list.old.items }
     ensures { OnOk result (lines_in list.new.items ≡ insert (lines_in list.old.items) place (line_of row.now)) }
@@ -133,7 +139,7 @@ fn insert_row(list: &mut Vec<Row>, place: usize, row: &Row) -> Result<(), AllocE
     Ok(())
 }
 
-/// Returns the place of the first row that comes after a row in the order.
+/// Returns the place at which a row belongs: that of the first of `rows` that comes after it, or the end.
 fn place_for(rows: &[Row], row: &Row, rank: Rank) -> usize
     ensures place { result ≡ lists.place_for rank (line_of row.now) (lines_in rows.now) }
     ensures bound { result ≤ length rows.now }
@@ -142,7 +148,7 @@ fn place_for(rows: &[Row], row: &Row, rank: Rank) -> usize
     first_above(rows, key, rank)
 }
 
-/// Returns the place of the first row that is behind this number in the order.
+/// Returns the place of the first row whose number, by [`rank_of`], is greater than `key`, or the end.
 fn first_above(rows: &[Row], key: u64, rank: Rank) -> usize
     ensures place { result ≡ position_or_len (λ other. nat_lt key (lists.rank_of rank (line_of other))) rows.now }
     ensures bound { result ≤ length rows.now }
@@ -152,7 +158,7 @@ fn first_above(rows: &[Row], key: u64, rank: Rank) -> usize
         .unwrap_or(rows.len())
 }
 
-/// Returns whether a row stands in an order: it is the first of a file, which has a date where that decides.
+/// Returns whether a row may stand in an order: it is the first of a file, which has a date where the date decides.
 fn is_ranked(row: &Row, rank: Rank) -> bool
     ensures { result ≡ lists.is_ranked rank (line_of row.now) }
 {
@@ -163,7 +169,7 @@ fn is_ranked(row: &Row, rank: Rank) -> bool
     }
 }
 
-/// Returns where a row stands in an order: the smaller number comes first.
+/// Returns the number of a row by which an order goes: the smaller comes first.
 fn rank_of(row: &Row, rank: Rank) -> u64
     ensures { result ≡ lists.rank_of rank (line_of row.now) }
 {

@@ -1,4 +1,4 @@
-//! Groups of rows, the greatest first.
+//! Finished groups of rows: listed, sorted with the greatest first, and added up.
 
 ghost use Rattle.std.specs.Prelude.{◌≡◌, IfOk, map};
 ghost use Rattle.droid_report.specs.Ranks.{AreRanked, by_bytes, by_count, by_saved, group_seen, groups_in, together};
@@ -22,7 +22,7 @@ pub struct Group<'a> {
     pub saved: u64,
 }
 
-/// Returns the groups of at least this many rows, in the order of their keys.
+/// Lists the groups of at least `least` rows, in the order of their keys' bytes. Fails only if memory runs out.
 pub fn list_groups<'a>(
     alloc: Global,
     groups: &'a Groups,
@@ -84,7 +84,7 @@ pub struct GroupsTotal {
     pub saved: u64,
 }
 
-/// Returns what groups come to together.
+/// Returns the sums over groups: their rows, bytes, and bytes without their first rows.
 pub fn together(groups: &[Group<'_>]) -> GroupsTotal
     ensures { result ≡ together groups.now }
 {
@@ -99,7 +99,7 @@ pub fn together(groups: &[Group<'_>]) -> GroupsTotal
     sum
 }
 
-/// Adds a group.
+/// Returns the sums with those of one group more. Each stays at 2^64 - 1 when it is there.
 fn with_group(sum: GroupsTotal, group: &Group<'_>) -> GroupsTotal
     ensures { result ≡ with_group sum group.now }
 {

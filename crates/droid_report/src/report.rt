@@ -1,4 +1,4 @@
-//! The report on a profile.
+//! Reads the report on a profile from its CSV, in two passes: as `verify` reads it, and then to count its rows.
 
 ghost use Rattle.std.specs.Prelude.{◌≡◌, ℕ, List};
 ghost use Rattle.csv.specs.Reading.{AreRecords, default_config, strip_bom};
@@ -28,7 +28,8 @@ pub struct Report {
 /// describes it.
 ///
 /// What [`read_profile`] refuses is refused with the same fault, and then a path that stands twice. Only a CSV without
-/// such a fault is looked at for the columns that a report alone reads, of which the first wrong one is named.
+/// such a fault is looked at for the columns that a report alone reads, of which the first that is missing is named,
+/// and if none is, the first that is wrong. The fault may also be that memory ran out, at any moment.
 pub fn read_report(alloc: Global, text: &[u8]) -> Result<Report, ProfileFault>
     // The result is that of the records that `csv` reads, unless memory runs out.
     ensures { (records : List (List (List ℕ))) → AreRecords default_config st.StartRecord (strip_bom text.now) records
@@ -43,7 +44,8 @@ pub fn read_report(alloc: Global, text: &[u8]) -> Result<Report, ProfileFault>
     }
 }
 
-/// Reads the folders and files of the CSV as the command `verify` does, and keeps nothing.
+/// Judges the CSV as the command `verify` does, by [`read_profile`] without formats and then for a path that stands
+/// twice, and returns the fault. Keeps nothing.
 fn verify_items(alloc: Global, text: &[u8]) -> Result<(), ProfileFault>
     ensures { (records : List (List (List ℕ))) → AreRecords default_config st.StartRecord (strip_bom text.now) records
         → Verifies records result }
@@ -61,7 +63,8 @@ fn verify_items(alloc: Global, text: &[u8]) -> Result<(), ProfileFault>
     }
 }
 
-/// Counts the rows.
+/// Counts the rows of a CSV that was judged. Returns `Missing` for the first column that a report needs and the CSV
+/// lacks, `Column` for the first wrong one of those that a report alone reads, or `Memory`.
 fn count_rows(alloc: Global, text: &[u8]) -> Result<Report, ListFault>
     ensures { (records : List (List (List ℕ))) → AreRecords default_config st.StartRecord (strip_bom text.now) records
         → Gives result (lines_of records) }
@@ -72,13 +75,13 @@ fn count_rows(alloc: Global, text: &[u8]) -> Result<Report, ListFault>
     }
 }
 
-/// Reads the records.
+/// Hands each record of the CSV to an empty draft, and returns its report, or the first fault.
 fn read_rows(alloc: Global, text: &[u8], draft: Draft) -> Result<Report, ListFault>
     requires { IsDraft draft nothing_read }
     ensures { (records : List (List (List ℕ))) → AreRecords default_config st.StartRecord (strip_bom text.now) records
         → Gives result (lines_of records) }
 {
-    // `Draft::take` judges the number of fields, so the reader accepts any number.
+    // The reader accepts any number of fields: `read_profile` has judged it, as `verify_items` has called it before.
     let reader = ReaderBuilder::new()
         .has_headers(false)
         .flexible(true)

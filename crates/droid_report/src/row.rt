@@ -1,4 +1,4 @@
-//! A row of a profile.
+//! A row of a profile: its texts, and the facts that are read of it once, or the column that is wrong.
 
 ghost use Rattle.std.specs.Prelude.{◌≡◌, IfOk, MatchOption, false, true};
 ghost use Rattle.std.specs.Str.{is_utf8};
@@ -26,7 +26,8 @@ pub struct Row {
 }
 
 impl Row {
-    /// Returns the text of a column, or nothing where it is no text.
+    /// Returns the text of a column, or nothing where it is not UTF-8. [`facts_of`] has refused a row in which one of
+    /// [`TEXTS`] is not; hashes and moments are ASCII.
     pub fn text(&self, column: Column) -> &str
         ensures { result.now ≡ rows.text_at (fields_of self.now.fields) (place_of column) }
     {
@@ -36,7 +37,7 @@ impl Row {
         }
     }
 
-    /// Copies the row.
+    /// Copies the row, for a list. Fails only if memory runs out.
     pub fn copy(&self) -> Result<Row, AllocError>
         ensures { IfOk result (λ copy. line_of copy ≡ line_of self.now) }
     {
@@ -49,7 +50,8 @@ impl Row {
     }
 }
 
-/// The texts that a report alone reads. [`droid_export::read_profile`] takes them as bytes, or not at all.
+/// The texts that a report alone reads, in the order in which the first wrong one is named: `texts` of
+/// `specs/Rows.antt`, which the prover ties. [`droid_export::read_profile`] takes them as bytes, or not at all.
 const TEXTS: [Column; 4] = [
     Column::FilePath,
     Column::Puid,
@@ -57,7 +59,8 @@ const TEXTS: [Column; 4] = [
     Column::FormatVersion,
 ];
 
-/// Reads what a row says beside its texts. Returns the first wrong column of those that a report alone reads.
+/// Reads the facts of a row that has all columns, after `read_profile` judged it. Returns the first wrong column of
+/// those that a report alone reads: METHOD, EXTENSION_MISMATCH, then [`TEXTS`].
 #[tactic(auto, unfolding(crate::specs::Rows::facts_of))]
 pub(crate) fn facts_of(row: &ByteRecord) -> Result<Facts, Column>
     ensures { result ≡ rows.facts_of (fields_of row.now) }
@@ -72,14 +75,14 @@ pub(crate) fn facts_of(row: &ByteRecord) -> Result<Facts, Column>
     }
 }
 
-/// Returns the first column of [`TEXTS`] that is not UTF-8.
+/// Returns the first column of [`TEXTS`] that is not UTF-8, or `None` if all are.
 fn no_text(row: &ByteRecord) -> Option<Column>
     ensures { result ≡ rows.no_text (fields_of row.now) }
 {
     TEXTS.iter().copied().find(|column| !is_text(row, *column))
 }
 
-/// Returns whether a column is UTF-8.
+/// Returns whether a column's bytes are UTF-8.
 fn is_text(row: &ByteRecord, column: Column) -> bool
     ensures { result ≡ rows.is_printable (fields_of row.now) column }
 {
@@ -89,7 +92,7 @@ fn is_text(row: &ByteRecord, column: Column) -> bool
     }
 }
 
-/// Returns the bytes as text, if they are UTF-8.
+/// Returns the bytes as text, or `None` if they are not UTF-8.
 fn text_in(bytes: &[u8]) -> Option<&str>
     ensures { MatchOption result (is_utf8 bytes.now ≡ false) (λ text.
         (text.now ≡ bytes.now) × (is_utf8 bytes.now ≡ true)) }
@@ -100,7 +103,7 @@ fn text_in(bytes: &[u8]) -> Option<&str>
     }
 }
 
-/// Returns what a row says that has this method, and is a mismatch or not.
+/// Returns the facts of a row. The two that can be wrong were read by [`facts_of`]; the others cannot, in a judged row.
 fn facts_by(row: &ByteRecord, method: Method, is_mismatch: bool) -> Facts
     ensures { result ≡ rows.facts_by (fields_of row.now) method is_mismatch }
 {

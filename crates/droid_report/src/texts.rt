@@ -1,4 +1,7 @@
 //! All texts of the page.
+//!
+//! The contracts name these constants, whatever words they have. `tests/program/report` holds the words: it computes
+//! each letter of a page.
 
 /// Stands before the name of the CSV.
 pub const MADE_FROM: &str = "Made by droid_desk from ";
@@ -68,8 +71,11 @@ pub(crate) const FORMATS_BY_FILES: &str = "Formats by number of files";
 
 pub(crate) const FORMATS_BY_BYTES: &str = "Formats by bytes";
 
+/// Goes with the 12 of `most_named` in `view/picture.rt`, which has as many rows: nothing but these two lines ties
+/// them.
 pub(crate) const TWELVE: &str = "The twelve largest, and all others.";
 
+/// Stands in the place of [`TWELVE`] where lists have no rows.
 pub(crate) const TOGETHER: &str = "All formats together: there is no room for their names.";
 
 pub(crate) const FORMAT: &str = "format";
@@ -85,6 +91,7 @@ pub(crate) const YEAR: &str = "year";
 
 pub(crate) const SIZES: &str = "Sizes";
 
+/// Goes with `POWERS` in `classes.rt`.
 pub(crate) const SIZES_NOTE: &str = "Files by size, from each power of four to the next.";
 
 pub(crate) const SIZE: &str = "size";
@@ -111,6 +118,7 @@ pub(crate) const DEPTH_NOTE: &str = "How many slashes the paths of files have.";
 
 pub(crate) const SLASHES: &str = "slashes";
 
+/// Names the last class of depths: goes with the 64 of `last_class` in `classes.rt` and of `view/class_names.rt`.
 pub(crate) const MOST_SLASHES: &str = "64 or more";
 
 pub(crate) const MORE: &str = " more: ";

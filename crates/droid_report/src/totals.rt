@@ -1,4 +1,4 @@
-//! Totals.
+//! The totals of a report, and which rows count for each.
 
 ghost use Rattle.std.specs.Prelude.{◌≡◌};
 ghost use Rattle.droid_report.specs.Lines.{line_of};
@@ -54,7 +54,7 @@ pub struct Totals {
 impl Totals {
     ghost use Rattle.droid_report.specs.Totals.{no_totals, totals_after};
 
-    /// Starts with zeros.
+    /// Returns the totals before the first row: all 0.
     pub(crate) fn none() -> Totals
         ensures { result ≡ no_totals }
     {
@@ -71,7 +71,9 @@ impl Totals {
         }
     }
 
-    /// Counts a row.
+    /// Counts a row in each total that it counts for, and its bytes. Each stays at 2^64 - 1 when it is there.
+    ///
+    /// A new total is a variant of [`What`], a field, and a line here, in [`is_counted`] and in `specs/Totals.antt`.
     pub(crate) fn add(&mut self, row: &Row)
         ensures { self.new ≡ totals_after self.old (line_of row.now) }
     {
@@ -87,7 +89,7 @@ impl Totals {
     }
 }
 
-/// Counts a row, if it counts for a total.
+/// Returns `count` with one more, or 2^64 - 1, if a row counts for the total `what`; otherwise `count`.
 fn counted(count: u64, row: &Row, what: What) -> u64
     ensures { result ≡ totals.counted what count (line_of row.now) }
 {
@@ -98,7 +100,7 @@ fn counted(count: u64, row: &Row, what: What) -> u64
     }
 }
 
-/// Returns whether a row counts for a total.
+/// Returns whether a row counts for a total: only the first row of a folder or file does. The lists go by it too.
 pub(crate) fn is_counted(row: &Row, what: What) -> bool
     ensures { result ≡ totals.is_counted what (line_of row.now) }
 {
@@ -115,14 +117,14 @@ pub(crate) fn is_counted(row: &Row, what: What) -> bool
     }
 }
 
-/// Returns whether a row is the first of a file.
+/// Returns whether a row is the first of a file: not a folder, and not a further format of the file before it.
 pub(crate) fn is_first_of_file(row: &Row) -> bool
     ensures { result ≡ totals.is_first_of_file (line_of row.now) }
 {
     row.is_first && row.facts.kind.is_file()
 }
 
-/// Returns how many bytes a row adds to those of all files.
+/// Returns how many bytes a row adds to those of all files: the file's size in its first row, otherwise 0.
 fn bytes_of(row: &Row) -> u64
     ensures { result ≡ totals.bytes_of (line_of row.now) }
 {

@@ -22,14 +22,16 @@ use run::run_lines;
 pub use script_fault::ScriptFault;
 use std::alloc::Global;
 
-/// The most bytes in a script.
+/// The most bytes in a script. The definition `IsTooLong` has this number too, and the prover ties them. It also stands
+/// in the sentence of the fault (`faults.rt` of droid_terminal), which the case `too_long` of `tests/program` compares,
+/// in `tests/program/model/main.py`, in docs/SERVICE and on this crate's page; nothing ties those three.
 const INPUT_LIMIT: usize = 67_108_864;
 
 /// Runs a script: reads it to its end, passes the request of each line to the service, and writes for each line the
 /// reply or `bad line`.
 ///
 /// A script has at most 67,108,864 bytes. An interrupted read is tried again, up to 64 times in all, and an interrupted
-/// write up to 64 times for one line.
+/// write up to 64 times for one line (`RETRY_LIMIT` of droid_frame). [`ScriptFault`] says what each fault leaves.
 pub fn script<R: SteadyRead, W: SteadyWrite>(
     alloc: Global,
     service: &mut Service,

@@ -18,7 +18,8 @@ use droid_frame::{Reply, SteadyWrite, WriteState, request_frame, write_all};
 use droid_lines::{Tally, next_line, parse_line, print_answer};
 use std::alloc::{AllocError, Global};
 
-/// Handles the lines of the input, and writes what each prints. Returns how many there were.
+/// Handles the lines of the input, and writes what each prints before it handles the next one. Returns how many there
+/// were, and how many of them were bad. Ends at the first line at which [`run_line`] fails.
 pub fn run_lines<W: SteadyWrite>(
     alloc: Global,
     service: &mut Service,
@@ -49,7 +50,8 @@ pub fn run_lines<W: SteadyWrite>(
     Ok(tally)
 }
 
-/// Handles one line, and writes what it prints. Returns whether the line is bad.
+/// Handles one line, and writes what it prints. Returns whether the line is bad. If memory for the text runs out or the
+/// writer fails, the line was handled all the same; not if memory for the line or its frame runs out.
 fn run_line<W: SteadyWrite>(
     alloc: Global,
     service: &mut Service,

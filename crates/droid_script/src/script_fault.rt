@@ -1,4 +1,4 @@
-//! The faults of a script.
+//! The faults of a script: why it ended, the names that the program prints, and how one kind of fault becomes another.
 
 ghost use Rattle.std.specs.Prelude.{◌≡◌};
 ghost use Rattle.droid_script.specs.Scripts.{script_fault_name};
@@ -13,9 +13,11 @@ pub enum ScriptFault {
     TooLong,
     /// The script could not be read. No line was handled.
     Read,
-    /// Out of memory.
+    /// Out of memory, for the script, and no line was handled, or at a line, and those before it were: that line too if
+    /// memory ran out for what it prints. If memory runs out inside the service, the reply says so, and the script goes
+    /// on.
     Memory,
-    /// A reply could not be written.
+    /// What a line prints could not be written, or not all of it. The line was handled all the same.
     Write,
 }
 
@@ -38,6 +40,7 @@ impl From<AllocError> for ScriptFault {
 
     ghost from_gives = { λ _ fault. fault ≡ Memory };
 
+    /// Memory ran out.
     fn from(_error: AllocError) -> ScriptFault {
         ScriptFault::Memory
     }
@@ -48,6 +51,7 @@ impl From<InputFault> for ScriptFault {
 
     ghost from_gives = { λ input fault. fault ≡ reading_fault input };
 
+    /// Keeps the name of a fault that the script had when it was read.
     fn from(fault: InputFault) -> ScriptFault {
         match fault {
             InputFault::TooLong => ScriptFault::TooLong,
@@ -62,6 +66,7 @@ impl From<WriteFault> for ScriptFault {
 
     ghost from_gives = { λ _ fault. fault ≡ Write };
 
+    /// A reply could not be written. How many bytes of it were, which the fault says, is dropped.
     fn from(_fault: WriteFault) -> ScriptFault {
         ScriptFault::Write
     }

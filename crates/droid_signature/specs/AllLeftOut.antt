@@ -61,7 +61,7 @@ unnamed_item id = record { format = None; item = items.Signature id; why = why.U
 abbrev pub all_left_out : FileRecord → List LeftOut → List LeftOut
 all_left_out file left = left ++ without left file.formats ++ map unnamed_item (unnamed file)
 
--- for proofs: what a map has at a place
+-- for inner clauses: what a map has at a place
 abbrev pub count_at : Counts → ℕ → ℕ
 count_at map place = unwrap_or (get_by (nat_cmp place) map.counts) 0
 

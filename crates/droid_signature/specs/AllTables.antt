@@ -1,4 +1,4 @@
--- For proofs: the tables of a signature file.
+-- For inner clauses and proofs: the tables of a signature file.
 use Rattle.std.specs.Prelude.{ℕ, List, ◌++◌, length}
 use Rattle.droid_signature.specs.Signatures.{Signs, all_signatures}
 use Rattle.droid_signature.specs.RegistryTables.{extension_fields, priority_fields}

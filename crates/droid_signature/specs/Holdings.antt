@@ -1,4 +1,4 @@
--- For proofs: a map from IDs to what has them.
+-- For inner clauses and proofs: a map from IDs to what has them.
 use Rattle.std.specs.Prelude.{◌≡◌, ℕ, List, unwrap_or}
 use Rattle.std.specs.BTreeMap.{get_by}
 use Rattle.std.specs.Ordering.{nat_cmp}

@@ -1,4 +1,4 @@
--- For proofs: a map from PUIDs to places.
+-- For inner clauses and proofs: a map from PUIDs to places.
 use Rattle.std.specs.Prelude.{◌≡◌, ℕ, List}
 use Rattle.std.specs.BTreeMap.{get_by_text}
 use Rattle.droid_pronom.specs.Registry.{place_of}

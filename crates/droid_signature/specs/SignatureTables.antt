@@ -1,10 +1,10 @@
--- A table's rows.
+-- The rows of the table of signatures.
 use Rattle.std.specs.Prelude.{◌≡◌, ℕ, [], ◌∷◌, ◌++◌, Some}
 use Rattle.droid_signature.specs.declared.left_out.Item.TheVariants as items
 use Rattle.droid_signature.specs.declared.left_out.Why.{Why}
 use Rattle.droid_signature.specs.declared.signature_table.SignatureTable.{SignatureTable}
 
--- without rows
+-- a table without rows
 pub record IsNew (table : SignatureTable) : Type 0 where
   pub text : table.text.items ≡ []
   pub taken : table.taken ≡ 0
@@ -12,7 +12,7 @@ pub record IsNew (table : SignatureTable) : Type 0 where
   pub sequences : table.sequences ≡ 0
   pub left_out : table.left_out.items ≡ []
 
--- with one more signature that is left out
+-- a table with one more signature that is left out
 pub record HasLeft (old new : SignatureTable) (format id : ℕ) (why : Why) : Type 0 where
   pub text : new.text.items ≡ old.text.items
   pub taken : new.taken ≡ old.taken

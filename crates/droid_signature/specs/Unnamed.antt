@@ -24,6 +24,6 @@ unnamed_among ids (signature ∷ signatures) =
 abbrev pub unnamed : FileRecord → List ℕ
 unnamed file = unnamed_among (ids_named file.formats) file.signatures
 
--- for proofs: the map has these IDs
+-- for inner clauses: the map has these IDs, and no others
 pub record AreNamed (map : Named) (ids : List ℕ) : Type 0 where
   pub each : (id : ℕ) → is_some (get_by (nat_cmp id) map.ids) ≡ is_named ids id

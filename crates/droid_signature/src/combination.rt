@@ -13,7 +13,7 @@ use droid_signature_pattern::Choices;
 use itoa::Buffer;
 use std::alloc::AllocError;
 
-/// Returns in how many ways one text of each can be chosen.
+/// Returns in how many ways one text of each can be chosen, or 2^64 - 1 if there are more. Of no byte sequence: 1.
 pub(crate) fn ways(all: &[Choices]) -> usize
     ensures { result ≡ min (ways all.now) 18446744073709551615 }
 {
@@ -24,14 +24,16 @@ pub(crate) fn ways(all: &[Choices]) -> usize
     count
 }
 
-/// Multiplies, but returns the largest number where the product is larger.
+/// Multiplies, but returns 2^64 - 1 where the product is larger.
 fn times(count: usize, more: usize) -> usize
     ensures { result ≡ min (count * more) 18446744073709551615 }
 {
     count.saturating_mul(more)
 }
 
-/// Appends the rows of the first `count` ways, of which the first byte sequence's changes slowest.
+/// Appends the rows of the first `count` ways, of which the first byte sequence's changes slowest. The one caller
+/// passes all ways. The 64 is `MOST_WAYS` of `choices.rt` of `droid_signature_pattern`: so few ways [`ways`] counts
+/// exactly.
 pub(crate) fn push_combinations(
     text: &mut Vec<u8>,
     puid: &str,
@@ -48,7 +50,8 @@ pub(crate) fn push_combinations(
     Ok(())
 }
 
-/// Appends the rows of the way with a number.
+/// Appends the rows of the way with a number: a row `S` of its first byte sequence, a row `B` of each further one. For
+/// no byte sequence it appends nothing. No divisor is 0, since there are more ways than the number.
 fn push_combination(
     text: &mut Vec<u8>,
     puid: &str,
@@ -71,7 +74,9 @@ fn push_combination(
     Ok(())
 }
 
-/// Appends the rows of further byte sequences. `block` is the number of ways.
+/// Appends the rows of further byte sequences, for the way with this number among their own. `block` is the number of
+/// these ways. The number is taken apart like one in digits: each byte sequence has a digit, which is the place of its
+/// text, and the first has the highest.
 fn push_further(
     text: &mut Vec<u8>,
     puid: &str,
@@ -94,7 +99,7 @@ fn push_further(
     Ok(())
 }
 
-/// Appends the row of a byte sequence with the text at a place.
+/// Appends the row of a byte sequence with the text at a place. `letter` begins it: `S` or `B`.
 fn push_pick(
     text: &mut Vec<u8>,
     letter: &str,
@@ -120,7 +125,7 @@ fn push_pick(
     Ok(())
 }
 
-/// Returns the field for where a byte sequence is anchored.
+/// Returns the field that says from which end of a file the offsets of a byte sequence count.
 fn anchor_text(anchor: Anchor) -> &'static str
     ensures { result.now ≡ anchor_text anchor }
 {

@@ -10,7 +10,9 @@ use crate::tables::{AllTables, left_out_of, tables_of, text_of};
 use droid_signature_file::SignatureFile;
 use std::alloc::{AllocError, AllocFailed, Global};
 
-/// The most bytes of a registry file.
+/// The most bytes of a registry file, as `BYTES_LIMIT` of `droid_pronom`. The clauses of `convert` and the definitions
+/// of `specs/Conversion.antt` have this number too, and the law `tables_are_read_back`; the prover ties them. The words
+/// at `TooLong` and in `registry_ending.rt` of `droid_cmd_registry` no proof ties.
 const BYTES_LIMIT: usize = 16_777_216;
 
 /// Why no registry could be made.
@@ -25,6 +27,7 @@ pub enum ConversionFault {
 impl From<AllocError> for ConversionFault {
     ghost from_gives = { λ _ e. e ≡ faults.Memory };
 
+    /// Memory ran out.
     fn from(_: AllocError) -> Self {
         ConversionFault::Memory
     }
@@ -33,6 +36,7 @@ impl From<AllocError> for ConversionFault {
 impl<T: Drop> From<AllocFailed<T>> for ConversionFault {
     ghost from_gives = { λ _ e. e ≡ faults.Memory };
 
+    /// Memory ran out. Drops what it ran out for.
     fn from(_: AllocFailed<T>) -> Self {
         ConversionFault::Memory
     }
@@ -64,6 +68,8 @@ pub struct Converted {
 /// `Registry::parse` reads the registry file. Its formats are those of the signature file, with name, version, media
 /// type, extensions and priorities, and each hits only files that it hits by the signature file, under every scan
 /// limit. It hits all of them, if none of its signatures is left out. What is left out is listed, with the reason.
+///
+/// Fails with `Memory`, or with `TooLong`, which is found once the whole registry is made.
 pub fn convert(alloc: Global, file: &SignatureFile) -> Result<Converted, ConversionFault>
     ensures made { IfOk result (λ made. IsConversion file.now made.csv.items made.left_out.items made.taken) }
     ensures short { IfOk result (λ made. length made.csv.items ≤ 16777216) }
@@ -76,7 +82,7 @@ pub fn convert(alloc: Global, file: &SignatureFile) -> Result<Converted, Convers
     Ok(made)
 }
 
-/// Makes the registry. Fails if memory runs out, or if it would be too long.
+/// Makes the registry, however long its file is. Fails only if memory runs out.
 fn make(alloc: Global, file: &SignatureFile) -> Result<Converted, AllocError>
     ensures { IfOk result (λ made. IsConversion file.now made.csv.items made.left_out.items made.taken) }
 {
@@ -90,7 +96,7 @@ fn make(alloc: Global, file: &SignatureFile) -> Result<Converted, AllocError>
     })
 }
 
-/// Counts what the registry has.
+/// Counts what the registry has. A signature of the file counts once for each format, however many rows it becomes.
 fn taken_of(tables: &AllTables<'_>) -> Taken
     ensures { result ≡ taken_in tables.now }
 {

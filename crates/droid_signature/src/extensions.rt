@@ -1,4 +1,4 @@
-//! Which extensions the registry has.
+//! Which extensions the registry has, and their rows.
 
 ghost use Rattle.std.specs.Prelude.{◌≡◌, ◌++◌, ◌∷◌, [], List, IfOk, OnOk};
 ghost use Rattle.std.specs.List.{list_all};
@@ -14,7 +14,8 @@ use crate::left_out::{Item, Why};
 use crate::table::Table;
 use std::alloc::{AllocError, Global};
 
-/// The most extensions of a registry.
+/// The most extensions of a registry, as `ROWS_LIMIT` of `droid_pronom`. The definitions `TakesExtension` and
+/// `IsReasonOfExtension`, and those of `specs/RegistryTables.antt`, have this number too; the prover ties it to them.
 const EXTENSIONS_LIMIT: u64 = 16_384;
 
 /// Returns the rows of the formats' extensions, and why the registry cannot hold the others.
@@ -28,7 +29,7 @@ pub fn list_extensions(alloc: Global, kept: &[Kept<'_>]) -> Result<Table, AllocE
     Ok(table)
 }
 
-/// Adds the extensions of the format at a place of the registry.
+/// Adds the extensions of the format at a place of the registry, or leaves them out, one by one.
 fn add_extensions(table: &mut Table, place: usize, of: &Kept<'_>) -> Result<(), AllocError>
     ensures { OnOk result ((xs : List Extension) → Fills TakesExtension LeavesExtension extension_fields xs table.old
         → Fills TakesExtension LeavesExtension extension_fields
@@ -41,7 +42,8 @@ fn add_extensions(table: &mut Table, place: usize, of: &Kept<'_>) -> Result<(), 
     Ok(())
 }
 
-/// Adds an extension, or leaves it out.
+/// Adds an extension, or leaves it out: if it is none (`BadExtension`), or if the table is full (`Full`). `at` is its
+/// place among the format's.
 fn add_extension(
     table: &mut Table,
     place: usize,
@@ -66,7 +68,8 @@ fn add_extension(
 }
 
 /// Returns whether the text is an extension, by the definition of the registry's reader: 1 to 64 bytes, none of them a
-/// dot or a slash.
+/// dot or a slash. The prover ties this to that definition; the comment of `BadExtension` and its sentence in
+/// `droid_cmd_registry` have the 64 as words.
 fn is_extension(text: &str) -> bool
     ensures { result ≡ field.is_extension text.now }
 {

@@ -1,4 +1,4 @@
-//! Which formats the registry has.
+//! Which formats the registry has, and their rows.
 
 ghost use Rattle.std.specs.Prelude.{◌≡◌, ℕ, List, ◌++◌, ◌∷◌, [], ◌&&◌, None, IfOk, IfSome, OnOk, length};
 ghost use Rattle.droid_pronom.specs.RegistryFields as field;
@@ -16,7 +16,8 @@ use droid_pronom::is_puid;
 use droid_signature_file::FileFormat;
 use std::alloc::{AllocError, Global};
 
-/// The most formats of a registry.
+/// The most formats of a registry, as `FORMATS_LIMIT` of `droid_pronom`. The definitions `IsReasonOfFormat` and
+/// `FormatFits` have this number too; the prover ties it to them.
 const FORMATS_LIMIT: usize = 4096;
 
 /// A format that the registry has.
@@ -57,7 +58,7 @@ impl<'a> Keeping<'a> {
         }
     }
 
-    /// Keeps a format, or leaves it out.
+    /// Keeps the format at a place of the file, or leaves it out for its first reason.
     fn keep(
         &mut self,
         alloc: Global,
@@ -74,7 +75,7 @@ impl<'a> Keeping<'a> {
         Ok(())
     }
 
-    /// Adds a format that the registry can hold.
+    /// Adds the format at a place of the file, which the registry can hold: `why_not` found no reason.
     fn add(&mut self, alloc: Global, place: usize, format: &'a FileFormat) -> Result<(), AllocError>
         ensures { OnOk result ((xs : List Placed) → Keeps xs self.old
             → FormatFits (formats_of (all_of self.old.kept.items)) (format_of format.now)
@@ -107,7 +108,7 @@ pub fn keep_formats<'a>(alloc: Global, formats: &'a [FileFormat]) -> Result<Keep
     Ok(keeping)
 }
 
-/// Returns the PUID of a format, an empty text if it has none.
+/// Returns the PUID of a format, an empty text if it has none. Each format of the registry has one.
 pub fn puid_of(format: &FileFormat) -> &str
     ensures { result.now ≡ puid_in format.now }
 {
@@ -117,7 +118,8 @@ pub fn puid_of(format: &FileFormat) -> &str
     }
 }
 
-/// Returns why a registry that has `count` formats with these PUIDs cannot hold a format, if it cannot.
+/// Returns why a registry that has `count` formats with these PUIDs cannot hold a format, if it cannot: the first
+/// reason in the order below. No clause holds the order.
 fn why_not(places: &Places, count: usize, format: &FileFormat) -> Option<Why>
     ensures none { result ≡ None → (formats : List Format) → AreOf places.now formats → count ≡ length formats
         → FormatFits formats (format_of format.now) }
@@ -147,14 +149,17 @@ fn why_not(places: &Places, count: usize, format: &FileFormat) -> Option<Why>
     None
 }
 
-/// Returns whether the text may be a format's name: 1 to 255 bytes.
+/// Returns whether the text may be a format's name, by the definition of the registry's reader: 1 to 255 bytes. The
+/// prover ties this and the next to it; the comments of `BadName` and `LongNote`, and their sentences in
+/// `droid_cmd_registry`, have the number as words.
 fn is_name(text: &str) -> bool
     ensures { result ≡ field.is_name text.now }
 {
     1 <= text.len() && text.len() <= 255
 }
 
-/// Returns whether the texts may be a version and a media type: at most 255 bytes each.
+/// Returns whether the texts may be a version and a media type, by the definition of the registry's reader: at most 255
+/// bytes each.
 fn are_notes(version: &str, mime: &str) -> bool
     ensures { result ≡ (field.is_note version.now && field.is_note mime.now) }
 {

@@ -32,7 +32,7 @@ impl Ids {
         }
     }
 
-    /// Notes that what stands at a place has this ID.
+    /// Notes that what stands at a place has this ID. Calls come in the order of places, from 0 on.
     pub fn note(&mut self, id: u32, place: usize) -> Result<(), AllocError>
         ensures { OnOk result ((ids : List ℕ) → AreOf self.old ids → place ≡ length ids
             → AreOf self.new (ids ++ id ∷ [])) }
@@ -42,7 +42,7 @@ impl Ids {
         Ok(())
     }
 
-    /// Returns whether nothing, one thing or several have this ID, and the place of the one.
+    /// Returns whether nothing, only one or several of those noted have this ID, and the place of the only one.
     pub fn holder(&self, id: u32) -> Holder
         ensures { (ids : List ℕ) → AreOf self.now ids → result ≡ holder id ids }
     {
@@ -53,7 +53,7 @@ impl Ids {
     }
 }
 
-/// Returns what has an ID once what stands at a place has it too.
+/// Returns what has an ID, if `holder` had it before and what stands at a place has it too.
 fn one_more(holder: Holder, place: usize) -> Holder
     ensures { result ≡ one_more holder place }
 {

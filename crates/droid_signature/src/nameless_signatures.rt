@@ -1,4 +1,4 @@
-//! Finds the signatures that no format names.
+//! Finds the signatures that no format of the file names, by their IDs: the unnamed ones.
 
 ghost use Rattle.std.specs.Prelude.{◌≡◌, ◌++◌, ◌∷◌, [], ℕ, List, IfOk, OnOk, if◌then◌else◌};
 ghost use Rattle.droid_signature.specs.Unnamed.{AreNamed, ids_named, is_named, unnamed, unnamed_among};
@@ -33,7 +33,7 @@ impl Named {
         }
     }
 
-    /// Notes an ID.
+    /// Notes that a format names this ID. Some are named several times.
     fn note(&mut self, id: u32) -> Result<(), AllocError>
         ensures { OnOk result ((ids : List ℕ) → AreNamed self.old ids → AreNamed self.new (ids ++ id ∷ [])) }
     {
@@ -41,7 +41,7 @@ impl Named {
         Ok(())
     }
 
-    /// Returns whether an ID is named.
+    /// Returns whether a format names this ID.
     fn has(&self, id: u32) -> bool
         ensures { (ids : List ℕ) → AreNamed self.now ids → result ≡ is_named ids id }
     {
@@ -49,7 +49,7 @@ impl Named {
     }
 }
 
-/// Notes the IDs that formats name.
+/// Notes the signatures that all formats of the file name, also those that the registry does not have.
 fn note_all(named: &mut Named, formats: &[FileFormat]) -> Result<(), AllocError>
     ensures { OnOk result (AreNamed named.old [] → AreNamed named.new (ids_named formats.now)) }
 {
@@ -69,7 +69,8 @@ fn note_ids(named: &mut Named, ids: &[u32]) -> Result<(), AllocError>
     Ok(())
 }
 
-/// Returns the IDs of the signatures that are not named.
+/// Returns the IDs of the signatures that are not named, in the file's order. One that several have comes several
+/// times.
 fn others(
     alloc: Global,
     signatures: &[InternalSignature],

@@ -48,7 +48,7 @@ impl Counts {
         }
     }
 
-    /// Counts the signatures that are left out.
+    /// Counts for each format how many of its signatures are among the items that are left out.
     fn of(alloc: Global, left_out: &[LeftOut]) -> Result<Counts, AllocError>
         ensures { IfOk result (AreCountsOf left_out.now) }
     {
@@ -59,7 +59,7 @@ impl Counts {
         Ok(counts)
     }
 
-    /// Counts one more, if it is a signature of a format.
+    /// Counts an item that is left out, if it is a signature of a format.
     fn note(&mut self, it: &LeftOut) -> Result<(), AllocError>
         ensures { OnOk result ((left : List LeftOut) → AreCountsOf left self.old
             → AreCountsOf (left ++ it.now ∷ []) self.new) }
@@ -108,7 +108,7 @@ fn holder_of(it: &LeftOut) -> Option<usize>
     }
 }
 
-/// Lists the formats that are left without a signature.
+/// Appends the formats that are left without a signature, in the file's order.
 fn push_without(
     all: &mut Vec<LeftOut>,
     formats: &[FileFormat],
@@ -123,7 +123,8 @@ fn push_without(
     Ok(())
 }
 
-/// Appends that a format is left without a signature, if it had any and kept none.
+/// Appends that a format is left without a signature, if it had any and kept none. One that is left out as a whole is
+/// not meant: `convert` does not list its signatures, so its `count` is 0.
 fn push_if_without(
     all: &mut Vec<LeftOut>,
     place: usize,
@@ -150,7 +151,7 @@ fn is_without(format: &FileFormat, count: u64) -> bool
     0 < signatures && count == signatures
 }
 
-/// Lists the signatures with these IDs, which no format names.
+/// Appends the signatures with these IDs, which no format names.
 fn push_unnamed(all: &mut Vec<LeftOut>, ids: &[u32]) -> Result<(), AllocError>
     ensures { OnOk result (all.new.items ≡ all.old.items ++ map unnamed_item ids.now) }
 {

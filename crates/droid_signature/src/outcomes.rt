@@ -1,4 +1,4 @@
-//! What each signature of a file becomes in the registry.
+//! What each signature of a file becomes in the registry, made once, however many formats name it.
 
 ghost use Rattle.std.specs.Prelude.{◌≡◌, ℕ, List, Some, slice_get, option_copied, IfErr, IfOk};
 ghost use Rattle.droid_signature_pattern.specs.Choices.{AreTaken};
@@ -28,7 +28,7 @@ pub struct Outcomes {
 }
 
 impl Outcomes {
-    /// Makes what each signature becomes.
+    /// Makes what each signature of the file becomes, also of those that no format names.
     pub fn of(alloc: Global, signatures: &[InternalSignature]) -> Result<Outcomes, AllocError>
         ensures { IfOk result (AreOutcomesOf signatures.now) }
     {
@@ -42,7 +42,8 @@ impl Outcomes {
         Ok(Outcomes { ids, outcomes })
     }
 
-    /// Returns what the signature with an ID becomes, or why nothing.
+    /// Returns what the only signature of the file with an ID becomes, or why nothing: there is none or there are
+    /// several, or a registry cannot hold it.
     pub fn of_id(&self, id: u32) -> Result<&[Choices], Why>
         ensures ok { IfOk result (λ all.
             (signatures : List SignatureRecord) → AreOutcomesOf signatures self.now
@@ -59,7 +60,8 @@ impl Outcomes {
     }
 }
 
-/// Returns the choices that the signature at a place becomes, or why nothing.
+/// Returns the choices that the signature at a place becomes, or why nothing. There is a signature at each place that
+/// [`Ids`] returns, so `None` cannot come, and no clause says what it would give.
 fn taken_at(outcomes: &[Outcome], place: usize) -> Result<&[Choices], Why>
     ensures ok { IfOk result (λ all.
         (signatures : List SignatureRecord) (signature : SignatureRecord) → AreOutcomes signatures outcomes.now
@@ -75,14 +77,15 @@ fn taken_at(outcomes: &[Outcome], place: usize) -> Result<&[Choices], Why>
     }
 }
 
-/// Returns what the signature at a place becomes.
+/// Returns what the signature at a place becomes, if there is one.
 fn outcome_at(outcomes: &[Outcome], place: usize) -> Option<&Outcome>
     ensures { option_copied result ≡ slice_get outcomes.now place }
 {
     outcomes.get(place)
 }
 
-/// Returns what a signature becomes: rows of the registry, or why it is left out.
+/// Returns what a signature becomes: choices for its byte sequences, or why it is left out. Fails only if memory runs
+/// out.
 fn outcome_of(alloc: Global, signature: &InternalSignature) -> Result<Outcome, AllocError>
     ensures { IfOk result (IsOutcome signature.now) }
 {

@@ -7,7 +7,7 @@ ghost use Rattle.droid_pronom.specs.declared.format.Format.{Format};
 use std::alloc::{AllocError, Global};
 use std::collections::BTreeMap;
 
-/// The place of each format by its PUID.
+/// The place of each format by its PUID. The code asks only for the PUIDs; the definition `AreOf` has the places.
 #[derive(Drop)]
 pub(crate) struct Places {
     places: BTreeMap<String, usize>,
@@ -25,14 +25,14 @@ impl Places {
         }
     }
 
-    /// Returns whether a format has this PUID.
+    /// Returns whether one of the formats so far has this PUID.
     pub(crate) fn has(&self, puid: &str) -> bool
         ensures { (formats : List Format) → AreOf self.now formats → result ≡ is_some (place_of puid.now formats) }
     {
         self.places.contains_key(puid)
     }
 
-    /// Notes the PUID of the format at a place.
+    /// Notes the PUID of the format at a place, which none of those before it has.
     pub(crate) fn add(&mut self, alloc: Global, puid: &str, place: usize) -> Result<(), AllocError>
         ensures { OnOk result ((formats : List Format) (it : Format) → AreOf self.old formats → it.puid ≡ puid.now
             → place_of it.puid formats ≡ None → place ≡ length formats → AreOf self.new (formats ++ it ∷ [])) }

@@ -1,4 +1,4 @@
-//! Which priorities the registry has.
+//! Which priorities the registry has, and their rows.
 
 ghost use Rattle.std.specs.Prelude.{◌≡◌, ◌<◌, ◌++◌, ◌∷◌, [], List, ℕ, IfErr, IfOk, OnOk, length};
 ghost use Rattle.droid_signature.specs.RegistryTables.{priority_fields};
@@ -16,10 +16,11 @@ use crate::left_out::{Item, Why};
 use crate::table::Table;
 use std::alloc::{AllocError, Global};
 
-/// The most priorities of a registry.
+/// The most priorities of a registry, as `ROWS_LIMIT` of `droid_pronom`. The definitions of `specs/Priorities.antt` and
+/// of `specs/RegistryTables.antt` have this number too; the prover ties it to them.
 const PRIORITIES_LIMIT: u64 = 16_384;
 
-/// Returns which of the formats has which ID.
+/// Returns which of the registry's formats has which ID, by places in the registry.
 pub fn ids_of(alloc: Global, kept: &[Kept<'_>]) -> Result<Ids, AllocError>
     ensures { IfOk result (λ ids. AreOf ids (spec.ids_of (all_of kept.now))) }
 {
@@ -45,7 +46,7 @@ pub fn list_priorities(alloc: Global, kept: &[Kept<'_>], ids: &Ids) -> Result<Ta
     Ok(table)
 }
 
-/// Adds the priorities of the format at a place of the registry.
+/// Adds the priorities of the format at a place of the registry, or leaves them out, one by one.
 fn add_priorities(
     table: &mut Table,
     kept: &[Kept<'_>],
@@ -66,7 +67,8 @@ fn add_priorities(
     Ok(())
 }
 
-/// Adds the priority of a format over the one with an ID, or leaves it out.
+/// Adds the priority of a format over the one with an ID, or leaves it out: no format, several formats or the format
+/// itself has that ID, or the table is full.
 fn add_priority(
     table: &mut Table,
     kept: &[Kept<'_>],
@@ -88,7 +90,7 @@ fn add_priority(
     Ok(())
 }
 
-/// Returns the place of the only format with an ID.
+/// Returns the place in the registry of the only format with an ID, or why there is no such format.
 fn other_of(ids: &Ids, id: u32) -> Result<usize, Why>
     ensures ok { IfOk result (λ place. (all : List ℕ) → AreOf ids.now all → holder id all ≡ Only place) }
     ensures err { IfErr result (λ reason.
@@ -101,7 +103,8 @@ fn other_of(ids: &Ids, id: u32) -> Result<usize, Why>
     }
 }
 
-/// Adds the priority of a format over the one with this ID, which has a place in the registry.
+/// Adds the priority of a format over the one at the place `over` of the registry, which has this ID; or leaves it out:
+/// the two are one format (`OverItself`), which the PUIDs tell, since a registry has each once; or the table is full.
 fn add_priority_over(
     table: &mut Table,
     kept: &[Kept<'_>],

@@ -1,4 +1,4 @@
-//! The text of a registry file's rows.
+//! The text of a registry file's rows, as CSV.
 
 ghost use Rattle.std.specs.Prelude.{◌≡◌, ◌++◌, ◌∷◌, [], ◌==◌, not, OnOk};
 ghost use Rattle.std.specs.List.{flat_map, list_all};
@@ -6,7 +6,8 @@ ghost use Rattle.droid_signature.specs.Csv.{doubled, line, quoted};
 
 use std::alloc::AllocError;
 
-/// Appends a row of six fields, each between double quotes (RFC 4180). A line feed ends it.
+/// Appends a row of six fields, each between double quotes (RFC 4180). A line feed ends it. Each record of a registry
+/// has six fields (`FIELDS` of `droid_pronom`).
 #[tactic(auto, using(crate::proofs::RowTexts::row_joined))]
 pub fn push_row(
     text: &mut Vec<u8>,
@@ -40,7 +41,7 @@ fn push_next(text: &mut Vec<u8>, field: &[u8]) -> Result<(), AllocError>
     Ok(())
 }
 
-/// Appends a field between double quotes.
+/// Appends a field between double quotes. One inside it is written twice.
 #[tactic(auto, using(crate::proofs::RowTexts::quoted_joined))]
 fn push_quoted(text: &mut Vec<u8>, field: &[u8]) -> Result<(), AllocError>
     ensures { OnOk result (text.new.items ≡ text.old.items ++ quoted field.now) }
@@ -51,7 +52,7 @@ fn push_quoted(text: &mut Vec<u8>, field: &[u8]) -> Result<(), AllocError>
     Ok(())
 }
 
-/// Appends bytes, a double quote twice.
+/// Appends bytes, each double quote twice.
 fn push_doubled(text: &mut Vec<u8>, field: &[u8]) -> Result<(), AllocError>
     ensures { OnOk result (text.new.items ≡ text.old.items ++ flat_map doubled field.now) }
 {
@@ -73,7 +74,7 @@ fn has_no_quote(field: &[u8]) -> bool
     field.iter().all(|c| *c != b'"')
 }
 
-/// Appends a byte, a double quote twice.
+/// Appends a byte, or two if it is a double quote.
 fn push_byte(text: &mut Vec<u8>, c: u8) -> Result<(), AllocError>
     ensures { OnOk result (text.new.items ≡ text.old.items ++ doubled c) }
 {

@@ -1,4 +1,4 @@
-//! Which signatures the registry has.
+//! Which signatures the registry has: goes over those that its formats name, and adds or leaves out each.
 
 ghost use Rattle.std.specs.Prelude.{◌≡◌, ◌++◌, ◌∷◌, [], ℕ, List, IfOk, OnOk};
 ghost use Rattle.droid_signature_file.specs.Records.{SignatureRecord};
@@ -29,7 +29,7 @@ pub fn list_signatures(
     Ok(table)
 }
 
-/// Adds the signatures of a format.
+/// Adds the signatures that a format names, or leaves them out, one by one.
 fn add_signatures(
     table: &mut SignatureTable,
     of: &Kept<'_>,
@@ -47,7 +47,7 @@ fn add_signatures(
     Ok(())
 }
 
-/// Adds the signature with an ID, or leaves it out.
+/// Adds the signature with an ID, by what it becomes, or leaves it out, for the reason why it becomes nothing.
 fn add_signature(
     table: &mut SignatureTable,
     of: &Kept<'_>,

@@ -1,4 +1,4 @@
-//! The table of signatures.
+//! The table of signatures: as `table.rt`, but with several rows for one item, and two limits.
 
 ghost use Rattle.std.specs.Prelude.{◌≡◌, ◌⊎◌, ◌<◌, ◌≤◌, ◌++◌, ◌∷◌, [], ℕ, List, true, false, OnOk};
 ghost use Rattle.droid_signature_pattern.specs.Choices.{AreTaken, ways};
@@ -13,7 +13,10 @@ use crate::left_out::{Item, LeftOut, Why};
 use droid_signature_pattern::Choices;
 use std::alloc::{AllocError, Global};
 
-/// The most signatures of a registry.
+/// The most signatures of a registry, as `droid_pronom` reads it (`ROWS_LIMIT`, `SEQUENCES_LIMIT` of its
+/// `registry/draft`). The clauses of `is_full`, `specs/Signatures.antt` and `specs/RegistryTables.antt` have this
+/// number and the next one, and the prover ties them. `largest_registry` of `tests/program/identification.py` is a
+/// registry that has as many of both.
 const SIGNATURES_LIMIT: usize = 16_384;
 
 /// The most byte sequences of a registry.
@@ -59,7 +62,7 @@ impl SignatureTable {
         }
     }
 
-    /// Lists a signature that is left out of the format at a place of the file.
+    /// Lists that the signature with an ID is left out for the format at a place of the file.
     pub(crate) fn leave_out(&mut self, format: usize, id: u32, why: Why) -> Result<(), AllocError>
         ensures { OnOk result (HasLeft self.old self.new format id why) }
     {
@@ -71,7 +74,9 @@ impl SignatureTable {
         Ok(())
     }
 
-    /// Adds a signature of a format by the choices that stand for it, or leaves it out.
+    /// Adds a signature of a format by the choices that stand for it, with all its ways, or leaves it out as a whole if
+    /// the table has no room for them (`Full`). A later one that needs less room may still be added. There are at most
+    /// 64 ways (`MOST_WAYS` of `choices.rt` of `droid_signature_pattern`), as [`push_combinations`] asks.
     pub(crate) fn add(&mut self, of: &Kept<'_>, id: u32, all: &[Choices]) -> Result<(), AllocError>
         requires { ways all.now ≤ 64 }
         ensures { OnOk result ((signatures : List SignatureRecord) (xs : List Named) (place at : ℕ)

@@ -1,4 +1,4 @@
-//! One table of the registry that is made.
+//! A table of the registry that is made: of formats, extensions or priorities.
 
 ghost use Rattle.std.specs.Prelude.{◌≡◌, ◌∷◌, [], Some, OnOk};
 ghost use Rattle.droid_signature.specs.Tables.{HasLeft, HasRow, IsNew};
@@ -39,7 +39,9 @@ impl Table {
         }
     }
 
-    /// Adds a row of six fields.
+    /// Adds a row of six fields, of which `kind` is the letter. Fields that it does not need are empty: each record of
+    /// a registry has six (`FIELDS` of `droid_pronom`). The clause counts rows while they are fewer than 2^32, far
+    /// above the limits of the tables.
     pub fn push(
         &mut self,
         kind: &str,
@@ -65,7 +67,7 @@ impl Table {
         Ok(())
     }
 
-    /// Lists what is left out of the format at a place of the file.
+    /// Lists that an item is left out, of the format at a place of the file.
     pub fn leave_out(&mut self, format: usize, item: Item, why: Why) -> Result<(), AllocError>
         ensures { OnOk result (HasLeft self.old self.new (record { format = Some format; item = item; why = why })) }
     {

@@ -1,4 +1,4 @@
-//! The tables of the registry that a signature file becomes.
+//! All four tables of the registry that a signature file becomes, and what they have in all.
 
 ghost use Rattle.std.specs.Prelude.{◌≡◌, ◌++◌, IfOk, OnOk};
 ghost use Rattle.droid_signature.specs.AllTables.{AreTablesOf, all_left, all_text};
@@ -39,7 +39,7 @@ impl Drop for AllTables<'_> {
     }
 }
 
-/// Makes the tables of a signature file.
+/// Makes the tables of a signature file. The three others are those of the formats that the first one has.
 pub(crate) fn tables_of<'a>(
     alloc: Global,
     file: &'a SignatureFile,
@@ -58,7 +58,7 @@ pub(crate) fn tables_of<'a>(
     })
 }
 
-/// Makes the table of the priorities between these formats.
+/// Makes the table of the priorities between these formats, those that the registry has.
 fn priorities_of(alloc: Global, kept: &[Kept<'_>]) -> Result<Table, AllocError>
     ensures { IfOk result
         (Fills (TakesPriority (all_of kept.now)) (LeavesPriority (all_of kept.now)) priority_fields
@@ -80,7 +80,7 @@ fn signatures_of(
     list_signatures(alloc, kept, &outcomes)
 }
 
-/// Returns the text of all rows.
+/// Returns the text of all rows: formats, extensions, priorities, signatures.
 pub(crate) fn text_of(alloc: Global, tables: &AllTables<'_>) -> Result<Vec<u8>, AllocError>
     ensures { IfOk result (λ text. text.items ≡ all_text tables.now) }
 {
@@ -92,7 +92,7 @@ pub(crate) fn text_of(alloc: Global, tables: &AllTables<'_>) -> Result<Vec<u8>, 
     Ok(text)
 }
 
-/// Returns what is left out of all tables.
+/// Returns what is left out of all tables, in the order of their rows.
 pub(crate) fn left_out_of(alloc: Global, tables: &AllTables<'_>) -> Result<Vec<LeftOut>, AllocError>
     ensures { IfOk result (λ left. left.items ≡ all_left tables.now) }
 {
@@ -104,7 +104,7 @@ pub(crate) fn left_out_of(alloc: Global, tables: &AllTables<'_>) -> Result<Vec<L
     Ok(left)
 }
 
-/// Appends the items of another list.
+/// Appends a copy of each item of another list.
 pub(crate) fn push_all(left: &mut Vec<LeftOut>, more: &[LeftOut]) -> Result<(), AllocError>
     ensures { OnOk result (left.new.items ≡ left.old.items ++ more.now) }
 {

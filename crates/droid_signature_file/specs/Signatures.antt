@@ -37,15 +37,15 @@ every read (x ∷ xs) = read x >>= (λ y. every_with y (every read xs))
 
 -- ---- without white space: ASCII's, of which XML has all but the form feed
 
--- at the beginning
+-- a text without the white space at its beginning
 abbrev pub trimmed_front : List ℕ → List ℕ
 trimmed_front text = drop (prefix_len is_ascii_whitespace text) text
 
--- at the end
+-- a text without the white space at its end
 abbrev pub trimmed_back : List ℕ → List ℕ
 trimmed_back text = take (length text - suffix_len is_ascii_whitespace text) text
 
--- at both
+-- a text without the white space at both ends
 abbrev pub trimmed : List ℕ → List ℕ
 trimmed text = trimmed_back (trimmed_front text)
 

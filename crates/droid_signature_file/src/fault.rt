@@ -1,4 +1,4 @@
-//! Why a signature file is not read.
+//! Why a signature file is not read; and how one kind of fault becomes another.
 
 ghost use Rattle.std.specs.Prelude.{◌≡◌};
 ghost use Rattle.droid_signature_file.specs.declared.fault.Stop.TheVariants as stops;
@@ -28,7 +28,7 @@ pub enum FileFault {
     NotASignatureFile(Wrong),
 }
 
-/// Why the reading of a document stopped.
+/// Why the reading of a document stopped: as [`FileFault`], once the document itself has no problem.
 #[derive(Clone, Copy)]
 pub(crate) enum Stop {
     Memory,
@@ -38,6 +38,7 @@ pub(crate) enum Stop {
 impl From<AllocError> for Stop {
     ghost from_gives = { λ _ e. e ≡ stops.Memory };
 
+    /// Memory ran out.
     fn from(_: AllocError) -> Self {
         Stop::Memory
     }
@@ -46,6 +47,7 @@ impl From<AllocError> for Stop {
 impl<T: Drop> From<AllocFailed<T>> for Stop {
     ghost from_gives = { λ _ e. e ≡ stops.Memory };
 
+    /// Memory ran out. Drops what it ran out for.
     fn from(_: AllocFailed<T>) -> Self {
         Stop::Memory
     }
@@ -54,6 +56,7 @@ impl<T: Drop> From<AllocFailed<T>> for Stop {
 impl From<Wrong> for Stop {
     ghost from_gives = { λ wrong e. e ≡ stops.Wrong wrong };
 
+    /// Lets `?` return what is wrong.
     fn from(wrong: Wrong) -> Self {
         Stop::Wrong(wrong)
     }

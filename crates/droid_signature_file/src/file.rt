@@ -1,4 +1,4 @@
-//! Reads a whole signature file.
+//! Reads a whole signature file: from bytes to pieces, from pieces to the root, from the root to records.
 
 ghost use Rattle.std.specs.Prelude.{map};
 ghost use Rattle.droid_xml.specs.LineEnds.{with_line_feeds};
@@ -31,7 +31,8 @@ pub fn read(alloc: Global, bytes: &[u8]) -> Result<SignatureFile, FileFault>
     }
 }
 
-/// Reads a signature file whose line ends are line feeds.
+/// Reads a signature file whose line ends are line feeds. A problem of the document comes before anything that is wrong
+/// with its elements.
 fn read_text(alloc: Global, text: &[u8]) -> Result<SignatureFile, FileFault>
     ensures { ReadsText text.now result }
 {
@@ -49,7 +50,8 @@ fn read_text(alloc: Global, text: &[u8]) -> Result<SignatureFile, FileFault>
     }
 }
 
-/// Reads what the pieces of a document say.
+/// Makes the file of a document's pieces, those that mean something. `Wrong::Root`: the root has another name. All else
+/// that can be wrong stands in the root.
 fn said(alloc: Global, pieces: &[Piece<'_>]) -> Result<SignatureFile, Stop>
     ensures { Gives (λ it. it) result (spec.said (map part pieces.entry.now)) }
 {
@@ -64,7 +66,8 @@ fn said(alloc: Global, pieces: &[Piece<'_>]) -> Result<SignatureFile, Stop>
     Ok(file)
 }
 
-/// Reads what the root of a signature file says.
+/// Reads what the root of a signature file says: its attributes, signatures and formats. `found` are the unknown names,
+/// which were counted before.
 #[tactic(auto, unfolding(crate::specs::Signatures::file))]
 fn file(alloc: Global, found: Tally, root: &Node<'_, '_>) -> Result<SignatureFile, Stop>
     ensures { Gives (λ it. it) result (spec.file found (node_of root.now)) }

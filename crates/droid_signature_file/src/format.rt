@@ -95,7 +95,7 @@ impl FileFormat {
         }
     }
 
-    /// Returns the attribute `ID`.
+    /// Returns the attribute `ID`, by which the priorities of other formats name this one.
     pub fn id(&self) -> u32
         ensures { result ≡ self.now.id }
     {
@@ -109,42 +109,44 @@ impl FileFormat {
         self.attributes.puid.as_ref()
     }
 
-    /// Returns the attribute `Name`.
+    /// Returns the attribute `Name`, which is empty if it is missing.
     pub fn name(&self) -> &str
         ensures { result.now ≡ self.now.name }
     {
         self.attributes.name.as_str()
     }
 
-    /// Returns the attribute `Version`.
+    /// Returns the attribute `Version`, which is empty if it is missing.
     pub fn version(&self) -> &str
         ensures { result.now ≡ self.now.version }
     {
         self.attributes.version.as_str()
     }
 
-    /// Returns the attribute `MIMEType`.
+    /// Returns the attribute `MIMEType`, which is empty if it is missing.
     pub fn mime(&self) -> &str
         ensures { result.now ≡ self.now.mime }
     {
         self.attributes.mime.as_str()
     }
 
-    /// Returns the IDs of the format's signatures.
+    /// Returns the IDs of the format's signatures, in the file's order. Whether the file has such signatures is not
+    /// checked.
     pub fn signatures(&self) -> &[u32]
         ensures { result.now ≡ self.now.signatures }
     {
         self.signatures.as_slice()
     }
 
-    /// Returns the extensions.
+    /// Returns the extensions as they stand, in the file's order.
     pub fn extensions(&self) -> &[Text]
         ensures { result.now ≡ self.now.extensions }
     {
         self.extensions.as_slice()
     }
 
-    /// Returns the IDs of the formats over which this one has priority.
+    /// Returns the IDs of the formats over which this one has priority, in the file's order. Whether the file has such
+    /// formats is not checked.
     pub fn priorities(&self) -> &[u32]
         ensures { result.now ≡ self.now.priorities }
     {

@@ -16,7 +16,7 @@ use std::alloc::{AllocError, Global};
 impl FromNode for FileFormat {
     ghost says = { spec.format };
 
-    /// Reads a `FileFormat`.
+    /// Reads a `FileFormat`. `Wrong::Number`: its `ID`, or the text of an ID in it, is no number.
     #[tactic(auto, unfolding(crate::specs::Signatures::format))]
     fn from_node(alloc: Global, node: &Node<'_, '_>) -> Result<Self, Stop> {
         let attributes = attributes(alloc, node)?;
@@ -27,7 +27,7 @@ impl FromNode for FileFormat {
     }
 }
 
-/// Reads the attributes of a `FileFormat`.
+/// Reads the attributes of a `FileFormat`. Only `ID` has to be there.
 #[tactic(auto, unfolding(crate::specs::Signatures::attributes))]
 fn attributes(alloc: Global, node: &Node<'_, '_>) -> Result<FormatAttributes, Stop>
     ensures { Gives (λ it. it) result (spec.attributes (node_of node.now)) }
@@ -46,7 +46,7 @@ fn attributes(alloc: Global, node: &Node<'_, '_>) -> Result<FormatAttributes, St
     })
 }
 
-/// Copies the value of an attribute, if it is there.
+/// Copies the value of an attribute, if it is there. Fails only if memory runs out.
 fn if_there(alloc: Global, value: Option<&str>) -> Result<Option<Text>, AllocError>
     ensures { IfOk result (λ text. text ≡ option_map (λ text. text.now) value.entry) }
 {
@@ -56,7 +56,7 @@ fn if_there(alloc: Global, value: Option<&str>) -> Result<Option<Text>, AllocErr
     }
 }
 
-/// Copies the value of an attribute. One that is missing is empty.
+/// Copies the value of an attribute. One that is missing is empty. Fails only if memory runs out.
 pub(crate) fn or_empty(alloc: Global, value: Option<&str>) -> Result<Text, AllocError>
     ensures { IfOk result (λ text. text ≡ spec.or_empty (option_map (λ text. text.now) value.entry)) }
 {

@@ -1,7 +1,8 @@
 //! Reads elements as records.
 //!
 //! A record's `impl` of [`FromNode`] reads one element; its `ghost says` is the definition that its `from_node` meets.
-//! The functions below read all elements of a name, each by its record's `from_node`.
+//! The functions below read all elements of a name, each by its record's `from_node`, in the document's order, up to
+//! the first that is wrong. After a fault nothing is promised of `all`: `read_each` and `read_collected` drop it.
 
 ghost use Rattle.std.specs.Prelude.{◌∷◌, ◌<◌, ◌≤◌, [], drop, filter, length, map, IfOk, IfSome};
 ghost use Rattle.std.specs.List.{flat_map};
@@ -25,12 +26,12 @@ pub(crate) trait FromNode: Sized + Drop {
     /// What an element says, or what is wrong with it.
     ghost says: { Element → Result Self Wrong };
 
-    /// Reads an element.
+    /// Reads an element as the record, or returns what is wrong with it. The caller has seen to its name.
     fn from_node(alloc: Global, node: &Node<'_, '_>) -> Result<Self, Stop>
         ensures { Gives (λ it. it) result (says (node_of node.now)) };
 }
 
-/// Reads the elements of a name that stand directly in an element.
+/// Reads the elements of a name that stand directly in an element, and passes over the others there.
 pub(crate) fn read_each<T: FromNode>(
     alloc: Global,
     node: &Node<'_, '_>,
@@ -45,7 +46,7 @@ pub(crate) fn read_each<T: FromNode>(
     }
 }
 
-/// Adds the elements of a name that stand directly among the pieces.
+/// Adds the elements of a name that stand directly among the pieces, one after the other.
 fn add_each<T: FromNode>(
     alloc: Global,
     all: &mut Vec<T>,
@@ -88,7 +89,7 @@ fn add_next<T: FromNode>(
     }
 }
 
-/// Adds an element, if it has this name.
+/// Adds an element, if it has this name. Passes over any other one.
 fn add_named<T: FromNode>(
     alloc: Global,
     all: &mut Vec<T>,
@@ -110,7 +111,7 @@ fn add_named<T: FromNode>(
     }
 }
 
-/// Reads the elements of a name that stand directly in the elements of another name.
+/// Reads the elements of a name that stand directly in the root's elements of another name, the collections.
 pub(crate) fn read_collected<T: FromNode>(
     alloc: Global,
     root: &Node<'_, '_>,

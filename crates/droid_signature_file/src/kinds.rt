@@ -1,4 +1,5 @@
-//! The elements and attributes that a signature file is known to have.
+//! The elements and attributes that a signature file is known to have. Where a kind is asked for, `None` says that the
+//! name is not known in this place.
 
 ghost use Rattle.std.specs.Prelude.{◌≡◌, Some, None, if◌then◌else◌};
 ghost use Rattle.std.specs.Str.{bytes_eq};
@@ -25,7 +26,7 @@ pub(crate) enum Kind {
     Word,
 }
 
-/// Returns the kind of the outermost element.
+/// Returns the kind of the outermost element: the root, by its one name.
 pub(crate) fn kind_outside(name: &str) -> Option<Kind>
     ensures { result ≡ known.kind_outside name.now }
 {
@@ -77,14 +78,14 @@ impl Kind {
     }
 }
 
-/// Returns the kind, if the name is the wanted one.
+/// Returns the kind, if the name is the wanted one: for elements that have one kind of element inside.
 fn only(name: &str, wanted: &str, kind: Kind) -> Option<Kind>
     ensures { result ≡ (if bytes_eq name.now wanted.now then Some kind else None) }
 {
     if name == wanted { Some(kind) } else { None }
 }
 
-/// Returns the kind of an element in the root.
+/// Returns the kind of an element that stands in the root: one of the two collections.
 fn collection(name: &str) -> Option<Kind>
     ensures { result ≡ known.kind_in Kind.Root name.now }
 {
@@ -97,7 +98,7 @@ fn collection(name: &str) -> Option<Kind>
     }
 }
 
-/// Returns the kind of an element in a `SubSequence`.
+/// Returns the kind of an element that stands in a `SubSequence`: its run of bytes (`Sequence`), or a fragment.
 fn run_or_fragment(name: &str) -> Option<Kind>
     ensures { result ≡ known.kind_in Kind.SubSequence name.now }
 {
@@ -110,7 +111,7 @@ fn run_or_fragment(name: &str) -> Option<Kind>
     }
 }
 
-/// Returns the kind of an element in a `FileFormat`.
+/// Returns the kind of an element that stands in a `FileFormat`: all three have text alone.
 fn word_of_format(name: &str) -> Option<Kind>
     ensures { result ≡ known.kind_in Kind.Format name.now }
 {

@@ -23,6 +23,7 @@ mod signature;
 mod signatures;
 mod subsequence;
 mod tally;
+mod white_space;
 mod whole_file;
 mod words;
 

@@ -21,14 +21,14 @@ pub(crate) struct Node<'a, 'b> {
 }
 
 impl<'a, 'b> Node<'a, 'b> {
-    /// Returns the value of the attribute of this name.
+    /// Returns the value of the attribute of this name, if there is one.
     pub(crate) fn value(&self, name: &str) -> Option<&'a str>
         ensures { option_map (λ value. value.now) result ≡ spec.value_of name.now (node_of self.now).attributes }
     {
         value_of(self.element.attributes.as_slice(), name)
     }
 
-    /// Returns the text that stands directly in the element.
+    /// Returns the text that stands directly in the element, one part after the other, without that of elements inside.
     pub(crate) fn words(&self, alloc: Global) -> Result<String, AllocError>
         ensures { IfOk result (λ words. string_bytes words ≡ spec.words_from 0 (node_of self.now).inside) }
     {
@@ -36,7 +36,7 @@ impl<'a, 'b> Node<'a, 'b> {
     }
 }
 
-/// Returns the text that stands directly among the pieces.
+/// Returns the text that stands directly among the pieces, without that of elements among them.
 fn words_of(alloc: Global, pieces: &[Piece<'_>]) -> Result<String, AllocError>
     ensures { IfOk result (λ words. string_bytes words ≡ spec.words_from 0 (map part pieces.now)) }
 {
@@ -51,7 +51,7 @@ fn words_of(alloc: Global, pieces: &[Piece<'_>]) -> Result<String, AllocError>
     Ok(words)
 }
 
-/// Returns the value of the attribute of this name.
+/// Returns the value of the attribute of this name, if there is one.
 fn value_of<'a>(attributes: &'a [Attribute<'_>], name: &str) -> Option<&'a str>
     ensures { option_map (λ value. value.now) result ≡ spec.value_of name.now (map setting attributes.entry.now) }
 {
@@ -63,7 +63,7 @@ fn value_of<'a>(attributes: &'a [Attribute<'_>], name: &str) -> Option<&'a str>
     None
 }
 
-/// Returns the first element that stands directly among the pieces, and the place behind it.
+/// Returns the first element that stands directly among the pieces, if there is one, and the place behind its end.
 pub(crate) fn first_node<'a, 'b>(pieces: &'a [Piece<'b>]) -> Option<(Node<'a, 'b>, usize)>
     ensures found { MatchOption result (spec.nodes_from 0 (map part pieces.entry.now) ≡ []) (λ found.
         spec.nodes_from 0 (map part pieces.entry.now)
@@ -79,7 +79,7 @@ pub(crate) fn first_node<'a, 'b>(pieces: &'a [Piece<'b>]) -> Option<(Node<'a, 'b
     Some((Node { element, inside }, place + 1 + own))
 }
 
-/// Returns the element that a piece begins.
+/// Returns the element that a piece begins, if it begins one.
 fn element_of<'a, 'b>(piece: &'a Piece<'b>) -> Option<&'a Element<'b>>
     ensures { option_map (λ element. tag element.now) result ≡ spec.tag_of (part piece.entry.now) }
 {
@@ -90,7 +90,7 @@ fn element_of<'a, 'b>(piece: &'a Piece<'b>) -> Option<&'a Element<'b>>
     }
 }
 
-/// Returns how many pieces stand before the first that begins an element.
+/// Returns how many pieces stand before the first that begins an element: all, if none does.
 fn start_place(pieces: &[Piece<'_>]) -> usize
     ensures value { result ≡ position_or_len spec.is_start (map part pieces.now) }
     ensures few { result ≤ length pieces.now }
@@ -114,7 +114,7 @@ fn is_start(piece: &Piece<'_>) -> bool
     }
 }
 
-/// Returns the pieces inside an element, out of those behind its start tag.
+/// Returns the pieces inside an element, out of those behind its start tag: none if its start tag ends it too.
 fn inside_of<'a, 'b>(element: &Element<'_>, behind: &'a [Piece<'b>]) -> &'a [Piece<'b>]
     ensures { map part result.now ≡ spec.inside_of (tag element.now) (map part behind.entry.now) }
 {
@@ -151,7 +151,7 @@ fn opens(piece: &Piece<'_>) -> bool
     }
 }
 
-/// Returns how many pieces stand before the end tag of the element that they are in.
+/// Returns how many pieces stand before the end tag of the element that they are in: all, if it is not among them.
 fn inner_len(pieces: &[Piece<'_>]) -> usize
     ensures value { result ≡ spec.inner_len 0 (map part pieces.now) }
     ensures few { result ≤ length pieces.now }
@@ -180,7 +180,7 @@ fn deeper(depth: usize, piece: &Piece<'_>) -> Option<usize>
     }
 }
 
-/// Adds the text of a piece.
+/// Adds the text of a piece: text as it stands, a CDATA section, or the character of a reference. Others have none.
 fn add_word(words: &mut String, piece: &Piece<'_>) -> Result<(), AllocError>
     ensures { OnOk result (string_bytes words.new ≡ string_bytes words.old ++ spec.word (part piece.now)) }
 {

@@ -1,4 +1,4 @@
-//! Reads numbers, and takes the white space off texts.
+//! Reads numbers: those of attributes, and those that are the texts of elements.
 
 ghost use Rattle.std.specs.Prelude.{◌≡◌};
 ghost use Rattle.std.specs.Char.{is_ascii_digit};
@@ -8,15 +8,9 @@ ghost use Rattle.droid_signature_file.specs.Outcomes.{Gives};
 ghost use Rattle.droid_signature_file.specs.Signatures as spec;
 
 use crate::fault::{Stop, Wrong};
+use crate::white_space::trimmed;
 
-/// Returns the text without the white space at both ends.
-pub(crate) fn trimmed(text: &str) -> &str
-    ensures { result.now ≡ spec.trimmed text.now }
-{
-    text.trim_ascii()
-}
-
-/// Reads a number: one decimal digit or more, and less than 4,294,967,296.
+/// Reads a number: one decimal digit or more, no sign, and less than 4,294,967,296. Leading zeros don't matter.
 pub(crate) fn number(text: &str) -> Result<u32, Stop>
     ensures { Gives (λ n. n) result (spec.number text.now) }
 {
@@ -32,14 +26,14 @@ pub(crate) fn number(text: &str) -> Result<u32, Stop>
     }
 }
 
-/// Returns whether all bytes are decimal digits.
+/// Returns whether all bytes are decimal digits, ASCII's.
 fn are_digits(text: &[u8]) -> bool
     ensures { result ≡ list_all is_ascii_digit text.now }
 {
     text.iter().all(|c| c.is_ascii_digit())
 }
 
-/// Reads a number that has to be there.
+/// Reads the number of an attribute that has to be there. White space at both ends doesn't count.
 pub(crate) fn wanted(value: Option<&str>) -> Result<u32, Stop>
     ensures { Gives (λ n. n) result (spec.wanted (option_map (λ text. text.now) value.entry)) }
 {
@@ -49,7 +43,7 @@ pub(crate) fn wanted(value: Option<&str>) -> Result<u32, Stop>
     }
 }
 
-/// Reads a number that may be missing.
+/// Reads the number of an attribute that may be missing. White space at both ends doesn't count.
 pub(crate) fn optional(value: Option<&str>) -> Result<Option<u32>, Stop>
     ensures { Gives (λ n. n) result (spec.optional (option_map (λ text. text.now) value.entry)) }
 {

@@ -10,7 +10,8 @@ use crate::search_tables::{depth_behind, is_kept};
 use droid_xml::{Fault, Piece, Reader};
 use std::alloc::Global;
 
-/// Reads the pieces of a document that mean something. The whole document is read. Its line ends are line feeds.
+/// Reads the pieces of a document that mean something. Its line ends are line feeds. A problem anywhere in the document
+/// is found, also in what is left out.
 pub(crate) fn pieces_of(alloc: Global, text: &[u8]) -> Result<Vec<Piece<'_>>, Fault>
     ensures found { IfOk result (λ pieces.
         (parts : List Part) × IsDocument text.now parts × (map part pieces.items ≡ meaningful 0 parts)) }

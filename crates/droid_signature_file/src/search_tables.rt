@@ -1,4 +1,5 @@
-//! Search tables, which a signature file has for programs that search, and which mean nothing.
+//! Which pieces mean nothing: search tables, which a signature file has for programs that search, comments, and
+//! processing instructions.
 
 ghost use Rattle.std.specs.Prelude.{◌≡◌, ◌+◌, ◌<◌, ◌^◌};
 ghost use Rattle.droid_xml.specs.Views.{part};
@@ -6,7 +7,7 @@ ghost use Rattle.droid_signature_file.specs.Tables as spec;
 
 use droid_xml::Piece;
 
-/// Returns whether elements of this name are search tables.
+/// Returns whether elements of this name are search tables: `Shift` and `DefaultShift`.
 pub(crate) fn is_table(name: &str) -> bool
     ensures { result ≡ spec.is_table name.now }
 {

@@ -48,7 +48,7 @@ impl SequenceRecord {
         SequenceRecord { reference, parts }
     }
 
-    /// Returns from where the offsets count.
+    /// Returns from where the offsets count: the attribute `Reference`.
     pub fn reference(&self) -> Reference
         ensures { result ≡ self.now.reference }
     {

@@ -37,7 +37,7 @@ impl InternalSignature {
         InternalSignature { id, sequences }
     }
 
-    /// Returns the attribute `ID`.
+    /// Returns the attribute `ID`, by which formats name the signature.
     pub fn id(&self) -> u32
         ensures { result ≡ self.now.id }
     {

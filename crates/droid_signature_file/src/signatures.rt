@@ -18,7 +18,7 @@ use std::alloc::Global;
 impl FromNode for InternalSignature {
     ghost says = { spec.signature };
 
-    /// Reads an `InternalSignature`.
+    /// Reads an `InternalSignature`: its `ID`, which has to be there, and its byte sequences.
     #[tactic(auto, unfolding(crate::specs::Signatures::signature))]
     fn from_node(alloc: Global, node: &Node<'_, '_>) -> Result<Self, Stop> {
         let id = wanted(node.value("ID"))?;
@@ -30,7 +30,7 @@ impl FromNode for InternalSignature {
 impl FromNode for SequenceRecord {
     ghost says = { spec.byte_sequence };
 
-    /// Reads a `ByteSequence`.
+    /// Reads a `ByteSequence`: its `Reference`, which may be missing, and its subsequences.
     #[tactic(auto, unfolding(crate::specs::Signatures::byte_sequence))]
     fn from_node(alloc: Global, node: &Node<'_, '_>) -> Result<Self, Stop> {
         let reference = reference(node.value("Reference"));
@@ -58,7 +58,8 @@ fn reference(value: Option<&str>) -> Reference
 impl FromNode for SubSequence {
     ghost says = { spec.sub_sequence };
 
-    /// Reads a `SubSequence`.
+    /// Reads a `SubSequence`: its `Position` and its one `Sequence`, which have to be there, its offsets, which may be
+    /// missing, and its fragments.
     #[tactic(auto, unfolding(crate::specs::Signatures::sub_sequence))]
     fn from_node(alloc: Global, node: &Node<'_, '_>) -> Result<Self, Stop> {
         let position = wanted(node.value("Position"))?;
@@ -70,7 +71,7 @@ impl FromNode for SubSequence {
     }
 }
 
-/// Reads the text of the one `Sequence` of a `SubSequence`.
+/// Reads the text of the one `Sequence` of a `SubSequence`. None or several are wrong.
 #[tactic(auto, unfolding(crate::specs::Signatures::only_sequence))]
 fn only_sequence(alloc: Global, node: &Node<'_, '_>) -> Result<Text, Stop>
     ensures { Gives (λ text. text) result (spec.only_sequence (node_of node.now)) }
@@ -80,7 +81,7 @@ fn only_sequence(alloc: Global, node: &Node<'_, '_>) -> Result<Text, Stop>
     Ok(text)
 }
 
-/// Returns the text if there is exactly one.
+/// Returns the text if there is exactly one. Otherwise its `SubSequence` is wrong.
 fn only(texts: Vec<Text>) -> Result<Text, Stop>
     ensures { Gives (λ text. text) result (spec.only texts.items) }
 {
@@ -97,7 +98,8 @@ fn only(texts: Vec<Text>) -> Result<Text, Stop>
 impl FromNode for Fragment {
     ghost says = { spec.fragment };
 
-    /// Reads a `LeftFragment` or a `RightFragment`.
+    /// Reads a `LeftFragment` or a `RightFragment`: its `Position`, which has to be there, its offsets, which may be
+    /// missing, and its text.
     #[tactic(auto, unfolding(crate::specs::Signatures::fragment))]
     fn from_node(alloc: Global, node: &Node<'_, '_>) -> Result<Self, Stop> {
         let position = wanted(node.value("Position"))?;
@@ -111,7 +113,7 @@ impl FromNode for Fragment {
     }
 }
 
-/// Reads two offsets, by the names of their attributes.
+/// Reads two offsets, by the names of their attributes, each of which may be missing.
 #[tactic(auto, unfolding(crate::specs::Signatures::offsets))]
 fn offsets(node: &Node<'_, '_>, min: &str, max: &str) -> Result<OffsetRange, Stop>
     ensures { Gives (λ it. it) result (spec.offsets min.now max.now (node_of node.now)) }

@@ -94,21 +94,21 @@ impl SubSequence {
         }
     }
 
-    /// Returns the attribute `Position`.
+    /// Returns the attribute `Position`: which of the byte sequence's subsequences it is, counted from 1.
     pub fn position(&self) -> u32
         ensures { result ≡ self.now.position }
     {
         self.position
     }
 
-    /// Returns `SubSeqMinOffset` and `SubSeqMaxOffset`.
+    /// Returns `SubSeqMinOffset` and `SubSeqMaxOffset`, each if it is there.
     pub fn offsets(&self) -> OffsetRange
         ensures { result ≡ self.now.offsets }
     {
         self.offsets
     }
 
-    /// Returns the text of the `Sequence`.
+    /// Returns the text of the `Sequence`, without white space at both ends. What it says is not checked.
     pub fn text(&self) -> &str
         ensures { result.now ≡ self.now.text }
     {

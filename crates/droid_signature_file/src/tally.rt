@@ -1,4 +1,4 @@
-//! Counts the names that are not known.
+//! Counts the names of elements and attributes that are not known, over all pieces of a document.
 
 ghost use Rattle.std.specs.Prelude.{◌≡◌, ◌<◌, ◌≤◌, List, map, length, IfOk, OnOk};
 ghost use Rattle.std.specs.List.{position_or_len};
@@ -12,7 +12,7 @@ use droid_xml::{Attribute, Element, Piece};
 use std::alloc::{AllocError, Global};
 use std::marker::Model;
 
-/// How many names are listed.
+/// How many names are listed. The definition `noted_new` has this number too.
 const MOST_NAMES: usize = 64;
 
 /// The names that are not known, and how many came beyond those that are listed.
@@ -50,7 +50,8 @@ pub(crate) fn unknown_names(alloc: Global, pieces: &[Piece<'_>]) -> Result<Tally
     Ok(found)
 }
 
-/// The elements that are open, the innermost last, and what is counted so far.
+/// The elements that are open, the innermost last, and what is counted so far. After out of memory nothing is promised
+/// of it: `unknown_names` drops it.
 #[derive(Drop)]
 struct Counting {
     stack: Vec<Option<Kind>>,
@@ -67,7 +68,7 @@ impl Model for Counting {
 }
 
 impl Counting {
-    /// Counts what a piece has that is not known.
+    /// Counts what a piece has that is not known, and keeps in mind which elements are open behind it.
     fn count(&mut self, alloc: Global, piece: &Piece<'_>) -> Result<(), AllocError>
         ensures { OnOk result (self.new ≡ spec.counted self.old (part piece.now)) }
     {
@@ -81,7 +82,7 @@ impl Counting {
         }
     }
 
-    /// Closes the innermost element.
+    /// Closes the innermost element, if one is open.
     #[tactic(auto, using(crate::proofs::Loops::reverse_push))]
     fn close(&mut self)
         ensures { self.new ≡ record self.old { stack = spec.closed self.old.stack } }
@@ -102,7 +103,7 @@ impl Counting {
         Ok(())
     }
 
-    /// Counts what a start tag of a kind has that is not known.
+    /// Counts what a start tag has that is not known: attributes if its element has a kind, otherwise the element.
     #[tactic(auto, using(crate::proofs::Loops::names_of))]
     fn note_tag(
         &mut self,
@@ -120,7 +121,8 @@ impl Counting {
         }
     }
 
-    /// Counts an unknown element, unless the element outside is unknown too.
+    /// Counts an unknown element, unless the element outside is unknown too. A root of another name isn't counted:
+    /// such a file isn't read at all.
     fn note_element(&mut self, alloc: Global, name: &str) -> Result<(), AllocError>
         ensures { OnOk result
             (self.new ≡ record self.old { found = spec.noted_element self.old.stack name.now self.old.found }) }
@@ -131,7 +133,7 @@ impl Counting {
         }
     }
 
-    /// Returns the kind of an element of this name in the innermost element.
+    /// Returns the kind of an element of this name in the innermost element. `None`: it is not known there.
     fn kind_of(&self, name: &str) -> Option<Kind>
         ensures { result ≡ spec.kind_under self.now.stack name.now }
     {
@@ -178,7 +180,7 @@ impl Tally {
         self.note(alloc, UnknownPart::Attribute, name)
     }
 
-    /// Counts a name: at its place, as a new one, or beyond those that are listed.
+    /// Counts a name: at its place, as a new one, or beyond those that are listed. No count goes beyond 2^64 - 1.
     #[tactic(auto, unfolding(crate::specs::Unknown::noted))]
     fn note(&mut self, alloc: Global, part: UnknownPart, name: &str) -> Result<(), AllocError>
         ensures { OnOk result (self.new ≡ spec.noted part name.now self.old) }
@@ -215,7 +217,7 @@ fn place_of(names: &[UnknownName], part: UnknownPart, name: &str) -> usize
     names.len()
 }
 
-/// Counts the name at a place once more.
+/// Counts the name at a place once more, up to 2^64 - 1.
 fn count_again(names: &mut [UnknownName], place: usize)
     requires { place < length names.old }
     ensures { names.new ≡ spec.again_at place names.old }

@@ -104,35 +104,35 @@ impl SignatureFile {
         }
     }
 
-    /// Returns the attribute `Version`.
+    /// Returns the attribute `Version`, which is empty if it is missing.
     pub fn version(&self) -> &str
         ensures { result.now ≡ self.now.version }
     {
         self.version.as_str()
     }
 
-    /// Returns the attribute `DateCreated`.
+    /// Returns the attribute `DateCreated` as it stands, which is empty if it is missing.
     pub fn created(&self) -> &str
         ensures { result.now ≡ self.now.created }
     {
         self.created.as_str()
     }
 
-    /// Returns the signatures.
+    /// Returns the signatures in the file's order.
     pub fn signatures(&self) -> &[InternalSignature]
         ensures { result.now ≡ self.now.signatures }
     {
         self.signatures.as_slice()
     }
 
-    /// Returns the formats.
+    /// Returns the formats in the file's order.
     pub fn formats(&self) -> &[FileFormat]
         ensures { result.now ≡ self.now.formats }
     {
         self.formats.as_slice()
     }
 
-    /// Returns the names that the reader does not know, each once.
+    /// Returns the names that the reader does not know, each once, at most 64, in the order in which they come first.
     pub fn unknown(&self) -> &[UnknownName]
         ensures { result.now ≡ self.now.unknown }
     {

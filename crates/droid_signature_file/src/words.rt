@@ -1,4 +1,4 @@
-//! Reads elements whose text is a text or a number.
+//! Reads elements that have text alone: as a text, such as `Extension`, or as a number, such as `InternalSignatureID`.
 
 ghost use Rattle.std.specs.Prelude.{◌≡◌};
 ghost use Rattle.droid_signature_file.specs.Signatures as spec;
@@ -6,7 +6,8 @@ ghost use Rattle.droid_signature_file.specs.Signatures as spec;
 use crate::fault::Stop;
 use crate::from_node::FromNode;
 use crate::node::Node;
-use crate::numbers::{number, trimmed};
+use crate::numbers::number;
+use crate::white_space::trimmed;
 use droid_frame::Text;
 use std::alloc::Global;
 

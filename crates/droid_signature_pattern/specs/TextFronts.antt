@@ -1,4 +1,4 @@
--- For proofs: what stands at the front of a text, and the text between the marks of an item.
+-- For inner clauses and proofs: what stands at the front of a text, and the text between the marks of an item.
 use Rattle.std.specs.Prelude.{◌≡◌, ℕ, ◌+◌, ◌≤◌, ◌<◌, ◌==◌, ◌||◌, Bool, true, List, [], ◌∷◌, ◌++◌, length}
 use Rattle.std.specs.List.{AllByRecursion}
 use Rattle.droid_pattern.specs.PatternText.{SpellsBytes}

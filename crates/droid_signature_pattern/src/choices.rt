@@ -16,7 +16,9 @@ use droid_pronom::Offsets;
 use droid_signature_file::{InternalSignature, SequenceRecord};
 use std::alloc::Global;
 
-/// The most ways to choose one pattern for each byte sequence of a signature. This limit is the project's own.
+/// The most ways to choose one pattern for each byte sequence of a signature. This limit is the project's own. The
+/// definitions `AreTaken` and `HaveManyWays` have this number too, and the clauses `ways all.now ≤ 64` of
+/// `droid_signature`, which makes a signature of a registry of each way. `MOST_PATTERNS` is another 64.
 const MOST_WAYS: usize = 64;
 
 /// Offsets, and the patterns any of which has to hit there.
@@ -47,7 +49,8 @@ pub fn choices_of(alloc: Global, signature: &InternalSignature) -> Result<Vec<Ch
     Ok(all)
 }
 
-/// Returns what byte sequences become that all have to hit.
+/// Returns what byte sequences become that all have to hit. There has to be one at least (`NoSequence`). Ends at the
+/// first that a registry cannot hold, or with which there are too many ways to choose (`ManyAlternatives`).
 fn choices_of_sequences(alloc: Global, sequences: &[SequenceRecord]) -> Result<Vec<Choices>, Stop>
     ensures taken { IfOk result (λ all. AreTaken sequences.now all.items) }
     ensures left_out { IfLeftOut result (IsReasonOf sequences.now) }
@@ -68,7 +71,8 @@ fn choices_of_sequences(alloc: Global, sequences: &[SequenceRecord]) -> Result<V
     Ok(all)
 }
 
-/// Returns what a byte sequence becomes.
+/// Returns what a byte sequence becomes: its offsets and the texts of its patterns, none of which may be empty or end
+/// in a gap (`GapAtEnd`). The clause `few` has `MOST_PATTERNS` of `pattern_texts.rt`: so the caller's product fits.
 fn choices_of_sequence(alloc: Global, sequence: &SequenceRecord) -> Result<Choices, Stop>
     ensures taken { IfOk result (IsTaken sequence.now) }
     ensures few { IfOk result (λ choices. length choices.texts ≤ 64) }
@@ -92,7 +96,7 @@ fn end_in_bytes(texts: &[PatternText]) -> bool
     texts.iter().all(|text| ends_in_byte(text.as_slice()))
 }
 
-/// Returns whether a text is not empty and does not end in a gap.
+/// Returns whether a text is not empty and does not end in a gap: the text of a gap ends in `}` or `*`, and no other.
 #[tactic(auto, using(crate::proofs::Ends::ends_last, crate::proofs::Ends::ends_none))]
 fn ends_in_byte(text: &[u8]) -> bool
     ensures { result ≡ ends.ends_in_byte text.now }

@@ -1,4 +1,5 @@
-//! Writes the texts of a pattern's elements.
+//! Writes the texts of a pattern's elements, each the shortest that a registry reads. Where memory runs out, nothing is
+//! promised of `text`: the callers drop it.
 
 ghost use Rattle.std.specs.Prelude.{◌≡◌, ◌++◌, ◌<◌, OnOk, decimal};
 ghost use Rattle.std.specs.List.{flat_map};
@@ -10,7 +11,7 @@ ghost use Rattle.droid_signature_pattern.specs.Written.{pair, written};
 use itoa::Buffer;
 use std::alloc::AllocError;
 
-/// Appends a byte as two digits.
+/// Appends a byte as two hexadecimal digits, in upper case.
 pub(crate) fn push_byte(text: &mut Vec<u8>, byte: u8) -> Result<(), AllocError>
     ensures { OnOk result (text.new.items ≡ text.old.items ++ pair byte) }
 {
@@ -30,7 +31,7 @@ fn digit(value: u8) -> u8
     }
 }
 
-/// Appends bytes, each as two digits.
+/// Appends bytes, each as two digits, with nothing between them.
 pub(crate) fn push_bytes(text: &mut Vec<u8>, bytes: &[u8]) -> Result<(), AllocError>
     ensures { OnOk result (text.new.items ≡ text.old.items ++ flat_map pair bytes.now) }
 {
@@ -40,7 +41,7 @@ pub(crate) fn push_bytes(text: &mut Vec<u8>, bytes: &[u8]) -> Result<(), AllocEr
     Ok(())
 }
 
-/// Appends a byte of a range.
+/// Appends a byte of a range: `[61:7A]`.
 pub(crate) fn push_range(text: &mut Vec<u8>, low: u8, high: u8) -> Result<(), AllocError>
     ensures { OnOk result (text.new.items ≡ text.old.items ++ written (Range low high)) }
 {
@@ -52,7 +53,7 @@ pub(crate) fn push_range(text: &mut Vec<u8>, low: u8, high: u8) -> Result<(), Al
     Ok(())
 }
 
-/// Appends any byte but one.
+/// Appends any byte but one: `[!61]`.
 pub(crate) fn push_except(text: &mut Vec<u8>, byte: u8) -> Result<(), AllocError>
     ensures { OnOk result (text.new.items ≡ text.old.items ++ written (Except byte)) }
 {
@@ -72,7 +73,7 @@ pub fn push_gap(text: &mut Vec<u8>, least: u16, most: Option<u16>) -> Result<(),
     }
 }
 
-/// Appends a gap without an upper bound.
+/// Appends a gap without an upper bound: `{2-*}`, or `*` where none of its bytes has to be there.
 fn push_open_gap(text: &mut Vec<u8>, least: u16) -> Result<(), AllocError>
     ensures { OnOk result (text.new.items ≡ text.old.items ++ spec.open_gap least) }
 {
@@ -86,7 +87,7 @@ fn push_open_gap(text: &mut Vec<u8>, least: u16) -> Result<(), AllocError>
     Ok(())
 }
 
-/// Appends a gap of `least` to `most` bytes.
+/// Appends a gap of `least` to `most` bytes: `{2-5}`, or `{3}` where both are one number.
 fn push_closed_gap(text: &mut Vec<u8>, least: u16, most: u16) -> Result<(), AllocError>
     ensures { OnOk result (text.new.items ≡ text.old.items ++ spec.gap least most) }
 {

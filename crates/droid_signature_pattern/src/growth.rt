@@ -12,8 +12,8 @@ use crate::reason::{Reason, Stop};
 use std::alloc::{AllocError, Global};
 use std::marker::Model;
 
-/// Returns the texts of several lists, one behind the other, each with each: at most 64 texts of at most 4,096 bytes,
-/// with at most 16,384 bytes in all.
+/// Returns the texts of several levels, one behind the other, each with each: at most 64 texts of at most 4,096 bytes,
+/// with at most 16,384 bytes in all. Ends at the first level with which they are more.
 pub fn expanded(alloc: Global, levels: &[PatternTexts]) -> Result<PatternTexts, Stop>
     ensures ok { IfOk result (λ texts. texts ≡ spec.joined_all levels.now) }
     ensures small { IfOk result AreSmall }
@@ -27,7 +27,8 @@ pub fn expanded(alloc: Global, levels: &[PatternTexts]) -> Result<PatternTexts, 
     Ok(texts)
 }
 
-/// Texts, and a text that stands behind each of them. It grows in place where one text follows.
+/// Texts, and a text that stands behind each of them. It grows in place where one text follows. After an error nothing
+/// is promised of it: each caller drops it.
 #[derive(Drop)]
 pub struct Growing {
     texts: PatternTexts,
@@ -44,7 +45,7 @@ impl Model for Growing {
 }
 
 impl Growing {
-    /// Begins with one empty text.
+    /// Begins with one empty text: what follows becomes its texts. Fails only if memory runs out.
     pub(crate) fn new(alloc: Global) -> Result<Growing, AllocError>
         ensures { IfOk result (λ growing. growing ≡ [] ∷ []) }
     {
@@ -62,8 +63,8 @@ impl Growing {
         }
     }
 
-    /// Appends each of the texts to each text. Stops early if that is too much for a registry: the rest need not be
-    /// written.
+    /// Appends each text of a level to each text. Stops early if that is too much for a registry: the rest need not be
+    /// written. The reason may be one of the texts before, which levels of one text leave unjudged.
     pub fn push(&mut self, alloc: Global, level: &PatternTexts) -> Result<(), Stop>
         ensures ok { OnOk result (self.new ≡ spec.joined self.old level.now) }
         ensures err { IfLeftOut result (λ reason.
@@ -78,7 +79,7 @@ impl Growing {
         Ok(())
     }
 
-    /// Appends a text to each text.
+    /// Appends a text to each text, in place. How many bytes all have is not checked here: `texts` does.
     fn push_one(&mut self, text: &[u8]) -> Result<(), Stop>
         ensures ok { OnOk result (self.new ≡ spec.joined self.old (text.now ∷ [])) }
         ensures err { IfLeftOut result (HasLong (spec.joined self.old (text.now ∷ []))) }
@@ -90,14 +91,15 @@ impl Growing {
         Ok(())
     }
 
-    /// Returns whether there are texts, and what stands behind each is too long alone.
+    /// Returns whether there are texts, and what stands behind each has more than 4,096 bytes alone. This is only for
+    /// stopping early, and the clause takes any `false`: `texts` judges all.
     fn is_long(&self) -> bool
         ensures { IsTrue result → Any (λ text. 4096 < length text) self.now }
     {
         !self.texts.is_empty() && self.last.len() > MOST_BYTES
     }
 
-    /// Returns the texts.
+    /// Returns a copy of the texts, each whole, if they are not too much for a registry.
     pub fn texts(&self, alloc: Global) -> Result<PatternTexts, Stop>
         ensures ok { IfOk result (λ texts. texts ≡ self.now) }
         ensures small { IfOk result AreSmall }

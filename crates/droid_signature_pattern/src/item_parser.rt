@@ -1,4 +1,5 @@
-//! Reads one item of a text.
+//! Reads one item of a text: `61`, `??`, a gap, what stands in brackets, or quoted text. What is no item is `BadText`,
+//! or `None` where reading it takes no memory.
 
 ghost use Rattle.std.specs.Prelude.{◌≡◌, ℕ, List, length, nat_le, nat_lt, IfOk, IsErrOf, MatchOption, MatchBool};
 ghost use Rattle.std.specs.Prelude.{Contains};
@@ -135,7 +136,8 @@ fn range_of(body: &[u8]) -> Option<(u8, u8)>
     }
 }
 
-/// Reads the text between brackets of a byte outside a range: `!61:7A`. At least one byte has to be outside.
+/// Reads the text between brackets of a byte outside a range: `!61:7A`. At least one byte has to be outside: of all
+/// ranges only `00:FF` leaves none, and only its bounds are 255 apart.
 fn outside_of(body: &[u8]) -> Option<(u8, u8)>
     ensures { MatchOption result ((low high : ℕ) → InBrackets body.now (Outside low high) → ⊥)
         (λ range. InBrackets body.now (Outside range.0 range.1)) }
@@ -165,7 +167,7 @@ fn several_of(alloc: Global, body: &[u8]) -> Result<TextItem, TextFault>
     Ok(TextItem::Between { low, high })
 }
 
-/// Returns whether these are the bounds of a range of several bytes.
+/// Returns whether these are the bounds of a range of several bytes: two bytes or more, as many each, in order.
 fn are_bounds(low: &[u8], high: &[u8]) -> bool
     ensures { MatchBool result (AreBounds low.now high.now) (AreBounds low.now high.now → ⊥) }
 {
@@ -191,7 +193,7 @@ fn is_no_more(low: &[u8], high: &[u8]) -> bool
     true
 }
 
-/// Reads the text between quotes: one or more ASCII characters.
+/// Reads the text between quotes: one or more ASCII characters. 39 is the quote, at which the caller has split.
 fn quoted_of(alloc: Global, body: &[u8]) -> Result<TextItem, TextFault>
     requires { Contains body.now 39 → ⊥ }
     ensures spelled { IfOk result (λ item. InQuotes body.now (atom_of item)) }
@@ -214,7 +216,8 @@ fn is_ascii(text: &[u8]) -> bool
     text.iter().all(|c| *c < 128)
 }
 
-/// Reads one or more bytes, each as two digits.
+/// Reads one or more bytes, each written as two hexadecimal digits: hence room for half as many bytes, which is for
+/// speed.
 fn bytes_of(alloc: Global, digits: &[u8]) -> Result<Vec<u8>, TextFault>
     ensures spelled { IfOk result (λ bytes. SpellsAlternative digits.now bytes.items) }
     ensures bad { IsErrOf result TextFault.BadText → (bs : List ℕ) → SpellsAlternative digits.now bs → ⊥ }

@@ -3,6 +3,13 @@
 //!
 //! The terms of a text are read first. What a registry's pattern lacks is written out: a text may become several
 //! patterns, any of which has to match.
+//!
+//! Each call that returns an `AllocError`, a [`Stop`] or a `TextFault` may also fail because memory ran out, of which a
+//! comment may be silent. After an error nothing is promised of what it was to grow: each caller drops it.
+//!
+//! The numbers of the limits stand once more in the definitions, which the prover ties, and in words that no proof
+//! ties: at the variants of [`Reason`], in `reasons.rt` of `droid_cmd_registry` and in docs/REGISTRY.md.
+//! `tests/program/signatures/registry_limits.py` goes up to most of the limits, and has the words of `reasons.rt`.
 #![tactic(auto)]
 
 mod choices;

@@ -1,4 +1,5 @@
-//! Offsets that a registry can hold.
+//! Offsets that a registry can hold: two bytes each, so at most 65,535. `IsReasonOfLower`, `IsReasonOfUpper` and
+//! `AreRead` have the number, and the clauses here; the prover ties them.
 
 ghost use Rattle.std.specs.Prelude.{◌≡◌, ◌≤◌, Some, IfErr, IfOk};
 ghost use Rattle.droid_signature_file.specs.Meaning.{lowest};
@@ -7,7 +8,7 @@ ghost use Rattle.droid_signature_pattern.specs.Reasons.{IsReasonOfBounds, IsReas
 use crate::reason::Reason;
 use droid_signature_file::OffsetRange;
 
-/// Returns the lower and the upper offset.
+/// Returns the lower and the upper offset of a first subsequence or a fragment, or the reason of the two below.
 pub(crate) fn bounds_of(offsets: OffsetRange) -> Result<(u16, u16), Reason>
     ensures ok { IfOk result (λ bounds.
         (bounds.0 ≡ lowest offsets) × (offsets.max ≡ Some bounds.1) × (bounds.0 ≤ bounds.1) × (bounds.1 ≤ 65535)) }
@@ -18,7 +19,7 @@ pub(crate) fn bounds_of(offsets: OffsetRange) -> Result<(u16, u16), Reason>
     Ok((least, most))
 }
 
-/// Returns the lower offset, 0 if it is missing.
+/// Returns the lower offset, 0 if it is missing, or `LargeOffset`.
 pub(crate) fn lower_of(offsets: OffsetRange) -> Result<u16, Reason>
     ensures ok { IfOk result (λ least. (least ≡ lowest offsets) × (least ≤ 65535)) }
     ensures err { IfErr result (IsReasonOfLower offsets) }
@@ -30,7 +31,8 @@ pub(crate) fn lower_of(offsets: OffsetRange) -> Result<u16, Reason>
     Ok(least as u16)
 }
 
-/// Returns the upper offset, which is no less than the lower one.
+/// Returns the upper offset, which has to be there (`NoUpperOffset`), be small enough (`LargeOffset`), and no less than
+/// the lower one, `least` (`OffsetOrder`).
 fn upper_of(offsets: OffsetRange, least: u16) -> Result<u16, Reason>
     requires { least ≡ lowest offsets }
     ensures ok { IfOk result (λ most. (offsets.max ≡ Some most) × (least ≤ most) × (most ≤ 65535)) }

@@ -68,7 +68,8 @@ fn alternatives_of(alloc: Global, text: &[u8]) -> Result<(Vec<Vec<TextItem>>, &[
     }
 }
 
-/// Reads one or more items, up to a bar, a closing parenthesis or the end. Returns them and the text after them.
+/// Reads one or more items, up to a bar, a closing parenthesis or the end. Returns them and the text after them. The
+/// room for one item that is taken first is for speed: no clause needs it.
 fn items_of(alloc: Global, text: &[u8]) -> Result<(Vec<TextItem>, &[u8]), TextFault>
     ensures spelled { IfOk result (λ found. AtomsTo text.now (map atom_of found.0.items) found.1.now) }
     ensures some { IfOk result (λ found. 0 < length (map atom_of found.0.items)) }

@@ -54,7 +54,7 @@ fn row_texts(alloc: Global, first: &ReadPart, further: &[ReadPart]) -> Result<Pa
     Ok(texts)
 }
 
-/// Returns the texts of a subsequence.
+/// Returns the texts of the patterns of a first subsequence, with all its fragments.
 fn part_texts(alloc: Global, part: &ReadPart) -> Result<PatternTexts, Stop>
     ensures ok { IfOk result (λ texts. texts ≡ joined_all (map written_each (spec.part_levels part.now))) }
     ensures err { IfLeftOut result (λ reason. IsReasonOfFirstPart reason part.now) }
@@ -65,7 +65,7 @@ fn part_texts(alloc: Global, part: &ReadPart) -> Result<PatternTexts, Stop>
     Ok(texts)
 }
 
-/// Returns the texts of a further subsequence, behind an open gap.
+/// Returns the texts of the patterns of a further subsequence, behind an open gap of at least its lower offset.
 fn next_texts(alloc: Global, part: &ReadPart) -> Result<PatternTexts, Stop>
     ensures ok { IfOk result (λ texts. texts ≡ joined_all (map written_each (spec.next_levels part.now))) }
     ensures err { IfLeftOut result (λ reason. IsReasonOfNextPart reason part.now) }
@@ -77,7 +77,7 @@ fn next_texts(alloc: Global, part: &ReadPart) -> Result<PatternTexts, Stop>
     Ok(texts)
 }
 
-/// Appends a level of one open gap.
+/// Appends a level of one open gap of at least `least` bytes.
 fn push_open_gap(
     alloc: Global,
     levels: &mut Vec<PatternTexts>,
@@ -105,7 +105,7 @@ fn push_part(alloc: Global, levels: &mut Vec<PatternTexts>, part: &ReadPart) -> 
     Ok(())
 }
 
-/// Appends the levels of left fragments, from the outermost in.
+/// Appends the levels of left fragments, from the outermost in: one level for each position.
 fn push_left(
     alloc: Global,
     levels: &mut Vec<PatternTexts>,
@@ -124,7 +124,7 @@ fn push_left(
     Ok(())
 }
 
-/// Appends the levels of right fragments, from the innermost out.
+/// Appends the levels of right fragments, from the innermost out: one level for each position.
 fn push_right(
     alloc: Global,
     levels: &mut Vec<PatternTexts>,
@@ -154,7 +154,7 @@ fn outermost(fragments: &[ReadFragment]) -> u32
     last
 }
 
-/// Returns the texts of the fragments of a position, any of them, each with its gap.
+/// Returns the texts of the fragments of a position, any of which may stand there, each with its gap.
 fn level_texts(
     alloc: Global,
     fragments: &[ReadFragment],
@@ -172,7 +172,7 @@ fn level_texts(
     Ok(texts)
 }
 
-/// Returns the texts of a fragment with its gap, if it has this position.
+/// Returns the texts of a fragment with its gap, if it has this position, otherwise none.
 #[tactic(auto, using(crate::proofs::PartLevels::not_at, crate::proofs::PartLevels::at_it))]
 fn texts_at(
     alloc: Global,
@@ -218,7 +218,7 @@ fn two(
     }
 }
 
-/// Makes a list of two.
+/// Makes a list of two levels, in this order.
 fn pair(
     alloc: Global,
     first: PatternTexts,

@@ -25,14 +25,14 @@ impl Model for PatternText {
 }
 
 impl PatternText {
-    /// Makes a text of its bytes. Allocates nothing.
+    /// Makes a text of its bytes, whatever they are. Allocates nothing.
     pub(crate) fn new(bytes: Vec<u8>) -> PatternText
         ensures { result ≡ bytes.items }
     {
         PatternText { bytes }
     }
 
-    /// Returns the bytes.
+    /// Returns the bytes: ASCII, in all that this crate makes.
     pub fn as_slice(&self) -> &[u8]
         ensures { result.now ≡ self.now }
     {

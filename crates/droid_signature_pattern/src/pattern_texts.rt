@@ -1,4 +1,4 @@
-//! Texts of patterns, any of which has to match.
+//! Lists of texts of patterns, any of which has to match, and how much of them a registry takes.
 
 ghost use Rattle.std.specs.Prelude.{◌≡◌, ◌⊎◌, ◌<◌, ◌≤◌, ◌+◌, ◌*◌, ◌++◌, ◌∷◌, [], ◌==◌, ◌↔◌, IsTrue, length};
 ghost use Rattle.std.specs.Prelude.{slice_index_or, IfOk, OnOk};
@@ -11,10 +11,15 @@ use crate::reason::{Reason, Stop};
 use std::alloc::{AllocError, Global};
 use std::marker::Model;
 
-/// The most patterns that may stand for a signature. This limit is the project's own.
+/// The most patterns that may stand for a byte sequence or a part of one. This limit is the project's own.
+///
+/// This number and the two below stand in the definitions too: `AreSmall` has all three, `HasMany`, `HasLong` and
+/// `HasMuch` one each, `AreShort` and `IsLong` the second; and in clauses here, in `growth.rt` and in `choices.rt`. The
+/// prover ties them.
 const MOST_PATTERNS: usize = 64;
 
-/// The most bytes of a pattern's text, as in a registry.
+/// The most bytes of a pattern's text, as in a registry (`TEXT_LIMIT` of `droid_pattern`). `IsTaken` asks that each
+/// text is read there (`Spells`), so the prover keeps this number from being larger.
 pub(crate) const MOST_BYTES: usize = 4096;
 
 /// The most bytes of all patterns that may stand for a byte sequence. This limit is the project's own.
@@ -73,7 +78,7 @@ impl PatternTexts {
         self.texts.is_empty()
     }
 
-    /// Returns the texts.
+    /// Returns the texts in order.
     pub fn as_slice(&self) -> &[PatternText]
         ensures { result.now ≡ self.now }
     {
@@ -88,7 +93,7 @@ impl PatternTexts {
         self.texts[place].as_slice()
     }
 
-    /// Adds a text.
+    /// Adds a text at the end, without a limit: what is too much is found where lists are joined or added.
     pub(crate) fn add(&mut self, text: Vec<u8>) -> Result<(), AllocError>
         ensures { OnOk result (self.new ≡ self.old ++ text.items ∷ []) }
     {
@@ -96,7 +101,9 @@ impl PatternTexts {
         Ok(())
     }
 
-    /// Adds the other texts, if there are at most 64 in all, with at most 16,384 bytes in all.
+    /// Adds the other texts, if there are at most 64 in all (otherwise `ManyAlternatives`), with at most 16,384 bytes
+    /// in all (`LongPatterns`). How long one is, is not looked at; where there is none to add, nothing is. After an
+    /// error nothing is promised of the list: each caller drops it.
     pub fn add_all(&mut self, others: PatternTexts) -> Result<(), Stop>
         ensures ok { OnOk result (self.new ≡ self.old ++ others) }
         ensures bounded { OnOk result (spec.total self.old ≤ 16384 → spec.total self.new ≤ 16384) }
@@ -115,7 +122,7 @@ impl PatternTexts {
         Ok(())
     }
 
-    /// Appends other texts, any of which may match too.
+    /// Appends other texts, without a limit: `add_all` sees to that.
     fn append(&mut self, others: PatternTexts) -> Result<(), AllocError>
         ensures { OnOk result (self.new ≡ self.old ++ others) }
     {
@@ -125,7 +132,7 @@ impl PatternTexts {
     }
 
     /// Returns each text with each of the others behind it: at most 64 texts of at most 4,096 bytes, with at most
-    /// 16,384 bytes in all.
+    /// 16,384 bytes in all; or that they are more. How many they are is seen before any is written.
     pub(crate) fn joined(&self, alloc: Global, others: &PatternTexts) -> Result<PatternTexts, Stop>
         ensures ok { IfOk result (λ texts. texts ≡ spec.joined self.now others.now) }
         ensures small { IfOk result AreSmall }
@@ -139,7 +146,8 @@ impl PatternTexts {
     }
 }
 
-/// Returns each text with each of the others behind it, if each has at most 4,096 bytes, and all at most 16,384.
+/// Returns each text with each of the others behind it, if each has at most 4,096 bytes (otherwise `LongPattern`), and
+/// all at most 16,384 (`LongPatterns`).
 fn join(
     alloc: Global,
     firsts: &[PatternText],
@@ -176,7 +184,7 @@ fn are_long(texts: &[PatternText]) -> bool
     false
 }
 
-/// Adds each of the other texts behind a text.
+/// Adds a text for each of the other texts: the first with that one behind it. Ends with `LongPattern` as [`both`].
 fn add_behind(
     alloc: Global,
     texts: &mut PatternTexts,
@@ -194,7 +202,7 @@ fn add_behind(
     Ok(())
 }
 
-/// Returns a text with another behind it, if that has at most 4,096 bytes.
+/// Returns a text with another behind it, if that has at most 4,096 bytes, otherwise `LongPattern`.
 fn both(alloc: Global, first: &[u8], second: &[u8]) -> Result<Vec<u8>, Stop>
     ensures ok { IfOk result (λ text. text.items ≡ first.now ++ second.now) }
     ensures short { IfOk result (λ text. length text.items ≤ 4096) }
@@ -218,14 +226,14 @@ fn appended(alloc: Global, len: usize, first: &[u8], second: &[u8]) -> Result<Ve
     Ok(text)
 }
 
-/// Returns whether there are more than 64 in all.
+/// Returns whether two lists of these lengths have more than 64 texts in all.
 fn is_over(first: usize, second: usize) -> bool
     ensures { IsTrue result ↔ (64 < first + second) }
 {
     first.saturating_add(second) > MOST_PATTERNS
 }
 
-/// Returns whether there are more than 64 pairs.
+/// Returns whether two lists of these lengths make more than 64 texts, one of each behind the other.
 fn are_many(first: usize, second: usize) -> bool
     ensures { IsTrue result ↔ (64 < first * second) }
 {

@@ -1,4 +1,4 @@
-//! The positions of fragments and subsequences.
+//! Whether the positions of fragments and of subsequences are those that a registry's patterns can hold.
 
 ghost use Rattle.std.specs.Prelude.{◌≡◌, IfErr, OnOk};
 ghost use Rattle.droid_signature_file.specs.Meaning.{outermost};
@@ -9,10 +9,13 @@ ghost use Rattle.droid_signature_pattern.specs.Reasons.{IsReasonOfPositions};
 use crate::reason::Reason;
 use droid_signature_file::{Fragment, SubSequence};
 
-/// The largest position of a fragment. This limit is the project's own.
+/// The largest position of a fragment. This limit is the project's own, and has nothing to do with the other limits of
+/// 64. The definitions `IsPosition` and `IsReasonOfPosition` have this number too. It also bounds `see_each`, which
+/// goes over all fragments for each position.
 const LARGEST_POSITION: u32 = 64;
 
-/// Checks that the fragments' positions are 1 to the largest, each at least once, and at most 64.
+/// Checks that the positions of the fragments on one side are 1 to the largest, each at least once (otherwise
+/// `FragmentPositions`), and at most 64 (`LargePosition`).
 pub(crate) fn see_positions(fragments: &[Fragment]) -> Result<(), Reason>
     ensures ok { OnOk result (ArePositions fragments.now) }
     ensures err { IfErr result (IsReasonOfPositions fragments.now) }
@@ -29,7 +32,7 @@ pub(crate) fn see_positions(fragments: &[Fragment]) -> Result<(), Reason>
     Ok(())
 }
 
-/// Checks that each position from 1 to the largest has a fragment.
+/// Checks that each position from 1 to the largest has a fragment, otherwise `FragmentPositions`.
 fn see_each(fragments: &[Fragment]) -> Result<(), Reason>
     ensures ok { OnOk result (AreWhole fragments.now) }
     ensures err { IfErr result (IsReasonOfPositions fragments.now) }

@@ -1,4 +1,5 @@
 //! Writes ranges of several bytes out byte by byte: as patterns whose elements are single bytes and ranges of one byte.
+//! Where memory runs out, nothing is promised of `texts`: `range_texts` drops it.
 
 ghost use Rattle.std.specs.Prelude.{◌≡◌, ◌≢◌, ◌≤◌, ◌++◌, ◌∷◌, [], IfOk, OnOk};
 ghost use Rattle.droid_signature_file.specs.Expansions.{any_bytes, ranges, upward_from, up_to, range_before};
@@ -8,7 +9,8 @@ use crate::element_texts::{push_byte, push_range};
 use crate::pattern_texts::PatternTexts;
 use std::alloc::{AllocError, Global};
 
-/// Returns the texts of the bytes from one bound to the other.
+/// Returns the texts that match the bytes from one bound to the other, both included. Both are big-endian numbers of as
+/// many bytes.
 pub(crate) fn range_texts(
     alloc: Global,
     low: &[u8],
@@ -22,7 +24,7 @@ pub(crate) fn range_texts(
     Ok(texts)
 }
 
-/// Adds the texts of the bytes from one bound to the other, behind a text.
+/// Adds the texts of the bytes from one bound to the other, each behind the text `front` of the bytes before.
 fn add_ranges(
     alloc: Global,
     texts: &mut PatternTexts,
@@ -48,7 +50,8 @@ fn add_ranges(
     Ok(())
 }
 
-/// Adds a text if the upper bound ends here too. Bounds of different lengths have no texts.
+/// Adds the text `front` if the upper bound, of which `more` is left, ends where the lower one did. Bounds of different
+/// lengths have no texts.
 fn add_if_none(
     alloc: Global,
     texts: &mut PatternTexts,
@@ -91,7 +94,7 @@ fn add_apart(
     Ok(())
 }
 
-/// Adds the texts of bytes that are no less than these, behind a text.
+/// Adds the texts of as many bytes as these, that are no less as a big-endian number, behind the text `front`.
 fn add_upward(
     alloc: Global,
     texts: &mut PatternTexts,
@@ -110,7 +113,7 @@ fn add_upward(
     Ok(())
 }
 
-/// Adds the texts of bytes that are no more than these, behind a text.
+/// Adds the texts of as many bytes as these, that are no more as a big-endian number, behind the text `front`.
 fn add_up_to(
     alloc: Global,
     texts: &mut PatternTexts,
@@ -130,7 +133,8 @@ fn add_up_to(
 }
 
 /// Adds the text of a byte from `low` on and less than `end`, and `count` bytes behind it, behind a text. Adds nothing
-/// if there is no such byte.
+/// if there is no such byte. Both are wider than a byte, since `end` is 256 where no byte is too large, and `low` may
+/// be one more than a byte.
 fn add_between(
     alloc: Global,
     texts: &mut PatternTexts,
@@ -152,7 +156,7 @@ fn add_between(
     Ok(())
 }
 
-/// Appends `count` bytes, any of them.
+/// Appends `count` bytes, any of them, each as the range of all bytes.
 fn push_any(text: &mut Vec<u8>, count: usize) -> Result<(), AllocError>
     ensures { OnOk result (text.new.items ≡ text.old.items ++ written_all (any_bytes count)) }
 {
@@ -163,7 +167,7 @@ fn push_any(text: &mut Vec<u8>, count: usize) -> Result<(), AllocError>
     Ok(())
 }
 
-/// Copies a text and appends a byte to it.
+/// Copies the text of a pattern and appends the element that matches this byte: its two hexadecimal digits.
 fn with_byte(alloc: Global, front: &[u8], byte: u8) -> Result<Vec<u8>, AllocError>
     ensures { IfOk result (λ text. text.items ≡ front.now ++ pair byte) }
 {

@@ -108,14 +108,14 @@ impl ReadPart {
         }
     }
 
-    /// Returns the lower offset.
+    /// Returns the lower offset: of a further subsequence the least number of bytes between it and the one before.
     pub(crate) fn least(&self) -> u16
         ensures { result ≡ self.now.least }
     {
         self.least
     }
 
-    /// Returns the left fragments.
+    /// Returns the left fragments in the file's order.
     pub(crate) fn left(&self) -> &[ReadFragment]
         ensures { result.now ≡ self.now.left }
     {
@@ -129,7 +129,7 @@ impl ReadPart {
         self.terms.as_slice()
     }
 
-    /// Returns the right fragments.
+    /// Returns the right fragments in the file's order.
     pub(crate) fn right(&self) -> &[ReadFragment]
         ensures { result.now ≡ self.now.right }
     {

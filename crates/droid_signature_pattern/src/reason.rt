@@ -1,11 +1,12 @@
-//! Why a registry cannot hold a signature.
+//! Why a registry cannot hold a signature, and how one kind of fault becomes another. What each reason says stands in
+//! `specs/Reasons.antt` and `specs/Outcomes.antt`.
 
 ghost use Rattle.std.specs.Prelude.{◌≡◌};
 ghost use Rattle.droid_signature_pattern.specs.declared.reason.Stop.TheVariants as stops;
 
 use std::alloc::{AllocError, AllocFailed};
 
-/// Why a registry cannot hold a signature.
+/// Why a registry cannot hold a signature. `lib.rt` says where else the numbers stand.
 #[derive(Clone, Copy)]
 pub enum Reason {
     /// It has no byte sequence, so it would hit every file.
@@ -56,6 +57,7 @@ pub enum Stop {
 impl From<AllocError> for Stop {
     ghost from_gives = { λ _ e. e ≡ stops.Memory };
 
+    /// Memory ran out.
     fn from(_: AllocError) -> Self {
         Stop::Memory
     }
@@ -64,6 +66,7 @@ impl From<AllocError> for Stop {
 impl<T: Drop> From<AllocFailed<T>> for Stop {
     ghost from_gives = { λ _ e. e ≡ stops.Memory };
 
+    /// Memory ran out. Drops what it ran out for.
     fn from(_: AllocFailed<T>) -> Self {
         Stop::Memory
     }
@@ -72,6 +75,7 @@ impl<T: Drop> From<AllocFailed<T>> for Stop {
 impl From<Reason> for Stop {
     ghost from_gives = { λ reason e. e ≡ stops.LeftOut reason };
 
+    /// Lets `?` return a reason.
     fn from(reason: Reason) -> Self {
         Stop::LeftOut(reason)
     }

@@ -25,10 +25,12 @@ use droid_pronom::{Anchor, Offsets};
 use droid_signature_file::{Fragment, Reference, SequenceRecord, SubSequence};
 use std::alloc::Global;
 
-/// The most bytes of the text of a sequence or a fragment. This limit is the project's own.
+/// The most bytes of the text of a sequence or a fragment. This limit is the project's own. The definitions
+/// `IsReadText` and `IsReasonOfText` have this number too.
 const LONGEST_TEXT: usize = 65_536;
 
-/// Reads a byte sequence.
+/// Reads a byte sequence. If there are several reasons why a registry cannot hold it, returns one of them; which one,
+/// no clause says.
 pub(crate) fn read_sequence(alloc: Global, sequence: &SequenceRecord) -> Result<ReadSequence, Stop>
     ensures ok { IfOk result (λ read. IsRead sequence.now read.offsets read.first read.further.items) }
     ensures err { IfLeftOut result (IsReasonOfSequence sequence.now) }
@@ -59,7 +61,7 @@ fn are_several_from_end(reference: Reference, count: usize) -> bool
     }
 }
 
-/// Reads the subsequences of a byte sequence.
+/// Reads the subsequences of a byte sequence. Its offsets are those of the first.
 fn read_parts(
     alloc: Global,
     anchor: Anchor,
@@ -83,7 +85,7 @@ fn read_parts(
     })
 }
 
-/// Returns the end of a file from which a registry counts.
+/// Returns the end of a file from which a registry counts: it knows no other reference.
 fn anchor_of(reference: Reference) -> Result<Anchor, Reason>
     ensures ok { IfOk result (IsAnchorOf reference) }
     ensures err { IfErr result (λ reason. (reason ≡ reasons.Reference) × (reference ≡ Other)) }
@@ -95,7 +97,7 @@ fn anchor_of(reference: Reference) -> Result<Anchor, Reason>
     }
 }
 
-/// Reads the subsequences behind the first.
+/// Reads the subsequences behind the first, up to the first of them that a registry cannot hold.
 fn read_further(alloc: Global, parts: &[SubSequence]) -> Result<Vec<ReadPart>, Stop>
     ensures ok { IfOk result (λ read. AreReadParts parts.now read.items) }
     // None of them has an upper offset.
@@ -110,7 +112,8 @@ fn read_further(alloc: Global, parts: &[SubSequence]) -> Result<Vec<ReadPart>, S
     Ok(read)
 }
 
-/// Reads a subsequence behind the first.
+/// Reads a subsequence behind the first. A registry cannot hold how far at most it lies behind the one before: an upper
+/// offset is refused with `FurtherUpperOffset`, but 0 is taken as none.
 fn read_one_further(alloc: Global, part: &SubSequence) -> Result<ReadPart, Stop>
     ensures ok { IfOk result (IsReadPart part.now) }
     ensures plain { OnOk result (HasNoUpper part.now) }
@@ -124,7 +127,8 @@ fn read_one_further(alloc: Global, part: &SubSequence) -> Result<ReadPart, Stop>
     Ok(read)
 }
 
-/// Reads a subsequence.
+/// Reads a subsequence: its lower offset, its text and its fragments. Whether it has an upper offset is for the
+/// callers.
 fn read_part(alloc: Global, part: &SubSequence) -> Result<ReadPart, Stop>
     ensures ok { IfOk result (IsReadPart part.now) }
     ensures err { IfLeftOut result (λ reason. IsReasonOfPart reason part.now) }
@@ -136,7 +140,7 @@ fn read_part(alloc: Global, part: &SubSequence) -> Result<ReadPart, Stop>
     Ok(ReadPart::new(least, left, terms, right))
 }
 
-/// Reads the fragments on one side.
+/// Reads the fragments on one side of a subsequence, once all their positions are right.
 fn read_fragments(alloc: Global, fragments: &[Fragment]) -> Result<Vec<ReadFragment>, Stop>
     ensures ok { IfOk result (λ read. AreReadFragments fragments.now read.items) }
     ensures positions { OnOk result (ArePositions fragments.now) }
@@ -151,7 +155,7 @@ fn read_fragments(alloc: Global, fragments: &[Fragment]) -> Result<Vec<ReadFragm
     Ok(read)
 }
 
-/// Reads a fragment.
+/// Reads a fragment. How far away it lies has to have an upper limit.
 fn read_fragment(alloc: Global, fragment: &Fragment) -> Result<ReadFragment, Stop>
     ensures ok { IfOk result (IsReadFragment fragment.now) }
     ensures err { IfLeftOut result (λ reason. IsReasonOfFragment reason fragment.now) }
@@ -161,7 +165,7 @@ fn read_fragment(alloc: Global, fragment: &Fragment) -> Result<ReadFragment, Sto
     Ok(ReadFragment::new(fragment.position, bounds.0, bounds.1, terms))
 }
 
-/// Reads a text, if it is not too long.
+/// Reads the text of a sequence or a fragment, if it is not too long (`LongText`) and follows the grammar (`Text`).
 fn read_terms(alloc: Global, text: &str) -> Result<Vec<TextTerm>, Stop>
     ensures ok { IfOk result (λ terms. IsReadText text.now (map term_of terms.items)) }
     ensures err { IfLeftOut result (IsReasonOfText text.now) }

@@ -1,4 +1,4 @@
-//! The terms of a text.
+//! The terms that a text of the signature file is read as.
 
 /// One item of a text.
 #[derive(Drop)]

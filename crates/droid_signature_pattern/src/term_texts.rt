@@ -23,7 +23,8 @@ use crate::reason::{Reason, Stop};
 use crate::term::{TextItem, TextTerm};
 use std::alloc::{AllocError, Global};
 
-/// The most bytes of the bounds of a range. This limit is the project's own.
+/// The most bytes of each bound of a range. This limit is the project's own. The definition `IsLongRange` has this
+/// number too. With it `range_texts`, which has no limit, makes at most 33 texts: twice 16 and one.
 const MOST_RANGE_BYTES: usize = 16;
 
 /// Each byte as two digits, behind a bar.
@@ -53,7 +54,7 @@ pub fn texts_of(alloc: Global, terms: &[TextTerm]) -> Result<PatternTexts, Stop>
     Ok(texts)
 }
 
-/// Returns the texts of the patterns that stand for a term.
+/// Returns the texts of the patterns that stand for a term: an item, or alternatives.
 fn term_texts(alloc: Global, term: &TextTerm) -> Result<PatternTexts, Stop>
     ensures ok { IfOk result (λ texts. texts ≡ written_each (patterns_of_term (term_of term.now))) }
     ensures err { IfLeftOut result (λ reason. IsReasonOfTerm reason (term_of term.now)) }
@@ -64,7 +65,7 @@ fn term_texts(alloc: Global, term: &TextTerm) -> Result<PatternTexts, Stop>
     }
 }
 
-/// Returns the texts of the patterns that stand for an item.
+/// Returns the texts of the patterns that stand for an item: one, but for a range of several bytes.
 fn item_texts(alloc: Global, item: &TextItem) -> Result<PatternTexts, Stop>
     ensures ok { IfOk result (λ texts. texts ≡ written_each (patterns_of_atom (atom_of item.now))) }
     ensures err { IfLeftOut result (λ reason. IsReasonOfAtom reason (atom_of item.now)) }
@@ -84,7 +85,8 @@ fn item_texts(alloc: Global, item: &TextItem) -> Result<PatternTexts, Stop>
     }
 }
 
-/// Returns the texts of a range of at most 16 bytes.
+/// Returns the texts of a range whose bounds have at most 16 bytes each, otherwise `LongRange`. `item_parser` has seen
+/// to it that both are equally long, so one is looked at.
 fn between_texts(alloc: Global, low: &[u8], high: &[u8]) -> Result<PatternTexts, Stop>
     ensures ok { IfOk result (λ texts. texts ≡ written_each (ranges low.now high.now)) }
     ensures err { IfLeftOut result (λ reason. IsReasonOfAtom reason (Between low.now high.now)) }
@@ -96,7 +98,7 @@ fn between_texts(alloc: Global, low: &[u8], high: &[u8]) -> Result<PatternTexts,
     Ok(texts)
 }
 
-/// Returns the text of an item that one pattern stands for.
+/// Returns the text of an item that one pattern stands for, as a list of one.
 fn one_item_text(alloc: Global, item: &TextItem) -> Result<PatternTexts, AllocError>
     ensures { IfOk result (λ texts. texts ≡ one_text (atom_of item.now) ∷ []) }
 {
@@ -105,7 +107,8 @@ fn one_item_text(alloc: Global, item: &TextItem) -> Result<PatternTexts, AllocEr
     PatternTexts::one(alloc, text)
 }
 
-/// Appends the text of an item that one pattern stands for: any but a range of several bytes.
+/// Appends the text of an item that one pattern stands for: any but a range of several bytes, for which it appends
+/// nothing, and which no caller passes.
 fn push_item(text: &mut Vec<u8>, item: &TextItem) -> Result<(), AllocError>
     ensures { OnOk result (text.new.items ≡ text.old.items ++ one_text (atom_of item.now)) }
 {
@@ -121,7 +124,8 @@ fn push_item(text: &mut Vec<u8>, item: &TextItem) -> Result<(), AllocError>
     }
 }
 
-/// Appends the bytes outside a range, each as an alternative.
+/// Appends the bytes outside a range, each as an alternative: `(00|01|FF)`. `item_parser` takes no range that leaves
+/// none: for that a `)` would stand alone.
 fn push_outside(text: &mut Vec<u8>, low: u8, high: u8) -> Result<(), AllocError>
     ensures { OnOk result (text.new.items ≡ text.old.items ++ written (Choice (runs_outside low high))) }
 {
@@ -132,7 +136,7 @@ fn push_outside(text: &mut Vec<u8>, low: u8, high: u8) -> Result<(), AllocError>
 }
 
 /// Appends `count` bytes from one on, each behind a mark: the given one before the first, a bar before each other.
-/// Returns the mark for what follows.
+/// Returns the mark for what follows. In the table each byte has 3 characters; the bar of the first is left out.
 fn push_each(text: &mut Vec<u8>, mark: u8, from: usize, count: usize) -> Result<u8, AllocError>
     requires { from + count ≤ 256 }
     ensures text { OnOk result (text.new.items ≡ text.old.items ++ marked pair mark (upward from count)) }
@@ -147,7 +151,7 @@ fn push_each(text: &mut Vec<u8>, mark: u8, from: usize, count: usize) -> Result<
     Ok(b'|')
 }
 
-/// Returns each byte as two digits, behind a bar. A table, for speed.
+/// Returns each byte as two digits, behind a bar: 256 times 3 characters. A table, for speed.
 fn each_byte() -> &'static [u8]
     ensures text { result.now ≡ marked pair 124 (upward 0 256) }
     ensures len { length result.now ≡ 768 }
@@ -169,7 +173,7 @@ fn choice_texts(alloc: Global, alternatives: &[Vec<TextItem>]) -> Result<Pattern
     Ok(texts)
 }
 
-/// Returns whether each alternative is a run of bytes.
+/// Returns whether each alternative is a run of bytes: then one pattern stands for all of them.
 fn are_all_runs(alternatives: &[Vec<TextItem>]) -> bool
     ensures { result ≡ list_all (λ items. list_all (λ item. spec.is_run (atom_of item)) items.items) alternatives.now }
 {
@@ -198,7 +202,7 @@ fn is_run(item: &TextItem) -> bool
     }
 }
 
-/// Returns the text of alternatives that are runs of bytes.
+/// Returns the one text of alternatives that are runs of bytes: `(61|6263)`.
 fn runs_text(alloc: Global, alternatives: &[Vec<TextItem>]) -> Result<PatternTexts, AllocError>
     ensures { IfOk result (λ texts.
         texts ≡ (marked (flat_map one_text) 40 (map items_of alternatives.now) ++ 41 ∷ []) ∷ []) }
@@ -224,7 +228,7 @@ fn push_items(text: &mut Vec<u8>, items: &[TextItem]) -> Result<(), AllocError>
     Ok(())
 }
 
-/// Returns the texts of the patterns that stand for each alternative.
+/// Returns the texts of the patterns that stand for each alternative, those of all alternatives in one list.
 fn each_texts(alloc: Global, alternatives: &[Vec<TextItem>]) -> Result<PatternTexts, Stop>
     ensures ok { IfOk result (λ texts. texts ≡ written_each (patterns_of_each (map items_of alternatives.now))) }
     ensures err { IfLeftOut result (λ reason. IsReasonOfEach reason (map items_of alternatives.now)) }
@@ -245,7 +249,7 @@ fn is_one_class(items: &[TextItem]) -> bool
     items.len() == 1 && !is_run(&items[0])
 }
 
-/// Returns the texts of the patterns that stand for items.
+/// Returns the texts of the patterns that stand for the items of an alternative, one behind the other.
 fn items_texts(alloc: Global, items: &[TextItem]) -> Result<PatternTexts, Stop>
     ensures ok { IfOk result (λ texts. texts ≡ written_each (patterns_of_atoms (map atom_of items.now))) }
     ensures err { IfLeftOut result (λ reason. IsReasonOfAtoms reason (map atom_of items.now)) }

@@ -1,4 +1,4 @@
-//! The errors of reading a text.
+//! The errors of reading a text, before they are reasons for leaving a signature out.
 
 ghost use Rattle.std.specs.Prelude.{◌≡◌};
 ghost use Rattle.droid_signature_pattern.specs.declared.text_fault.TextFault.TheVariants.{Memory};
@@ -17,6 +17,7 @@ pub enum TextFault {
 impl From<AllocError> for TextFault {
     ghost from_gives = { λ _ fault. fault ≡ Memory };
 
+    /// Memory ran out.
     fn from(_error: AllocError) -> TextFault {
         TextFault::Memory
     }
@@ -25,6 +26,7 @@ impl From<AllocError> for TextFault {
 impl<T: Drop> From<AllocFailed<T>> for TextFault {
     ghost from_gives = { λ _ fault. fault ≡ Memory };
 
+    /// Memory ran out. Drops what it ran out for.
     fn from(_error: AllocFailed<T>) -> TextFault {
         TextFault::Memory
     }

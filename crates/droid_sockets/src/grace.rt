@@ -1,15 +1,17 @@
 //! How long a turn waits for more requests, so that they share its sync. All of this is for speed: only the two bounds
-//! of `microseconds` are proved, and `tests/program/journal/shared_syncs.py` tests the rest.
+//! of `microseconds` are proved. `tests/program/journal/shared_syncs.py` tests that requests share a sync, that a
+//! connection which is alone is never waited for, and that waits in vain become rarer; no test holds the numbers.
 
 ghost use Rattle.std.specs.Prelude.{◌+◌, ◌*◌, ◌-◌, ◌≤◌};
 
-/// The least microseconds of a turn with a long sync.
+/// A turn that took fewer microseconds had no long sync, and nothing is waited for after it. The comment of
+/// `share_syncs` has it as a millisecond.
 const LONG: u64 = 1_000;
 
 /// The most microseconds that a turn waits for more requests.
 const MOST: u64 = 5_000;
 
-/// The most turns in a row that do not wait, after waits in vain.
+/// The most turns in a row that do not wait, after waits in vain: the last of 1, 3, 7 and so on.
 const MOST_SKIPPED: u32 = 63;
 
 /// How long a turn waits for the next requests of connections that were just answered. Requests that have come could be
@@ -27,7 +29,8 @@ pub(crate) struct Grace {
 }
 
 impl Grace {
-    /// Returns the grace of turns that do not wait.
+    /// Returns the grace of turns that do not wait, until [`Sockets::share_syncs`](crate::Sockets::share_syncs) lets
+    /// them.
     pub(crate) fn none() -> Grace {
         Grace {
             is_given: false,
@@ -39,7 +42,7 @@ impl Grace {
 
     /// Returns how many microseconds the turn may wait for more requests, if the replies of the last turn were written
     /// at `now`: half as long as that turn took, if it took a millisecond, and at most `limit` milliseconds by waits of
-    /// one each.
+    /// one each; never more than `MOST`. The last millisecond of `limit` is left to the wait that may exceed its time.
     pub(crate) fn microseconds(&self, now: u64, limit: u64) -> u64
         ensures half { result + result ≤ now - self.now.began }
         ensures limit { result ≤ (limit - 1) * 1000 }
@@ -52,7 +55,7 @@ impl Grace {
         (took / 2).min(MOST).min(most)
     }
 
-    /// Whether this turn may wait for more. After a wait in vain some turns don't, and this call counts them.
+    /// Returns whether this turn may wait for more. After a wait in vain some turns don't, and this call counts them.
     pub(crate) fn is_due(&mut self) -> bool {
         if self.skips == 0 {
             return true;
@@ -62,7 +65,8 @@ impl Grace {
     }
 
     /// Notes whether more requests came in a wait. The more waits in a row were in vain, the more turns do not wait: 1,
-    /// 3, 7, and so on up to 63.
+    /// 3, 7, and so on up to 63 (`MOST_SKIPPED`): each time twice as many and one. After a wait that was not in vain
+    /// the next one that is begins with 1 again.
     pub(crate) fn note(&mut self, came: bool) {
         if came {
             self.skipped = 0;
@@ -76,7 +80,7 @@ impl Grace {
         }
     }
 
-    /// Notes when a turn begins: how long it took is known when the next one may wait.
+    /// Notes when a turn begins, in microseconds: how long it took is known when the next one may wait.
     pub(crate) fn begin(&mut self, now: u64) {
         self.began = now;
     }

@@ -1,4 +1,6 @@
-//! One connection. Its reads and writes are proved to keep to the buffer; `tests/program/wire` tests what they do.
+//! One connection. Its reads and writes are proved to keep to the buffer. What they do is tested in
+//! `tests/program/wire`: `send_streams.py` (interruptions), `serve_in_turns.py` (reads and writes of each length, and
+//! broken ones), and `serve_options.py` (the counts).
 
 ghost use Rattle.std.specs.Prelude.{◌≡◌, length};
 ghost use Rattle.droid_turns.specs.Events.{CameWithin, TookWithin};
@@ -9,7 +11,8 @@ use mio::net::TcpStream;
 use std::io::{ErrorKind, Read, Write};
 use std::net::SocketAddr;
 
-/// How often a read or a write is tried: the 65th interruption is a fault.
+/// How often a read or a write is tried: the 65th interruption is a fault. It is `RETRY_LIMIT` of `droid_frame`, 64,
+/// and one; no clause ties them, but `ServeStreamsAtOnce` of `send_streams.py` holds this one.
 const TRIES: u32 = 65;
 
 /// A connection.
@@ -34,7 +37,11 @@ pub(crate) struct Guest {
 }
 
 impl Guest {
-    /// Reads what has come, if the system reported something.
+    /// Reads what has come, if the system reported something, and counts it in `came`.
+    ///
+    /// `Nothing`: nothing was reported, or the socket turned out to be empty. `End`: a read returned no byte; an empty
+    /// buffer would have that effect too, but the loop's has 65,536 bytes (`BUFFER` of `peer.rt` in `droid_turns`).
+    /// `Broken`: a read failed, or was interrupted for the 65th time. The clause holds the bound alone.
     pub(crate) fn read(&mut self, buffer: &mut [u8]) -> Came
         ensures { CameWithin result (length buffer.new) }
     {
@@ -63,12 +70,16 @@ impl Guest {
         Came::Broken
     }
 
-    /// Whether it was just answered, and has not sent anything since.
+    /// Returns whether it took bytes since the last turn began, and the system has not reported that it sent anything
+    /// since. For speed alone, as `gather` of `sockets.rt` is.
     pub(crate) fn is_awaited(&self) -> bool {
         self.answered && !self.readable
     }
 
-    /// Writes some of these bytes, if the system reported that it takes some.
+    /// Writes some of these bytes, if the system reported that it takes some, and counts them in `went`.
+    ///
+    /// `Nothing`: nothing was reported, or the socket turned out to be full. `Broken`: a write failed, took no byte, or
+    /// was interrupted for the 65th time. The loop never writes an empty slice. The clause holds the bound alone.
     pub(crate) fn write(&mut self, bytes: &[u8]) -> Took
         ensures { TookWithin result (length bytes.now) }
     {

@@ -1,11 +1,14 @@
-//! Lines on standard error about connections. They have no contracts: `tests/program/wire/serve_options.py` tests each.
+//! Lines on standard error about connections. They have no contracts: `tests/program/wire/serve_options.py` tests them.
+//! Of the reasons it has closed, truncated, bad version, too long, read, write and idle, and `serve_in_turns.py`
+//! stopped; the others stand in no test.
 
 use crate::guest::Guest;
 use crate::tally::Tally;
 use droid_frame::FrameFault;
 use droid_turns::Departure;
 
-/// The milliseconds between two summary lines.
+/// The milliseconds between two summary lines. The loop never waits longer than this (`LONGEST_WAIT` of
+/// `droid_turns`); nothing but this line ties the two.
 pub(crate) const MINUTE: u64 = 60_000;
 
 /// What is printed on standard error about connections.
@@ -17,7 +20,8 @@ pub enum Verbosity {
     Verbose,
 }
 
-/// Prints that a connection ended: its address, how many of its frames were answered, its bytes, and why it ended.
+/// Prints that a connection ended: its address, how many of its frames were handled (`frames`), its bytes in and out,
+/// and why it ended. A failure to print is ignored.
 pub(crate) fn print_ended<R: Eprint>(rt: &R, guest: &Guest, why: Departure, frames: u64) {
     let reason = reason_of(why);
     let _ = eprintln!(rt;
@@ -26,7 +30,8 @@ pub(crate) fn print_ended<R: Eprint>(rt: &R, guest: &Guest, why: Departure, fram
     );
 }
 
-/// Prints how many connections are open, and what happened since the line before.
+/// Prints how many connections are open, and what happened since the line before: how many frames were handled since
+/// then (`frames`), and by how much the counts grew from `before` to `now`.
 pub(crate) fn print_minute<R: Eprint>(rt: &R, open: usize, frames: u64, before: Tally, now: Tally) {
     let _ = eprintln!(rt;
         "connections: {} open, {} came, {} frames, {} bytes in, {} bytes out",
@@ -38,7 +43,8 @@ pub(crate) fn print_minute<R: Eprint>(rt: &R, open: usize, frames: u64, before: 
     );
 }
 
-/// Returns why a connection ended, in words.
+/// Returns why a connection ended, in the words of the line. The number of frames is that of `droid_turns` (`FRAMES`
+/// in `peer.rt`); nothing but this line ties the two.
 fn reason_of(why: Departure) -> &'static str {
     match why {
         Departure::Closed => "closed",

@@ -1,7 +1,8 @@
 //! The sockets of many connections. Proved is what is counted, and that no read or write passes the end of its buffer.
 //! What the system does with a socket is not known to the prover, so what asks the system or notes its answers has no
-//! contract: `tests/program/wire` tests it. How long a turn waits for more requests (`gather` and what it calls) is for
-//! speed alone.
+//! contract, or one of the counts alone: `serve_at_once.py`, `serve_in_turns.py`, `serve_many_desks.py` and
+//! `serve_options.py` of `tests/program/wire` test it. No test has accepting or registering fail. How long a turn waits
+//! for more requests (`gather` and what it calls) is for speed alone: `tests/program/journal/shared_syncs.py`.
 
 ghost use Rattle.std.specs.Prelude.{◌≡◌, ◌<◌, IfOk, IfSome, length};
 ghost use Rattle.droid_turns.specs.Events.{CameWithin, TookWithin};
@@ -22,14 +23,16 @@ use std::time::{Clock, Duration, Instant};
 /// The token of the listener. No connection has this number.
 const DOOR: usize = usize::MAX;
 
-/// How often accepting is tried again after a failure.
+/// How often `accept_one` tries at most, the first time included. Nothing holds the number.
 const TRIES: u32 = 16;
 
-/// How often a turn waits for more requests, at most.
+/// How often a turn waits for more requests, at most. The clock ends these waits far sooner: this bound is for a clock
+/// that stands still. Nothing holds the number.
 const MOST_WAITS: u32 = 1_000;
 
 /// If turns share syncs, a wait after a turn with requests ends after this many milliseconds. Then an idle turn
-/// follows, in which a journal marks its end.
+/// follows, in which a journal marks its end: `test_silence` of `tests/program/journal/journal_calls.py` tests that the
+/// mark comes, and nothing the number.
 const SETTLED: u64 = 10;
 
 /// The connections to a port of this machine.
@@ -59,7 +62,9 @@ pub struct Sockets<'a, R> {
 }
 
 impl<'a, R: Clock + Eprint + Net> Sockets<'a, R> {
-    /// Listens on a port of this machine, with room for the system's reports on this many connections.
+    /// Listens on this port of 127.0.0.1, with room for the system's reports on this many connections. Fails if the
+    /// system refuses, for example a port in use, or if memory runs out. The clause holds the counts alone:
+    /// `serve_command.py` tests the address and a port in use.
     pub fn bind(
         runtime: &'a R,
         alloc: Global,
@@ -97,14 +102,17 @@ impl<'a, R: Clock + Eprint + Net> Sockets<'a, R> {
     /// Lets requests that come soon after each other share a sync. If the last turn took a millisecond or more, `wait`
     /// also waits for the next requests of the other connections that this turn answered: at most half as long as the
     /// turn took, and never for a single connection. After a turn with requests the next one begins within 10
-    /// milliseconds, also if nothing comes.
+    /// milliseconds, also if nothing comes. The numbers are `LONG` of `grace.rt`, its `/ 2`, and `SETTLED`. The clause
+    /// holds the counts alone: with the flag unset `test_two_in_turn` of `shared_syncs.py` fails.
     pub fn share_syncs(&mut self)
         ensures { self.new.tally ≡ self.old.tally }
     {
         self.grace.is_given = true;
     }
 
-    /// Adds these frames to the ones since the last summary line, and prints that line if a minute has passed.
+    /// Adds these frames to the ones since the last summary line, and prints that line if a minute has passed and lines
+    /// are wanted. If they are not, frames are counted all the same. The clause holds the counts of `tally` alone:
+    /// `test_each_minute` of `serve_options.py` tests the line.
     fn print_minutely(&mut self, frames: u64)
         ensures { self.new.tally ≡ self.old.tally }
     {
@@ -127,15 +135,16 @@ impl<'a, R: Clock + Eprint + Net> Sockets<'a, R> {
         self.frames = 0;
     }
 
-    /// Returns the time since the clock was first read, in microseconds. `None`: a clock could not be read.
+    /// Returns the time since the clock was first read, in microseconds. `None`: a clock could not be read, then or
+    /// now, or the number needs more than 64 bits.
     fn microseconds(&self) -> Option<u64> {
         let begun = self.begun?;
         let now = Instant::now(self.runtime).ok()?;
         u64::try_from(now.saturating_duration_since(begun).as_micros()).ok()
     }
 
-    /// Waits until the system reports something, but at most `limit` milliseconds, and notes it. Returns whether there
-    /// was something.
+    /// Waits until the system reports something, but at most `limit` milliseconds, and notes at each connection what
+    /// was reported. Returns whether anything was. Fails if the system's wait does, which `serve_in_turns.py` tests.
     fn poll_for(&mut self, limit: u64) -> Result<bool, WaitFault>
         ensures { self.new.tally ≡ self.old.tally }
     {
@@ -151,7 +160,8 @@ impl<'a, R: Clock + Eprint + Net> Sockets<'a, R> {
     }
 
     /// Waits for the next requests of the connections that were answered in the last turn: until each of them sent
-    /// something, nothing was reported for a millisecond, or the time is up.
+    /// something, nothing was reported for a millisecond, or the time is up: [`microseconds`](Sockets::microseconds)
+    /// has reached `until`. A clock or a wait that fails ends it too, and is not reported: the next `wait` meets it.
     fn wait_for_answered(&mut self, until: u64)
         ensures { self.new.tally ≡ self.old.tally }
     {
@@ -171,7 +181,8 @@ impl<'a, R: Clock + Eprint + Net> Sockets<'a, R> {
     }
 
     /// Waits a little for more requests if one has come, so that they share a sync. The last turn's replies were
-    /// written at `now`.
+    /// written at `now`, in microseconds. The loop allows a wait of `limit` milliseconds. `is_due` is asked last, since
+    /// it counts the turns that could have waited.
     fn gather(&mut self, now: u64, limit: u64)
         ensures { self.new.tally ≡ self.old.tally }
     {
@@ -205,6 +216,9 @@ impl<R: Clock + Eprint + Net> Connections for Sockets<'_, R> {
 
     ghost does = { λ old event new. new.tally ≡ after old.tally event };
 
+    /// Prints the line of the minute if it is due, waits for the system's reports, perhaps waits for more requests, and
+    /// begins a turn. Does not wait if a connection may be accepted on a seat that has become free
+    /// (`test_a_seat_is_waited_for` of `serve_at_once.py`). Fails only if the first wait does.
     fn wait(&mut self, limit: u64, frames: u64) -> Result<(), WaitFault> {
         self.print_minutely(frames);
         // The system reports only once that a connection waits to be accepted.
@@ -231,6 +245,7 @@ impl<R: Clock + Eprint + Net> Connections for Sockets<'_, R> {
         Ok(())
     }
 
+    /// Reads the clock, in milliseconds since it was first read. If that fails, the last reading is returned.
     fn now(&mut self) -> u64 {
         if let Some(time) = self.microseconds() {
             self.time = time / 1_000;
@@ -238,6 +253,9 @@ impl<R: Clock + Eprint + Net> Connections for Sockets<'_, R> {
         self.time
     }
 
+    /// Accepts a connection if the system reported one. After a failure it returns false, and the next turn tries
+    /// again; only the answer that none waits ends the trying, until the system reports another one. A connection that
+    /// could not be taken in is closed, and not counted.
     fn accept(&mut self, id: u64) -> bool {
         if !self.is_knocking {
             return false;
@@ -258,6 +276,7 @@ impl<R: Clock + Eprint + Net> Connections for Sockets<'_, R> {
         }
     }
 
+    /// Reads from the connection with this number, and counts the bytes. An end or a fault counts nothing.
     fn read(&mut self, id: u64, buffer: &mut [u8]) -> Came {
         let came = read_from(&mut self.guests, id, buffer);
         match came {
@@ -270,6 +289,7 @@ impl<R: Clock + Eprint + Net> Connections for Sockets<'_, R> {
         came
     }
 
+    /// Writes to the connection with this number, and counts the bytes. A fault counts nothing.
     fn write(&mut self, id: u64, bytes: &[u8]) -> Took {
         let took = write_to(&mut self.guests, id, bytes);
         match took {
@@ -281,6 +301,8 @@ impl<R: Clock + Eprint + Net> Connections for Sockets<'_, R> {
         took
     }
 
+    /// Drops the connection with this number, which closes its socket, and prints its line if lines are wanted. An
+    /// unknown number is counted all the same; the loop closes none.
     fn close(&mut self, id: u64, why: Departure, frames: u64) {
         self.has_left = true;
         self.tally.closed = count(self.tally.closed, 1);
@@ -304,7 +326,8 @@ enum Accepted {
     Failed,
 }
 
-/// Accepts the next connection. A failure may concern one connection alone: then the next one is tried, up to 16 times.
+/// Accepts the next connection. A failure may concern one connection alone: then the next one is tried, up to 16 times
+/// in all (`TRIES`). No clause holds that number, and no test has a failure here.
 fn accept_one(listener: &TcpListener) -> Accepted {
     for _ in 0..TRIES {
         match listener.accept() {
@@ -319,7 +342,8 @@ fn accept_one(listener: &TcpListener) -> Accepted {
     Accepted::Failed
 }
 
-/// Registers a connection with the system, and keeps it. Returns false if that fails; then it is closed.
+/// Registers a connection with the system, and keeps it. Returns false if that fails, or if memory runs out; then it is
+/// closed. It begins as readable and writable: the first read and write find out, and no report is waited for.
 fn take_in(
     poll: &Poll,
     guests: &mut Vec<Guest>,
@@ -327,7 +351,7 @@ fn take_in(
     mut stream: TcpStream,
     address: SocketAddr,
 ) -> bool {
-    // A reply is one write, so the system should not delay it.
+    // A reply is one write, so the system should not delay it. For speed: a failure is ignored, and nothing tests it.
     let _ = stream.set_nodelay(true);
     let both = Interest::READABLE | Interest::WRITABLE;
     let registry = poll.registry();
@@ -352,7 +376,8 @@ fn take_in(
         .is_ok()
 }
 
-/// Notes what the system reported, and returns whether a connection is waiting to be accepted.
+/// Notes at each connection what the system reported of it, and returns whether one is waiting to be accepted. A
+/// failure counts as readable and writable too: the read or the write that follows reports it.
 fn note_ready(events: &Events, guests: &mut Vec<Guest>) -> bool {
     let mut knocks = false;
     for event in events.iter() {
@@ -369,7 +394,8 @@ fn note_ready(events: &Events, guests: &mut Vec<Guest>) -> bool {
     knocks
 }
 
-/// Notes that a connection can be read or written, or that its input has ended or failed.
+/// Notes that the connection with this number can be read or written, or that its input has ended or failed: each flag
+/// is only ever set here. A report on an unknown number is ignored.
 fn note_one(guests: &mut Vec<Guest>, id: u64, readable: bool, writable: bool, ending: bool) {
     if let Some(place) = place_of(guests, id) {
         let guest = &mut guests[place];
@@ -379,24 +405,27 @@ fn note_one(guests: &mut Vec<Guest>, id: u64, readable: bool, writable: bool, en
     }
 }
 
-/// Returns how many connections were answered and have sent nothing since.
+/// Returns how many connections took bytes in the last turn and have, as far as the system reported, sent nothing
+/// since.
 fn awaited(guests: &[Guest]) -> usize {
     guests.iter().filter(|guest| guest.is_awaited()).count()
 }
 
-/// Returns whether a connection may have bytes that were not read.
+/// Returns whether a connection may have bytes that were not read: the system reported some, or its last read filled
+/// the buffer.
 fn has_come(guests: &[Guest]) -> bool {
     guests.iter().any(|guest| guest.readable)
 }
 
-/// Notes that no connection took bytes in this turn.
+/// Notes that no connection took bytes yet in the turn that begins.
 fn forget_answers(guests: &mut Vec<Guest>) {
     for guest in guests.iter_mut() {
         guest.answered = false;
     }
 }
 
-/// Returns the place of the connection with this number.
+/// Returns the place of the connection with this number in the list, if there is one. No clause says that it is the
+/// right one: in `tests/program/wire/serve_in_turns.py` several connections each get their own replies.
 fn place_of(guests: &[Guest], id: u64) -> Option<usize>
     ensures { IfSome result (λ place. place < length guests.now) }
 {
@@ -408,7 +437,7 @@ fn place_of(guests: &[Guest], id: u64) -> Option<usize>
     None
 }
 
-/// Reads the bytes that have come on a connection. An unknown connection is broken.
+/// Reads the bytes that have come on the connection with this number. An unknown connection is broken.
 fn read_from(guests: &mut Vec<Guest>, id: u64, buffer: &mut [u8]) -> Came
     ensures { CameWithin result (length buffer.new) }
 {
@@ -418,7 +447,7 @@ fn read_from(guests: &mut Vec<Guest>, id: u64, buffer: &mut [u8]) -> Came
     }
 }
 
-/// Writes some of these bytes to a connection. An unknown connection is broken.
+/// Writes some of these bytes to the connection with this number. An unknown connection is broken.
 fn write_to(guests: &mut Vec<Guest>, id: u64, bytes: &[u8]) -> Took
     ensures { TookWithin result (length bytes.now) }
 {

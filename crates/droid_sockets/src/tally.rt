@@ -17,7 +17,7 @@ pub struct Tally {
 }
 
 impl Tally {
-    /// Returns the tally at the start.
+    /// Returns the tally of sockets that were just bound: all counts are 0.
     pub(crate) fn new() -> Tally
         ensures { result ≡ record { opened = 0; closed = 0; came = 0; went = 0 } }
     {
@@ -30,7 +30,7 @@ impl Tally {
     }
 }
 
-/// Adds to a number, but not beyond 2^64 - 1.
+/// Adds bytes or connections to a count, but not beyond 2^64 - 1.
 pub(crate) fn count(number: u64, more: usize) -> u64
     ensures { result ≡ counted number more }
 {

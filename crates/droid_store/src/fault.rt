@@ -1,4 +1,4 @@
-//! The errors of the store.
+//! The errors of the store: which one an error of the database is, and which refusal a client gets for it.
 
 ghost use Rattle.std.specs.Prelude.{◌≡◌};
 

@@ -9,14 +9,14 @@ ghost use Rattle.droid_store.specs.Rows.{hash_of};
 
 use droid_frame::{HashKind, HashValue};
 
-/// Returns the number of the kind in the database.
+/// Returns the number of the kind in the database, which is that in a frame.
 pub(crate) fn kind_number(hash: HashKind) -> u32
     ensures { result ≡ hash_kind_number hash }
 {
     u32::from(hash.number())
 }
 
-/// Returns the kind with this number.
+/// Returns the kind with this number, or `None` if no kind has it.
 pub(crate) fn kind_of(number: u32) -> Option<HashKind>
     ensures { (kind : HashKindValue) → number ≡ hash_kind_number kind → result ≡ Some kind }
 {
@@ -42,7 +42,7 @@ pub(crate) fn hash_of(bytes: &[u8]) -> Option<HashValue>
     }
 }
 
-/// Reads a SHA-256 from 32 bytes.
+/// Reads a SHA-256 from 32 bytes. Returns `None` for any other number of bytes.
 fn long_hash_of(bytes: &[u8]) -> Option<HashValue>
     ensures value { IfSome result (λ hash. (length bytes.now ≡ 32) × (hash ≡ hashes.Sha256 bytes.now)) }
     ensures some { length bytes.now ≡ 32 → IsSome result }
@@ -53,7 +53,8 @@ fn long_hash_of(bytes: &[u8]) -> Option<HashValue>
     }
 }
 
-/// States a fact that the prover needs: each digest has the length of its kind. Does nothing.
+/// States a fact that the prover needs: each digest has the length of its kind, so that a file's hash can be read back.
+/// Does nothing.
 pub(crate) fn has_its_length(hash: HashValue)
     ensures { IsHashValue hash }
 {

@@ -7,7 +7,7 @@ ghost use Rattle.droid_store.specs.Encoded.{joined, words_of};
 use droid_frame::{Text, Texts};
 use std::alloc::{AllocError, Global};
 
-/// Joins the words by a space. Fails only if memory runs out.
+/// Joins the words by a space; without words the text is empty. Fails only if memory runs out.
 pub(crate) fn join(alloc: Global, words: &Texts) -> Result<String, AllocError>
     ensures { IfOk result (λ text. string_bytes text ≡ joined words.now) }
 {
@@ -19,7 +19,7 @@ pub(crate) fn join(alloc: Global, words: &Texts) -> Result<String, AllocError>
     Ok(text)
 }
 
-/// Appends a word, behind a space if it isn't the first.
+/// Appends a word, behind a space if it isn't the first. Fails only if memory runs out; `join` then drops the text.
 fn append(text: &mut String, word: &str, is_first: bool) -> Result<(), AllocError>
     ensures { OnOk result
         (string_bytes text.new ≡ string_bytes text.old ++ (if is_first then word.now else 32 ∷ word.now)) }
@@ -30,7 +30,7 @@ fn append(text: &mut String, word: &str, is_first: bool) -> Result<(), AllocErro
     text.push_str(word)
 }
 
-/// Splits such a text into its words. Fails only if memory runs out.
+/// Splits a text that `join` made into its words; the empty text has none. Fails only if memory runs out.
 pub(crate) fn words(alloc: Global, text: &str) -> Result<Texts, AllocError>
     ensures { IfOk result (λ words. words ≡ words_of text.now) }
 {
@@ -40,7 +40,7 @@ pub(crate) fn words(alloc: Global, text: &str) -> Result<Texts, AllocError>
     split(alloc, text)
 }
 
-/// Splits a text at its spaces.
+/// Splits a text at each of its spaces. Unlike `words`, it makes one empty word of the empty text.
 fn split(alloc: Global, text: &str) -> Result<Texts, AllocError>
     ensures { IfOk result (λ words. words ≡ slice_split (λ byte. byte == 32) text.now) }
 {

@@ -1,5 +1,6 @@
-//! Look-ups of one row by its key. They change nothing, even if they fail. `lib.rt` explains the words of the kit's
-//! `sqlite` in the contracts.
+//! Look-ups of one row by its key, which return `None` if there is no such row. A row has the columns that the
+//! statement selects. They change nothing, even if they fail. `lib.rt` explains the words of the kit's `sqlite` in the
+//! contracts.
 
 ghost use Rattle.std.specs.Prelude.{◌≡◌, ◌≢◌, ◌<◌, ◌^◌, None, IfOk, IfErr, MatchOption, Ok, Err, option_map};
 ghost use Rattle.sqlite.specs.Held.{state};
@@ -16,7 +17,7 @@ use crate::statements::{FIND_CHILD, FIND_NODE, FIND_PROFILE, FIND_REPLY};
 use droid_store_trees::TreeStore;
 use sqlite::{Connection, Error, Row, params};
 
-/// Turns the error for "no row" into `None`. Other errors stay.
+/// Turns the error for "no row", of the kit's `query_row`, into `None`. Other errors stay.
 fn or_none(answer: Result<Row, Error>) -> Result<Option<Row>, Error>
     ensures found { IfOk result (λ found.
         MatchOption found (answer ≡ Err QueryReturnedNoRows) (λ row. answer ≡ Ok row)) }
@@ -29,7 +30,7 @@ fn or_none(answer: Result<Row, Error>) -> Result<Option<Row>, Error>
     }
 }
 
-/// Looks for the row of a profile.
+/// Looks for the row of the profile with this number.
 pub(crate) fn find_profile(
     conn: &mut Connection<TreeStore>,
     profile: u32,
@@ -45,7 +46,7 @@ pub(crate) fn find_profile(
     or_none(answer)
 }
 
-/// Looks for the row of a folder or file by its number.
+/// Looks for the row of a folder or file of this profile by its number, `id`. An abandoned file has none.
 pub(crate) fn find_node(
     conn: &mut Connection<TreeStore>,
     profile: u32,
@@ -63,7 +64,8 @@ pub(crate) fn find_node(
     or_none(answer)
 }
 
-/// Looks for the row of a folder or file by its name and the folder that it lies in.
+/// Looks for the row of a folder or file of this profile by its name, byte for byte, and the number of the folder that
+/// it lies in, 0 at the top. Of the row it returns the number alone.
 pub(crate) fn find_child(
     conn: &mut Connection<TreeStore>,
     profile: u32,
@@ -83,7 +85,7 @@ pub(crate) fn find_child(
     or_none(answer)
 }
 
-/// Looks for the row of an accepted command by its client and number.
+/// Looks for the row of an accepted command by its client and the number that the client gave it.
 pub(crate) fn find_reply(
     conn: &mut Connection<TreeStore>,
     client: u32,

@@ -18,7 +18,7 @@ use droid_store_trees::TreeStore;
 use sqlite::{Connection, params};
 use std::alloc::Global;
 
-/// Returns the folders and finished files of the profile by number.
+/// Returns the folders and finished files of the profile in the order of their numbers.
 ///
 /// Each row is converted before the next one is read, so beside the records there is at most about a quarter of a
 /// megabyte of rows in memory.

@@ -1,5 +1,8 @@
 //! The single statements of a transaction, and the numbers that they take. `lib.rt` explains the words of the kit's
 //! `sqlite` in the contracts.
+//!
+//! Each returns how many rows it changed, which nobody uses and no clause names. After an error the transaction is
+//! rolled back, so nothing but the committed rows is promised.
 
 ghost use Rattle.std.specs.Prelude.{◌≡◌, ◌+◌, ◌<◌, ◌^◌, ◌++◌, ◌∷◌, [], List, ℕ, Some, length, pos};
 ghost use Rattle.sqlite.specs.Held.{state};
@@ -23,7 +26,8 @@ use droid_frame::{HashKind, Method};
 use droid_store_trees::TreeStore;
 use sqlite::{Error, Transaction, params};
 
-/// Converts a number to the signed one that the database takes.
+/// Converts a number to the signed one that the database takes, for a command's number and a file's size. The number
+/// stays.
 pub(crate) fn signed(number: u64) -> i64
     requires { number < 2 ^ 63 }
     ensures { result ≡ pos number }
@@ -31,7 +35,7 @@ pub(crate) fn signed(number: u64) -> i64
     number.cast_signed()
 }
 
-/// Adds the row of a profile.
+/// Adds the row of a profile, which has no node yet.
 pub(crate) fn insert_profile(
     tx: &mut Transaction<'_, TreeStore>,
     profile: u32,
@@ -55,7 +59,7 @@ pub(crate) fn insert_profile(
     )
 }
 
-/// Adds the row of an accepted command with its reply.
+/// Adds the row of an accepted command with its reply, after all others.
 pub(crate) fn insert_reply(
     tx: &mut Transaction<'_, TreeStore>,
     entry: &Entry,
@@ -87,7 +91,7 @@ pub(crate) fn insert_reply(
     )
 }
 
-/// Adds the row of a folder or file.
+/// Adds the row of a folder or file, in which nothing is found yet. `modified` is in seconds since 1970.
 fn insert_node(
     tx: &mut Transaction<'_, TreeStore>,
     node: &NewNode<'_>,
@@ -122,7 +126,7 @@ fn insert_node(
     )
 }
 
-/// Sets how many folders and files a profile has.
+/// Sets how many folders and files a profile has accepted.
 fn count_nodes(
     tx: &mut Transaction<'_, TreeStore>,
     profile: u32,
@@ -142,7 +146,7 @@ fn count_nodes(
     tx.execute(COUNT_NODES, params![profile, nodes])
 }
 
-/// Adds the node, and has its profile count it.
+/// Adds the node, and has its profile count it: a new node's number is the count.
 pub(crate) fn add_node(
     tx: &mut Transaction<'_, TreeStore>,
     node: &NewNode<'_>,
@@ -164,7 +168,7 @@ pub(crate) fn add_node(
     count_nodes(tx, node.profile, node.id)
 }
 
-/// Sets what was found of a finished file.
+/// Sets what was found in a file, and that it is finished.
 pub(crate) fn finish_node(
     tx: &mut Transaction<'_, TreeStore>,
     profile: u32,
@@ -198,7 +202,8 @@ pub(crate) fn finish_node(
     )
 }
 
-/// Returns the number of the method in the database.
+/// Returns the number of the method in the database, which is that in a frame. `method_of` of `row_reader` reads it
+/// back.
 fn number_of(method: Method) -> u32
     ensures { result ≡ method_number method }
 {

@@ -1,5 +1,10 @@
 //! Converts rows of the database to profiles, nodes, records and replies. `column row at`, of the kit's `sqlite`, is
 //! the value in that column.
+//!
+//! The number of a column is its place, counted from 0, in the SELECT of `statements` that returned the row, and in the
+//! definition of `specs/Shown.antt` that the clause names; the prover ties them. For a row that the store wrote, only
+//! `Memory` comes. A value that no such row has (another type, an unknown number, a digest of another length) is
+//! `Refused`.
 
 ghost use Rattle.std.specs.Prelude.{◌≡◌, ◌<◌, ◌^◌, List, ℕ, IfOk, IfErr, IsTrue, Some, length, pos};
 ghost use Rattle.std.specs.List.{AllByRecursion};
@@ -25,7 +30,7 @@ use droid_frame::{Blob, HashKind, HashValue, Method, NodeKind, Record, Text, Tex
 use sqlite::Row;
 use std::alloc::Global;
 
-/// Reads the row of a profile. Fails for a row that no profile has.
+/// Reads the row of a profile, as `FIND_PROFILE` selects it.
 pub(crate) fn profile_of(row: &Row) -> Result<ProfileRow, StoreFault>
     ensures read { IfOk result (λ read. (p : ProfileRowValue) → row.now ≡ shown_profile p → read ≡ p) }
     ensures memory { (p : ProfileRowValue) → row.now ≡ shown_profile p → ProfileFits p
@@ -34,7 +39,7 @@ pub(crate) fn profile_of(row: &Row) -> Result<ProfileRow, StoreFault>
     let scan_limit = row.get(0)?;
     let match_all = row.get(1)?;
     let nodes = row.get(2)?;
-    let hash = hash_kind_in(row)?;
+    let hash = hash_kind_column(row)?;
     Ok(ProfileRow {
         scan_limit,
         match_all,
@@ -43,8 +48,8 @@ pub(crate) fn profile_of(row: &Row) -> Result<ProfileRow, StoreFault>
     })
 }
 
-/// Reads the column of a profile's hash.
-fn hash_kind_in(row: &Row) -> Result<HashKind, StoreFault>
+/// Reads the column of a profile's hash, the kind that its files get.
+fn hash_kind_column(row: &Row) -> Result<HashKind, StoreFault>
     ensures read { IfOk result (λ read. (p : ProfileRowValue) → row.now ≡ shown_profile p → read ≡ p.hash) }
     ensures memory { (p : ProfileRowValue) → row.now ≡ shown_profile p → IfErr result (λ fault. fault ≡ Memory) }
 {
@@ -81,7 +86,8 @@ fn hash_in(row: &Row, at: usize) -> Result<HashValue, StoreFault>
     }
 }
 
-/// Converts the row of a reply, which is kept under this client and number.
+/// Converts the row of a reply, as `FIND_REPLY` selects it. It is kept under this client and number, which the row
+/// doesn't repeat.
 pub(crate) fn entry_of(row: &Row, client: u32, number: u64) -> Result<Entry, StoreFault>
     ensures read { IfOk result (λ read.
         (e : EntryValue) → e.client ≡ client → e.number ≡ number → row.now ≡ shown_reply e → read ≡ e) }
@@ -102,7 +108,7 @@ pub(crate) fn entry_of(row: &Row, client: u32, number: u64) -> Result<Entry, Sto
     })
 }
 
-/// Reads a byte from this column.
+/// Reads a number below 256 from this column.
 fn byte_in(row: &Row, at: usize) -> Result<u8, StoreFault>
     ensures read { IfOk result (λ read. (n : ℕ) → column row.now at ≡ Int (pos n) → read ≡ n) }
     ensures memory { (n : ℕ) → at < length row.now → column row.now at ≡ Int (pos n) → n < 2 ^ 8
@@ -115,7 +121,7 @@ fn byte_in(row: &Row, at: usize) -> Result<u8, StoreFault>
     }
 }
 
-/// The columns of a node that are numbers.
+/// The columns of a node that are numbers and don't change except for the state.
 #[derive(Clone, Copy)]
 struct Head {
     id: u32,
@@ -126,7 +132,7 @@ struct Head {
     piece_size: u32,
 }
 
-/// Reads the columns of a node that finishing it doesn't change.
+/// Reads the first six columns of a node: its numbers and its state.
 fn head_of(row: &Row) -> Result<Head, StoreFault>
     ensures read { IfOk result (λ read.
         (n : Node) → row.now ≡ shown_node n
@@ -144,7 +150,7 @@ fn head_of(row: &Row) -> Result<Head, StoreFault>
     let id = row.get(0)?;
     let parent = row.get(1)?;
     let modified = row.get(2)?;
-    let state = state_in(row)?;
+    let state = state_column(row)?;
     let size = row.get(4)?;
     let piece_size = row.get(5)?;
     Ok(Head {
@@ -166,14 +172,14 @@ struct Findings {
     puids: Texts,
 }
 
-/// Reads the columns of a node that are set when it is finished.
+/// Reads the columns of a node that are set when it is finished. Before that they say that nothing was found.
 fn findings_of(alloc: Global, row: &Row) -> Result<Findings, StoreFault>
     ensures read { IfOk result (λ read.
         (n : Node) → AllByRecursion IsWord n.puids → row.now ≡ shown_node n
         → read ≡ record { method = n.method; mismatch = n.mismatch; hash = hash_of n.hash; puids = n.puids }) }
     ensures memory { (n : Node) → row.now ≡ shown_node n → NodeFits n → IfErr result (λ fault. fault ≡ Memory) }
 {
-    let method = method_in(row)?;
+    let method = method_column(row)?;
     let mismatch = row.get(7)?;
     let formats: String = row.get(10)?;
     let hash = hash_in(row, 11)?;
@@ -197,7 +203,7 @@ fn kind_of(state: NodeState) -> NodeKind
     }
 }
 
-/// Reads the row of a folder or file. Fails for a row that no node has.
+/// Reads the row of a folder or file, as `FIND_NODE` selects it.
 pub(crate) fn node_of(alloc: Global, row: &Row) -> Result<NodeRow, StoreFault>
     ensures read { IfOk result (λ read.
         (n : Node) → AllByRecursion IsWord n.puids → row.now ≡ shown_node n → read ≡ row_of n) }
@@ -228,8 +234,8 @@ pub(crate) fn node_of(alloc: Global, row: &Row) -> Result<NodeRow, StoreFault>
     })
 }
 
-/// Reads the column of a node's state.
-fn state_in(row: &Row) -> Result<NodeState, StoreFault>
+/// Reads the column of a node's state. A number that no state has is `Refused`.
+fn state_column(row: &Row) -> Result<NodeState, StoreFault>
     ensures read { IfOk result (λ read. (n : Node) → row.now ≡ shown_node n → read ≡ n.state) }
     ensures memory { (n : Node) → row.now ≡ shown_node n → IfErr result (λ fault. fault ≡ Memory) }
 {
@@ -240,8 +246,8 @@ fn state_in(row: &Row) -> Result<NodeState, StoreFault>
     }
 }
 
-/// Reads the column of a node's method.
-fn method_in(row: &Row) -> Result<Method, StoreFault>
+/// Reads the column of a node's method. A number that no method has is `Refused`.
+fn method_column(row: &Row) -> Result<Method, StoreFault>
     ensures read { IfOk result (λ read. (n : Node) → row.now ≡ shown_node n → read ≡ n.method) }
     ensures memory { (n : Node) → row.now ≡ shown_node n → IfErr result (λ fault. fault ≡ Memory) }
 {
@@ -252,7 +258,7 @@ fn method_in(row: &Row) -> Result<Method, StoreFault>
     }
 }
 
-/// Returns the state of this number.
+/// Returns the state of this number (`NodeState::number`), or `None` if no state has it.
 fn state_of(number: u32) -> Option<NodeState>
     ensures { (s : NodeStateValue) → number ≡ state_number s → result ≡ Some s }
 {
@@ -264,7 +270,7 @@ fn state_of(number: u32) -> Option<NodeState>
     }
 }
 
-/// Returns the method of this number.
+/// Returns the method of this number (`number_of` of `row_change`), or `None` if no method has it.
 fn method_of(number: u32) -> Option<Method>
     ensures { (m : MethodValue) → number ≡ method_number m → result ≡ Some m }
 {
@@ -276,7 +282,7 @@ fn method_of(number: u32) -> Option<Method>
     }
 }
 
-/// Converts the row of a node to its record.
+/// Converts the row of a folder or file, as `LIST_RECORDS` selects it, to its record.
 pub(crate) fn record_in(alloc: Global, row: &Row) -> Result<Record, StoreFault>
     ensures read { IfOk result (λ read.
         (n : Node) → AllByRecursion IsWord n.puids → row.now ≡ shown_node n → read ≡ record_of n) }

@@ -1,4 +1,4 @@
-//! The rows of the store, and what its queries return.
+//! The rows of the store, what its queries return, and the numbers for the state of a node.
 
 ghost use Rattle.std.specs.Prelude.{◌≡◌};
 ghost use Rattle.droid_store.specs.Encoded.{state_number};
@@ -47,7 +47,8 @@ pub enum NodeState {
 }
 
 impl NodeState {
-    /// Returns the number of the state in the database.
+    /// Returns the number of the state in the database. `FINISH_NODE` of `statements` sets 2, `LIST_RECORDS` leaves out
+    /// 1, and `state_of` of `row_reader` reads them back; the prover ties all of these.
     pub(crate) fn number(self) -> u32
         ensures { result ≡ state_number self }
     {

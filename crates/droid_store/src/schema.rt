@@ -1,4 +1,4 @@
-//! Creates the three tables. `lib.rt` explains the words of the kit's `sqlite` in the contracts.
+//! Opens the database and creates its three tables. `lib.rt` explains the words of the kit's `sqlite` in the contracts.
 
 ghost use Rattle.std.specs.Prelude.{◌≡◌, None, OnOk, IfOk, IfErr, [], ◌∷◌};
 ghost use Rattle.sqlite.specs.Held.{state};
@@ -14,7 +14,7 @@ use droid_store_trees::TreeStore;
 use sqlite::{Connection, Error};
 use std::alloc::Global;
 
-/// Opens a database in memory without tables.
+/// Opens a database in memory without tables, and without a limit on the steps of a statement.
 pub(crate) fn open_empty(alloc: Global) -> Result<Connection<TreeStore>, Error>
     ensures empty { IfOk result (λ conn. Settled (state over_trees conn) (HasEmpty no_schema [])) }
     ensures limit { IfOk result (λ conn. conn.step_limit ≡ None) }
@@ -26,7 +26,8 @@ pub(crate) fn open_empty(alloc: Global) -> Result<Connection<TreeStore>, Error>
     }
 }
 
-/// Creates the three tables in an empty database.
+/// Creates the three tables in an empty database. After an error nothing is promised of it: `Store::in_memory`, the
+/// only caller, drops it.
 pub(crate) fn make_tables(conn: &mut Connection<TreeStore>) -> Result<(), Error>
     requires { Settled (state over_trees conn.old) (HasEmpty no_schema []) }
     ensures made { OnOk result (Settled (state over_trees conn.new) (Holds no_rows)) }

@@ -1,4 +1,8 @@
 //! All SQL statements of the store.
+//!
+//! A new column stands in the CREATE, in the INSERT, in each SELECT that returns it, in `specs/Tables.antt`,
+//! `specs/Encoded.antt` and `specs/Shown.antt`, and in `row_change` and `row_reader`, which name columns by their
+//! place. The prover ties all of these.
 
 pub(crate) const MAKE_PROFILES: &str =
     "CREATE TABLE profiles (id INTEGER PRIMARY KEY, scan_limit INTEGER NOT NULL, match_all INTEGER NOT NULL, nodes \

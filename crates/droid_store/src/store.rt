@@ -1,4 +1,5 @@
-//! The store: its queries, and one call for each kind of accepted command.
+//! The store: what it holds, and how one is made. `commands` has a call for each kind of accepted command, `queries`
+//! what reads.
 
 ghost use Rattle.std.specs.Prelude.{◌≡◌, IfOk, IfErr};
 ghost use Rattle.droid_store.specs.Rows.{no_rows};

@@ -18,7 +18,8 @@ use crate::rows::Entry;
 use droid_store_trees::TreeStore;
 use sqlite::{Connection, Error, Transaction};
 
-/// Writes the change and the reply, both or neither: a transaction that is dropped before its commit is rolled back.
+/// Writes the change and the reply `entry`, both or neither: a transaction that is dropped before its commit is rolled
+/// back.
 pub(crate) fn write(
     conn: &mut Connection<TreeStore>,
     entry: &Entry,
@@ -44,7 +45,8 @@ pub(crate) fn write(
     tx.commit()
 }
 
-/// Makes the change by the statement of its kind.
+/// Makes the change by the statement of its kind. The number of rows that it returns is that of the last statement;
+/// `write` doesn't use it.
 fn apply(tx: &mut Transaction<'_, TreeStore>, change: &Change<'_>) -> Result<usize, Error>
     requires writable { IsWritable change.now }
     ensures same_reference { tx.new.conn.ghost_name ≡ tx.old.conn.ghost_name }

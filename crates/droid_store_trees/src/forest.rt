@@ -51,7 +51,7 @@ impl Forest {
         })
     }
 
-    /// Returns whether the tree of this number is a table, an index or not there.
+    /// Returns whether the tree of this number is a table, an index or absent. A number past the last tree is absent.
     pub(crate) fn shape(&self, tree: u32) -> Shape
         ensures { result ≡ shape_of self.now tree }
     {
@@ -60,7 +60,8 @@ impl Forest {
             .map_or(Shape::Absent, |t| t.shape)
     }
 
-    /// Returns a cursor at the first row that is sought, in one of the two directions.
+    /// Returns a cursor at the first row that is not below the key, or, backward, behind the last that is not above it.
+    /// Where there is no such tree, it has nothing to read.
     pub(crate) fn placed(&self, tree: usize, key: &Row, direction: Direction) -> Cursor
         ensures { left_of self.now result
             ≡ sought (order_of (shape_of self.now tree)) direction key.now (rows_of self.now tree) }
@@ -84,7 +85,8 @@ impl Forest {
         }
     }
 
-    /// Reads the next row into `row`. Returns the moved cursor, or `None` at the end.
+    /// Reads the cursor's next row into `row`. Returns the moved cursor, or `None` at the end. Fails only if memory
+    /// runs out.
     pub(crate) fn step(&self, cursor: Cursor, row: &mut Row) -> Result<Option<Cursor>, AllocError>
         ensures { IfOk result (Steps self.now cursor row.new) }
     {
@@ -120,7 +122,8 @@ impl Forest {
         }
     }
 
-    /// Changes the rows of a tree.
+    /// Makes a write to the rows of a tree. If memory runs out, all rows stay. The tree has to be there, with the shape
+    /// that the write asks for.
     pub(crate) fn edit(
         &mut self,
         alloc: Global,
@@ -137,7 +140,8 @@ impl Forest {
         self.trees[tree as usize].apply(alloc, edit)
     }
 
-    /// Adds absent trees until there is one with this number.
+    /// Adds absent trees until there is one with this number. If memory runs out, some may have been added; they show
+    /// nothing.
     fn make_room(&mut self, alloc: Global, tree: u32) -> Result<(), AllocError>
         ensures room { OnOk result (tree < length self.new.trees.items) }
         ensures same { AreAlike self.old self.new }

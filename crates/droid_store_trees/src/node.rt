@@ -2,6 +2,12 @@
 //! the old tree stays as it was.
 //!
 //! Balance is for speed alone: no clause asks for it. The clauses name the rows from left to right, and the counts.
+//!
+//! The weight of a tree is the number of its rows and 1. `balanced` turns a tree when one side has more than three
+//! times the weight of the other, and `Fork::after` and `Fork::before` turn twice when the inner side has more than
+//! twice that of the outer: 3 and 2 go together, and nothing but this line says so.
+//!
+//! Every edit and every copy fails when memory runs out, or when a counter of the copies that share a node is full.
 
 ghost use Rattle.std.specs.Prelude.{◌≡◌, ◌≤◌, ◌<◌, ◌∷◌, ◌++◌, length, slice_index_or, slice_set, [], IfOk, IfSome};
 ghost use Rattle.std.specs.Prelude.{IfNone};
@@ -34,7 +40,7 @@ pub(crate) struct Fork {
 }
 
 impl Node {
-    /// Returns how many rows the tree has.
+    /// Returns how many rows the tree has, without counting them again.
     pub(crate) fn len(&self) -> usize
         requires { IsCounted self.now }
         ensures { result ≡ length (rows self.now) }
@@ -80,8 +86,8 @@ impl Node {
         Ok(Node::Fork(Rc::new(alloc, fork)?))
     }
 
-    /// Joins both sides, and rotates if one of them has more than three times the weight of the other. A weight is the
-    /// number of rows and 1.
+    /// Joins both sides, with the row between them, and rotates if one of them has more than three times the weight of
+    /// the other.
     fn balanced(
         alloc: Global,
         left: &Node,
@@ -102,7 +108,8 @@ impl Node {
         Node::joined(alloc, left, row, right)
     }
 
-    /// Makes a node whose right tree gives its first part to the left: one of the two turns that keep trees balanced.
+    /// Makes a node whose right tree, the heavier one, gives its first part to the left: one of the two turns that keep
+    /// trees balanced.
     fn turned_left(
         alloc: Global,
         left: &Node,
@@ -120,7 +127,7 @@ impl Node {
         }
     }
 
-    /// Makes a node whose left tree gives its last part to the right: the other turn.
+    /// Makes a node whose left tree, the heavier one, gives its last part to the right: the other turn.
     fn turned_right(
         alloc: Global,
         left: &Node,
@@ -138,7 +145,7 @@ impl Node {
         }
     }
 
-    /// Returns the row at a place, counted from 0.
+    /// Returns the row at a place, counted from 0 from the left, or `None` past the end.
     pub(crate) fn get(&self, at: usize) -> Option<&Rc<PackedRow>>
         requires { IsCounted self.now }
         ensures found { IfSome result (λ row.
@@ -160,7 +167,8 @@ impl Node {
         }
     }
 
-    /// Returns the number of rows that pass the test.
+    /// Returns the number of rows that pass the test, if these stand before all others. If they don't, only that the
+    /// number is not above that of all rows is promised.
     pub(crate) fn place(&self, probe: Probe<'_>) -> usize
         requires { IsCounted self.now }
         ensures within { result ≤ length (rows self.now) }
@@ -179,7 +187,7 @@ impl Node {
         }
     }
 
-    /// Returns a tree with another row at this place. Past the end it changes nothing.
+    /// Returns a tree with this row instead of the one at this place. Past the end the rows are the same.
     #[tactic(auto, using(crate::proofs::Edits::set_left, crate::proofs::Edits::set_here, crate::proofs::Edits::set_right))]
     pub(crate) fn set(
         &self,
@@ -208,7 +216,7 @@ impl Node {
         }
     }
 
-    /// Returns a tree with a row more, at this place.
+    /// Returns a tree with this row more, before the one at this place, or at the end.
     #[tactic(auto, using(crate::proofs::Edits::insert_left, crate::proofs::Edits::insert_right))]
     pub(crate) fn insert(
         &self,
@@ -235,7 +243,7 @@ impl Node {
         }
     }
 
-    /// Returns a tree without the row at this place.
+    /// Returns a tree without the row at this place. In the middle, the next row takes its place in the node.
     #[tactic(auto, using(crate::proofs::Edits::remove_left, crate::proofs::Edits::remove_here, crate::proofs::Edits::remove_right))]
     pub(crate) fn remove(&self, alloc: Global, at: usize) -> Result<Node, AllocError>
         requires counted { IsCounted self.now }
@@ -268,8 +276,8 @@ impl Node {
 }
 
 impl Fork {
-    /// Joins a smaller tree and a row in front of this tree: a rotation to the left, a double one if the left side is
-    /// large.
+    /// Joins a smaller tree and a row in front of this tree: a rotation to the left, a double one if the left side has
+    /// more than twice the weight of the right one.
     fn after(&self, alloc: Global, left: &Node, row: &Rc<PackedRow>) -> Result<Node, AllocError>
         requires left { IsCounted left.now }
         requires parts { IsCounted self.now.left × IsCounted self.now.right }
@@ -288,8 +296,8 @@ impl Fork {
         Node::joined(alloc, &first, &self.row, &self.right)
     }
 
-    /// Joins a row and a smaller tree behind this tree: a rotation to the right, a double one if the right side is
-    /// large.
+    /// Joins a row and a smaller tree behind this tree: a rotation to the right, a double one if the right side has
+    /// more than twice the weight of the left one.
     fn before(&self, alloc: Global, row: &Rc<PackedRow>, right: &Node) -> Result<Node, AllocError>
         requires right { IsCounted right.now }
         requires parts { IsCounted self.now.left × IsCounted self.now.right }

@@ -18,10 +18,10 @@ use std::alloc::{AllocError, Global};
 use std::cmp::Ordering;
 use std::marker::Model;
 
-/// Bytes that are reserved for the types of a record while it is written.
+/// Bytes that are reserved for the types of a record while it is written. For speed; a longer record takes more.
 const TYPES_ROOM: usize = 16;
 
-/// Bytes that are reserved for a whole record while it is written.
+/// Bytes that are reserved for a whole record while it is written. For speed; a longer record takes more.
 const BYTES_ROOM: usize = 120;
 
 /// A list of values in one buffer: the types of all values, and then their bytes. Each value has only the bytes that it
@@ -62,7 +62,7 @@ impl PackedRow {
         }
     }
 
-    /// Returns the first value, or NULL if the row has none.
+    /// Returns the first value, or NULL if the row has none. In a table it is the row's number.
     pub fn first(&self) -> ValueRef<'_>
         ensures { owned result ≡ rowid self.now }
     {
@@ -73,14 +73,15 @@ impl PackedRow {
         }
     }
 
-    /// Compares column by column. A row that ends early comes before the longer ones that begin with it.
+    /// Compares this row with the other one, column by column, where `order` says which columns descend. A row that
+    /// ends early comes before the longer ones that begin with it.
     pub fn cmp_entry(&self, order: Order, other: &Row) -> Ordering
         ensures { result ≡ entry_cmp order self.now other.now }
     {
         compare::with_row(order, self.record.as_slice(), other)
     }
 
-    /// Compares only as many columns as the key has.
+    /// Compares this row with the key, in only as many columns as the key has: a row that begins with the key is equal.
     pub fn cmp_prefix(&self, order: Order, key: &Row) -> Ordering
         ensures { result ≡ prefix_cmp order self.now key.now }
     {

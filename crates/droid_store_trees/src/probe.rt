@@ -23,7 +23,7 @@ pub enum Probe<'a> {
 }
 
 impl Probe<'_> {
-    /// Returns whether the row passes the test.
+    /// Returns whether the row passes this test. `Node::place` asks it of the rows on the way down its tree.
     pub(crate) fn passes(self, row: &PackedRow) -> bool
         ensures { result ≡ passes self.entry row.now }
     {

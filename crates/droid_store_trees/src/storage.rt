@@ -55,7 +55,7 @@ impl TreeStore {
         }
     }
 
-    /// Returns the trees as they are now: those of the transaction, if there is one that wrote, or those before it.
+    /// Returns the trees as the transaction sees them: those that it wrote, or the committed ones if it wrote nothing.
     fn current(&self) -> &Forest
         ensures { result.now ≡ current self.now }
     {
@@ -79,7 +79,8 @@ impl TreeStore {
         }
     }
 
-    /// Puts a cursor under this number, and keeps the others.
+    /// Puts a cursor under the number `at`, and keeps the others. After an error, which is out of memory, some numbers
+    /// below it may stand without a cursor, as before.
     fn set_cursor(
         cursors: &mut Vec<Option<Cursor>>,
         at: usize,
@@ -94,7 +95,8 @@ impl TreeStore {
         Ok(())
     }
 
-    /// Changes the rows of a tree within the transaction. If memory runs out, all is as before.
+    /// Changes the rows of a tree within the transaction. If memory runs out, all rows are as before. The cursors
+    /// may go either way: none may be used after a write.
     fn write(&mut self, tree: u32, edit: Edit<'_>) -> Result<(), StoreError>
         requires { Fits edit ((view self.old).shape tree) }
         ensures ok { OnOk result (SetsTree (view self.old) (view self.new) tree (edited edit.entry)) }
@@ -108,7 +110,8 @@ impl TreeStore {
         Ok(done?)
     }
 
-    /// Puts a tree in the place of another within the transaction. If memory runs out, all is as before.
+    /// Puts the tree `new` in the place of the one with the number `tree`, within the transaction. If memory runs out,
+    /// all trees are as before. The cursors may go either way.
     fn replace(&mut self, tree: u32, new: Tree) -> Result<(), StoreError>
         ensures ok { OnOk result (Replaces (current self.old) (current self.new) tree new) }
         ensures err { OnErr result (IsStill (view self.old) (view self.new)) }

@@ -39,7 +39,7 @@ pub(crate) struct Tree {
     pub ghost ordered: { ∥ IsShaped shape rows ∥₁ },
 }
 
-/// Returns whether the row at a place has this number.
+/// Returns whether there is a row at this place and its first column is this number.
 fn has_rowid_at(rows: &Entries, at: usize, id: ValueRef<'_>) -> bool
     ensures { IsTestAt (λ r. is_eq (value_cmp (rowid r) (owned id.entry))) rows.now at result }
 {
@@ -49,7 +49,7 @@ fn has_rowid_at(rows: &Entries, at: usize, id: ValueRef<'_>) -> bool
     }
 }
 
-/// Returns whether the row at a place is this entry of an index.
+/// Returns whether there is a row at this place and it is this entry of an index.
 fn has_entry_at(order: Order, rows: &Entries, at: usize, entry: &Row) -> bool
     ensures { IsTestAt (λ e. is_eq (entry_cmp order e entry.now)) rows.now at result }
 {
@@ -63,7 +63,7 @@ impl Tree {
     ghost use Rattle.droid_store_trees.specs.Shown.{heading};
     ghost use Rattle.droid_store_trees.specs.Edits.{edited, Fits};
 
-    /// Makes a tree without rows for this table or index.
+    /// Makes a tree without rows for this object, a table or an index. Fails only if memory runs out.
     pub(crate) fn new(alloc: Global, object: &Object<'_>) -> Result<Tree, AllocError>
         ensures heading { IfOk result (λ t. heading t ≡ (object.now.shape, object.now.reals, description object.now)) }
         ensures rows { IfOk result (λ t. t.rows ≡ []) }
@@ -91,7 +91,7 @@ impl Tree {
         })
     }
 
-    /// Copies the tree with another description.
+    /// Copies the tree with another object's description and REAL columns. Shape and rows stay; the rows are shared.
     pub(crate) fn described_as(
         &self,
         alloc: Global,
@@ -137,7 +137,8 @@ impl Tree {
         })
     }
 
-    /// Writes the table's row of this number into `row`, and returns whether there is one.
+    /// Writes the table's row of this number into `row`, and returns whether there is one. If there is none, nothing is
+    /// promised of `row`.
     pub(crate) fn get(&self, id: i64, row: &mut Row) -> Result<bool, AllocError>
         requires { self.now.shape ≡ Shape.Table }
         ensures { IfOk result (Finds self.now.rows id row.new) }
@@ -177,7 +178,7 @@ impl Tree {
         self.numbered_at(at, id)
     }
 
-    /// Returns the row at this position, if it has this rowid.
+    /// Returns the row at this position, if there is one and it has this rowid. `None` promises nothing.
     fn numbered_at(&self, at: usize, id: i64) -> Option<&PackedRow>
         requires { self.now.shape ≡ Shape.Table }
         ensures { IfSome result (λ found. Finds self.now.rows id found.now true) }
@@ -202,7 +203,7 @@ impl Tree {
         at.checked_sub(below)
     }
 
-    /// Adds a row to a table, or replaces the one of its number.
+    /// Adds a row to a table, or replaces the one of its number, which is the row's first column.
     fn put(&mut self, alloc: Global, new: &Row) -> Result<(), AllocError>
         requires table { self.old.shape ≡ Shape.Table }
         requires keyed { IsTrue (is_int (rowid new.now)) }
@@ -265,7 +266,7 @@ impl Tree {
         }
     }
 
-    /// Makes one of these four changes.
+    /// Makes the write, one of the four kinds. If memory runs out, the rows stay.
     pub(crate) fn apply(&mut self, alloc: Global, edit: Edit<'_>) -> Result<(), AllocError>
         requires { Fits edit self.old.shape }
         ensures ok { OnOk result (self.new.rows ≡ edited edit.entry self.old.rows) }

@@ -53,7 +53,7 @@ abbrev pub output_name : Option (List ℕ) → List ℕ
 output_name (Some path) = path
 output_name None = codes "standard output"
 
--- what it names; how the system's reasons are printed is not known
+-- the text of what a sentence names; None for the system's reasons, since how they are printed is not known
 abbrev pub detail_text : Detail → Option (List ℕ)
 detail_text details.Nothing = Some []
 detail_text (details.Number number) = Some (decimal number)
@@ -80,15 +80,15 @@ told (endings.Fault fault) = Fault (said fault.row) fault.at (about_text fault.a
 abbrev pub by : Said → List ℕ → Told
 by row about = Fault row None about (Some [])
 
--- by a row whose sentence names something
+-- an ending by a row whose sentence names something
 abbrev pub detailed : Said → List ℕ → Option (List ℕ) → Told
 detailed row about detail = Fault row None about detail
 
--- by a row whose name has a number behind it
+-- an ending by a row whose name has a number behind it
 abbrev pub told_at : Said → List ℕ → ℕ → Option (List ℕ) → Told
 told_at row about number detail = Fault row (Some number) about detail
 
--- by a row whose name and sentence have the same number
+-- an ending by a row whose name and sentence have the same number
 abbrev pub numbered : Said → List ℕ → ℕ → Told
 numbered row about number = told_at row about number (Some (decimal number))
 
@@ -109,7 +109,7 @@ abbrev pub fault_line : List ℕ → Option ℕ → List ℕ
 fault_line name (Some at) = codes "fault: " ++ (name ++ (codes " at " ++ (decimal at ++ 10 ∷ [])))
 fault_line name None = codes "fault: " ++ (name ++ 10 ∷ [])
 
--- the sentence behind it
+-- the sentence behind it, with its line feed; not known where the detail is not
 abbrev pub sentence_text : Said → List ℕ → Option (List ℕ) → Option (List ℕ)
 sentence_text row about (Some detail) = Some (about ++ (row.text ++ (detail ++ (row.rest ++ 10 ∷ []))))
 sentence_text row about None = None

@@ -10,7 +10,7 @@ use Rattle.droid_terminal.specs.declared.ending.folder.SeenFolder.TheVariants as
 use Rattle.droid_terminal.specs.declared.ending.output.SeenOutput.{SeenOutput}
 use Rattle.droid_terminal.specs.declared.ending.output.SeenOutput.TheVariants as outputs
 
--- a folder cannot be listed
+-- the ending for what was seen at the path of a folder that cannot be listed
 abbrev pub told_of_folder : SeenFolder → List ℕ → Told
 told_of_folder (folders.Unlisted kind) path = detailed table.folder_unlisted (of_path path) None
 told_of_folder folders.Listed path = by table.folder_unlisted_once (of_path path)
@@ -22,7 +22,7 @@ told_of_folder (folders.Unseen kind) path = detailed table.folder_unseen (of_pat
 abbrev pub IsNoFolder : List ℕ → Told → Type 0
 IsNoFolder path it = (seen : SeenFolder) × (it ≡ told_of_folder seen path)
 
--- a file cannot be created or replaced: by the fault of its folder, if that has one
+-- the row where a file cannot be created or replaced, by the fault of its folder, if that has one
 abbrev pub folder_row : Option ErrorKind → Said
 folder_row None = table.output_refused
 folder_row (Some kinds.NotFound) = table.output_without_folder

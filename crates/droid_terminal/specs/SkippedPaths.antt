@@ -45,6 +45,6 @@ holds_above held path = some_below (holds_front held path) (suc (length path))
 abbrev pub is_explained : List SkippedEntry → List ℕ → Bool
 is_explained skipped path = holds_above (has_path skipped) path
 
--- For proofs: whether a map has this path.
+-- For inner clauses and proofs: whether a map has this path.
 abbrev pub is_held : BTreeMap (Bor (List ℕ)) Bool → List ℕ → Bool
 is_held paths path = is_some (get_by (λ key. slice_cmp nat_cmp path key.now) paths)

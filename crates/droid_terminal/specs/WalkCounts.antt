@@ -18,7 +18,7 @@ use Rattle.droid_terminal.specs.declared.totals.Totals.{Totals}
 abbrev pub next : ℕ → ℕ
 next n = saturated (n + 1)
 
--- it was skipped as a symbolic link
+-- whether it was skipped as a symbolic link
 abbrev pub is_link : Skipped → Bool
 is_link reasons.Link = true
 is_link _ = false

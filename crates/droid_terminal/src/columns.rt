@@ -1,15 +1,16 @@
-//! Cuts texts to a number of columns. `width` and `columns_of` are those of the kit's `unicode_width`.
+//! Cuts texts to a number of columns of a terminal. `width` and `columns_of` are those of the kit's `unicode_width`: a
+//! wide character takes two columns, a combining mark none.
 
 ghost use Rattle.std.specs.Prelude.{◌≡◌, ◌<◌, ◌≤◌, length, take, drop, IsUtf8, MatchOption};
 ghost use Rattle.droid_terminal.specs.Cuts.{columns_of, IsEnd, IsFront};
 
 use unicode_width::UnicodeWidthStr;
 
-/// How many bytes a character has at most.
+/// How many bytes a character has at most. `IsFront` and `IsEnd` name the same 4; the prover ties them to it.
 const CHARACTER: usize = 4;
 
-/// Returns the longest end of a text that fits these columns, among its last four bytes for each column. To try longer
-/// ends, with characters of no width, would take time.
+/// Returns the longest end of a text that fits these columns, among its last four bytes for each column: empty if none
+/// fits. To try longer ends, with characters of no width, would take time.
 pub(crate) fn end_within(text: &str, columns: usize) -> &str
     ensures { IsEnd text.now columns result.now }
 {
@@ -22,7 +23,8 @@ pub(crate) fn end_within(text: &str, columns: usize) -> &str
     ""
 }
 
-/// Returns the text from this byte on, if a character begins there and the text fits the columns.
+/// Returns the text from its byte `from` on, or `None` if `from` is within a character or the rest does not fit the
+/// columns.
 fn end_from(text: &str, from: usize, columns: usize) -> Option<&str>
     ensures { from < length text.now
         → MatchOption result (IsUtf8 (drop from text.now) → columns < columns_of (drop from text.now)) (λ end.
@@ -37,7 +39,8 @@ fn end_from(text: &str, from: usize, columns: usize) -> Option<&str>
     Some(end)
 }
 
-/// Returns the longest beginning of a text that fits these columns, among its first four bytes for each column.
+/// Returns the longest beginning of a text that fits these columns, among its first four bytes for each column: empty
+/// if none fits.
 pub(crate) fn front_within(text: &str, columns: usize) -> &str
     ensures { IsFront text.now columns result.now }
 {
@@ -50,7 +53,7 @@ pub(crate) fn front_within(text: &str, columns: usize) -> &str
     ""
 }
 
-/// Returns the first `count` bytes of the text, if a character ends there and they fit the columns.
+/// Returns the first `count` bytes of the text, or `None` if they end within a character or do not fit the columns.
 fn front_of(text: &str, count: usize, columns: usize) -> Option<&str>
     ensures { count ≤ length text.now
         → MatchOption result (IsUtf8 (take count text.now) → columns < columns_of (take count text.now)) (λ front.

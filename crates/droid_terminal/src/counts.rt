@@ -1,4 +1,4 @@
-//! Counts what a walk did.
+//! Counts what a walk did, in numbers. The formats are counted in `totals.rt`.
 
 ghost use Rattle.std.specs.Prelude.{◌≡◌};
 ghost use Rattle.droid_terminal.specs.WalkCounts.{after_bytes, after_found, after_held, after_skipped, after_method};
@@ -8,7 +8,7 @@ use crate::estimate::Amount;
 use droid_frame::{Method, Reply};
 use droid_tree::Skipped;
 
-/// The counts of a walk.
+/// The counts of a walk. A count that reaches the greatest number of 64 bits stays there.
 #[derive(Clone, Copy)]
 pub(crate) struct Counts {
     /// Folders and files in the profile.
@@ -32,7 +32,7 @@ pub(crate) struct Counts {
 }
 
 impl Counts {
-    /// Starts with zeros.
+    /// Returns counts that are all zero, as before a walk.
     pub fn none() -> Counts
         ensures { result
             ≡ record {
@@ -60,7 +60,8 @@ impl Counts {
         }
     }
 
-    /// Returns how much is done.
+    /// Returns how much is done, for the line of progress: skipped entries, and bytes that the service already held,
+    /// are done too.
     pub fn done(self) -> Amount
         ensures { result ≡ done_in self }
     {
@@ -77,7 +78,7 @@ impl Counts {
         self.taken = self.taken.saturating_add(1);
     }
 
-    /// Counts an entry that was skipped for this reason.
+    /// Counts an entry that was skipped for this reason. A symbolic link counts in `links` as well.
     pub fn count_skipped(&mut self, why: Skipped)
         ensures { self.new ≡ after_skipped why self.old }
     {
@@ -87,21 +88,22 @@ impl Counts {
         }
     }
 
-    /// Counts bytes that were read.
+    /// Counts `count` bytes that were read from a file.
     pub fn count_bytes(&mut self, count: u32)
         ensures { self.new ≡ after_bytes count self.old }
     {
         self.bytes = self.bytes.saturating_add(u64::from(count));
     }
 
-    /// Counts bytes that the service already held.
+    /// Counts `count` bytes of a file that were not read, since the service already held them.
     pub fn count_held(&mut self, count: u64)
         ensures { self.new ≡ after_held count self.old }
     {
         self.held = self.held.saturating_add(count);
     }
 
-    /// Counts the formats of a file, by the reply that finished it.
+    /// Counts how a file was identified and whether its extension contradicts that, by the reply that finished it. Any
+    /// other reply than `Finished` changes nothing.
     pub fn count_found(&mut self, found: &Reply)
         ensures { self.new ≡ after_found found.now self.old }
     {
@@ -116,7 +118,7 @@ impl Counts {
         }
     }
 
-    /// Counts how a file was identified.
+    /// Counts one file in the number that belongs to this method.
     fn count_method(&mut self, method: Method)
         ensures { self.new ≡ after_method method self.old }
     {
@@ -127,7 +129,7 @@ impl Counts {
         }
     }
 
-    /// Counts a file whose extension contradicts its formats.
+    /// Counts a file if its extension contradicts its formats, as `mismatch` says.
     fn count_mismatch(&mut self, mismatch: bool)
         ensures { self.new ≡ after_mismatch mismatch self.old }
     {

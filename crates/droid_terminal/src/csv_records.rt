@@ -1,4 +1,4 @@
-//! Records of a CSV, with each field between double quotes.
+//! Writes the records of a CSV, with each field between double quotes, for this crate and the commands above it.
 
 ghost use Rattle.std.specs.Prelude.{◌≡◌, ◌<◌, ◌++◌, ℕ, List, [], IfOk, OnOk, length, map};
 ghost use Rattle.droid_export.specs.Csv.{line};
@@ -7,7 +7,7 @@ ghost use Rattle.droid_export.specs.CsvBuffer.{Holds};
 use csv::{QuoteStyle, Writer, WriterBuilder};
 use std::alloc::{AllocError, Global};
 
-/// Makes a writer with an empty buffer. Takes no memory.
+/// Makes a writer with an empty buffer, which puts each field between double quotes. Takes no memory.
 pub fn new_csv(alloc: Global) -> Writer<Vec<u8>>
     ensures { Holds result [] }
 {
@@ -16,7 +16,8 @@ pub fn new_csv(alloc: Global) -> Writer<Vec<u8>>
         .from_writer(Vec::new(alloc))
 }
 
-/// Writes a record of two or more fields. Fails only if the buffer can't grow.
+/// Appends a record of two or more fields and its line feed. Fails only if the buffer can't grow; nothing is promised
+/// of the writer then, and each caller drops it.
 pub fn write_record(writer: &mut Writer<Vec<u8>>, fields: &[&[u8]]) -> Result<(), AllocError>
     requires { 1 < length fields.now }
     ensures { OnOk result ((text : List ℕ) → Holds writer.old text
@@ -28,7 +29,7 @@ pub fn write_record(writer: &mut Writer<Vec<u8>>, fields: &[&[u8]]) -> Result<()
     }
 }
 
-/// Returns the buffer with all that was written. Fails only if the buffer can't grow.
+/// Ends the writing and returns the buffer with all that was written. Fails only if the buffer can't grow.
 pub fn finish_csv(writer: Writer<Vec<u8>>) -> Result<Vec<u8>, AllocError>
     ensures { IfOk result (λ bytes. (text : List ℕ) → Holds writer text → bytes.items ≡ text) }
 {

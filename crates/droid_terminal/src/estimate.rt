@@ -9,7 +9,8 @@ use droid_tree::Counted;
 use std::fmt;
 use std::fmt::{Display, Formatter, Write};
 
-/// When estimating the time left, each entry counts as this many extra bytes.
+/// When estimating the time left, each entry counts as this many extra bytes. `work_in` has the same number, which the
+/// prover ties to it, and docs/PROMISES.md. It is a guess: an entry without bytes takes time, too.
 const ENTRY: u64 = 16_384;
 
 /// A number of entries and bytes: of the whole tree, or done.
@@ -22,7 +23,7 @@ pub(crate) struct Amount {
 }
 
 impl Amount {
-    /// Returns zero.
+    /// Returns no entries and no bytes.
     pub fn none() -> Amount
         ensures { result ≡ record { entries = 0; bytes = 0 } }
     {
@@ -32,7 +33,7 @@ impl Amount {
         }
     }
 
-    /// Returns the whole amount of a tree that was counted.
+    /// Returns the whole amount of a tree that was counted: its folders, files and skipped entries, and its bytes.
     pub fn of(counted: Counted) -> Amount
         ensures { result ≡ amount_of counted }
     {
@@ -43,7 +44,7 @@ impl Amount {
         }
     }
 
-    /// Returns the work that this amount means, in bytes.
+    /// Returns the work that this amount means, in bytes: those of its files, and `ENTRY` for each entry.
     fn work(self) -> u64
         ensures { result ≡ work_in self }
     {
@@ -53,7 +54,7 @@ impl Amount {
     }
 }
 
-/// How far a walk is after some time.
+/// How far a walk is after some time. Prints as `Estimate` if the whole amount is known, and else as `SoFar`.
 #[derive(Clone, Copy)]
 pub(crate) struct Progress {
     /// The whole amount, if it is known.
@@ -88,7 +89,7 @@ impl Display for Progress {
     }
 }
 
-/// Progress without a known total.
+/// Progress without a known total. Prints the entries and bytes that are done, and the bytes per second.
 #[derive(Clone, Copy)]
 struct SoFar {
     done: Amount,
@@ -112,7 +113,8 @@ impl Display for SoFar {
     }
 }
 
-/// How far a walk of a known amount is after some time.
+/// How far a walk of a known amount is after some time. Prints what is done of all, both in the unit that fits all, the
+/// bytes per second and the time left.
 #[derive(Clone, Copy)]
 pub(crate) struct Estimate {
     /// The whole amount.
@@ -124,7 +126,8 @@ pub(crate) struct Estimate {
 }
 
 impl Estimate {
-    /// Estimates the time left from the rate so far.
+    /// Estimates the seconds left: the work left, by the work done per second so far. Unknown while that is 0. Both are
+    /// `work`, with `ENTRY` for each entry.
     #[tactic(auto, using(crate::proofs::Quotients::quotient_is))]
     fn time_left(self) -> TimeLeft
         ensures { result.0 ≡ time_left self }
@@ -155,7 +158,7 @@ impl Display for Estimate {
     }
 }
 
-/// Seconds left. Prints nothing if they are unknown.
+/// Seconds left. Prints `, .. left` behind an estimate, and nothing if they are unknown.
 #[derive(Clone, Copy)]
 struct TimeLeft(Option<u64>);
 

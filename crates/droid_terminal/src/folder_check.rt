@@ -1,5 +1,6 @@
 //! Checks whether a path is a folder that can be listed. What is there is up to the machine, so nothing here has a
-//! contract: `tests/program/folders/profile_arguments.py` tests it.
+//! contract: in `tests/program/folders`, `profile_arguments.py` has paths that are no folder, `unfinished_files.py` a
+//! folder that may not be listed, and `folder_calls.py` lets each of the calls fail.
 
 use droid_frame::Text;
 use std::alloc::{AllocError, Global};
@@ -7,10 +8,12 @@ use std::fs;
 use std::fs::Files;
 use std::io::{ErrorKind, Read};
 
-/// How many bytes the first names of a folder are read into. No name with its zero byte is longer than 256.
+/// How many bytes the first names of a folder are read into. No name with its zero byte is longer than 256, so a name
+/// fits; the number is tied to no other.
 const FIRST_NAMES: usize = 4_096;
 
-/// Returns whether there is a folder at this path that can be listed. Follows links.
+/// Returns whether there is a folder at this path that can be listed. Follows links. Says no where the path can't be
+/// looked at, for whatever reason. The commands ask before a walk; `told_no_folder` says why if it is none.
 pub fn is_folder<R: Files + AllocGlobal>(rt: &R, path: &str) -> bool {
     match fs::metadata(rt, path) {
         Ok(metadata) => metadata.is_dir() && why_unlisted(rt, path).is_none(),
@@ -34,7 +37,7 @@ pub(crate) fn why_unlisted<R: Files + AllocGlobal>(rt: &R, path: &str) -> Option
     }
 }
 
-/// Adds a `/` to a path, which makes the system follow a link.
+/// Returns a copy of a path with a `/` behind it, which makes the system follow a link. Fails only if memory runs out.
 fn with_slash(alloc: Global, path: &str) -> Result<Text, AllocError> {
     let mut text = String::from_str(alloc, path)?;
     text.push('/')?;

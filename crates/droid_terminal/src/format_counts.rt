@@ -1,4 +1,4 @@
-//! The most frequent formats.
+//! Picks the most frequent formats for the summary.
 
 ghost use Rattle.std.specs.Prelude.{◌≡◌, IfOk, map};
 ghost use Rattle.droid_terminal.specs.Frequencies.{AreMostFrequent, format_of};
@@ -7,7 +7,8 @@ use droid_frame::Text;
 use std::alloc::{AllocError, Global};
 use std::collections::BTreeMap;
 
-/// How many formats are reported at most.
+/// How many formats are reported at most. `AreMostFrequent` has the same 10, which the prover ties to it; the help of
+/// `profile` and `test_summary` of `profile_progress.py` have it too.
 const MOST_REPORTED: usize = 10;
 
 /// A format, and how many files have it.
@@ -19,7 +20,8 @@ pub(crate) struct FormatCount {
     pub count: u64,
 }
 
-/// Returns the most frequent formats first. Formats with equal counts are in the order of their identifiers.
+/// Returns the ten most frequent formats, or all if there are fewer: the most frequent first, and formats with equal
+/// counts in the order of their identifiers. Fails only if memory runs out.
 pub(crate) fn most_frequent(
     alloc: Global,
     formats: &BTreeMap<String, u64>,
@@ -31,7 +33,7 @@ pub(crate) fn most_frequent(
     Ok(reported)
 }
 
-/// Returns all formats in the order of their identifiers.
+/// Returns a copy of all formats in the order of their identifiers. Fails only if memory runs out.
 fn all_formats(
     alloc: Global,
     formats: &BTreeMap<String, u64>,
@@ -49,7 +51,9 @@ fn all_formats(
     Ok(all)
 }
 
-/// Sorts by count and keeps the first ten. Formats with equal counts stay in their order.
+/// Sorts by count, the greatest first, and keeps the first ten. Formats with equal counts stay in their order. The sort
+/// puts the least key first, so the key is what a count lacks to the greatest number (`rareness`). Fails only if the
+/// sort runs out of memory.
 fn first_of(all: Vec<FormatCount>) -> Result<Vec<FormatCount>, AllocError>
     ensures { IfOk result (λ reported. AreMostFrequent all.items reported.items) }
 {

@@ -2,8 +2,11 @@
 //! summary, a fault and its sentence), where the files that they write lie, and the CSV of what was skipped.
 //!
 //! The texts are proved: `output` of a `Display` is the exact text. That they are printed, when the clock is read, and
-//! what is seen at a path has no contract, since the kit promises nothing about it: `tests/program/folders` tests it
-//! (`profile_progress.py`, `profile_skipped.py`, `profile_arguments.py`).
+//! what is seen at a path has no contract, since the kit promises nothing about it. What is printed, and how often the
+//! clock is read, is tested by `profile_progress.py`, `profile_skipped.py` and `profile_arguments.py` of
+//! `tests/program/folders`; what is seen in the place of a folder by `profile_arguments.py` and `unfinished_files.py`;
+//! in that of an output by `profile_output.py` (the status and the fault's name), and by the cases
+//! `folder_in_place_of_the_output` and `missing_folder_of_the_output` of `tests/program`.
 #![tactic(auto)]
 
 mod columns;

@@ -1,4 +1,4 @@
-//! A line of progress, cut to the columns there are.
+//! A line of progress, cut to the columns there are, and the codes around it on a terminal.
 
 ghost use Rattle.std.specs.Prelude.{◌≡◌, ◌≤◌, IfOk, Some};
 ghost use Rattle.droid_terminal.specs.Cuts.{columns_of};
@@ -16,17 +16,21 @@ use std::fmt;
 use std::fmt::{Display, Formatter, Write};
 use unicode_width::UnicodeWidthStr;
 
-/// How many columns stand between how far the walk is and the path.
+/// How many columns stand between how far the walk is and the path: those of the `: ` in `joined`. `IsLine` has the
+/// same 2.
 const BETWEEN: usize = 2;
 
-/// How wide a line of progress is at most, in columns.
+/// How wide a line of progress is at most where it is not on a terminal, in columns. `columns_for` of `specs/` has it
+/// too, which the prover ties to it, and docs/PROMISES.md.
 const LINE_COLUMNS: usize = 160;
 
 /// How wide it is at most on a terminal: one column less than 80. A narrower terminal cuts the line and does not wrap
-/// it.
+/// it. `columns_for` of `specs/` has it too, which the prover ties to it, docs/PROMISES.md, and `test_terminal` of
+/// `profile_progress.py`.
 const TERMINAL_COLUMNS: usize = 79;
 
-/// Returns how far the walk is and the end of the path, within these columns.
+/// Returns how far the walk is and the end of the path that it is at, within these columns: the path as `Shown` prints
+/// it gets the room that is left. Fails only if memory runs out.
 pub(crate) fn line_of(
     alloc: Global,
     progress: Progress,
@@ -45,8 +49,8 @@ pub(crate) fn line_of(
     Ok(line)
 }
 
-/// Joins how far the walk is and the end of the path. Returns the first alone if the end is empty or if both do not fit
-/// the columns.
+/// Joins how far the walk is and the end of the path, with `: ` between. Returns the first alone if the end is empty or
+/// if both do not fit the columns. Fails only if memory runs out.
 #[tactic(auto, unfolding(crate::specs::Lines::joined_text))]
 fn joined(alloc: Global, far: &str, end: &str, columns: usize) -> Result<Text, AllocError>
     ensures { IfOk result (λ line. line ≡ joined_text columns far.now end.now) }
@@ -61,7 +65,9 @@ fn joined(alloc: Global, far: &str, end: &str, columns: usize) -> Result<Text, A
     Ok(Text::from(line))
 }
 
-/// A line of progress as it is written. On a terminal it replaces the line before and is cut at the terminal's width.
+/// A line of progress as it is written. On a terminal it replaces the line before and is cut at the terminal's width:
+/// the codes go to the line's beginning, turn wrapping off, delete the rest of the line, and turn wrapping on again.
+/// Elsewhere it ends with a line feed. A quiet reporter prints none.
 #[derive(Clone, Copy)]
 pub(crate) struct Framed<'a> {
     /// How much is printed.
@@ -83,7 +89,7 @@ impl Display for Framed<'_> {
     }
 }
 
-/// Returns how wide a line of progress is at most, in columns.
+/// Returns how wide a line of progress is at most, in columns. (A quiet reporter prints none.)
 pub(crate) fn columns_for(verbosity: Verbosity) -> usize
     ensures { result ≡ columns_for verbosity }
 {

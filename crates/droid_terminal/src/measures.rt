@@ -1,4 +1,5 @@
-//! Prints numbers of bytes and of seconds.
+//! Prints numbers of bytes and of seconds in a fitting unit, rounded down. `specs/Units.antt` has the same limits of
+//! the units, which the prover compares.
 
 ghost use Rattle.std.specs.Prelude.{◌≡◌, ◌<◌, Some};
 ghost use Rattle.droid_terminal.specs.Units.{rate_of, span_text, speed_text, unit_bytes, unit_name};
@@ -14,7 +15,8 @@ pub(crate) struct Unit {
     pub name: &'static str,
 }
 
-/// Returns the unit for a number of bytes: the first in which it has at most four digits, or GB.
+/// Returns the unit for a number of bytes: the first in which it has at most four digits, or GB. A kB is 1,000 bytes.
+/// Callers divide by the unit's bytes, so these are never 0 (`some`).
 #[tactic(auto, unfolding(crate::specs::Units::unit_bytes, crate::specs::Units::unit_name))]
 pub(crate) fn unit_for(bytes: u64) -> Unit
     ensures some { 0 < result.bytes }
@@ -30,14 +32,15 @@ pub(crate) fn unit_for(bytes: u64) -> Unit
     Unit { bytes, name }
 }
 
-/// Returns how many per second, given a number and the milliseconds it took.
+/// Returns how many per second, given a number and the milliseconds it took. Less than one millisecond counts as one. A
+/// number whose thousandfold does not fit 64 bits gives too little.
 pub(crate) fn rate(count: u64, milliseconds: u64) -> u64
     ensures { result ≡ rate_of count milliseconds }
 {
     count.saturating_mul(1_000) / milliseconds.max(1)
 }
 
-/// A number of bytes per second.
+/// A number of bytes per second. Prints in the unit that fits it, as `12 MB/s`.
 #[derive(Clone, Copy)]
 pub(crate) struct Speed(pub u64);
 
@@ -51,7 +54,7 @@ impl Display for Speed {
     }
 }
 
-/// A number of seconds. Prints as seconds, as minutes, or as hours and minutes.
+/// A number of seconds. Prints as seconds below 100, as minutes below 100 minutes, or as hours and minutes.
 #[derive(Clone, Copy)]
 pub(crate) struct Span(pub u64);
 

@@ -1,4 +1,4 @@
-//! Prints paths, and why they were skipped.
+//! Prints paths, and the reasons why they were skipped. The bytes of a path that is no plain text are in `escapes.rt`.
 
 ghost use Rattle.std.specs.Prelude.{◌≡◌, chars, Some, None, if◌then◌else◌, option_map};
 ghost use Rattle.std.specs.Char.{is_control};
@@ -27,7 +27,7 @@ impl Display for Shown<'_> {
     }
 }
 
-/// Returns the path as text, if it is UTF-8 without control characters.
+/// Returns the path as text, or `None` if it is not UTF-8 or has a control character.
 fn plain_text(path: &[u8]) -> Option<&str>
     ensures { option_map (λ text. text.now) result ≡ (if is_plain path.now then Some path.now else None) }
 {
@@ -40,14 +40,14 @@ fn plain_text(path: &[u8]) -> Option<&str>
     Some(text)
 }
 
-/// Returns whether a text has a control character.
+/// Returns whether a text has a control character, which could change what a terminal shows.
 fn has_control(text: &str) -> bool
     ensures { result ≡ list_any is_control (chars text.now) }
 {
     text.chars().any(|letter| letter.is_control())
 }
 
-/// The line for a skipped entry: its path, and why.
+/// The line on standard error for a skipped entry: its path, and why.
 #[derive(Clone, Copy)]
 pub(crate) struct SkippedLine<'a> {
     /// The path, which may be invalid UTF-8.
@@ -64,7 +64,9 @@ impl Display for SkippedLine<'_> {
     }
 }
 
-/// Returns why an entry was skipped, in words.
+/// Returns why an entry was skipped, in words: those of the line on standard error and of the CSV. `cause_text` has the
+/// same words, which the prover compares, and tests have most of them. The 4,095 bytes are one less than the 4,096 of
+/// `is_too_long` in `entries.rt` of `droid_disk`; the helps have them too.
 #[tactic(auto, unfolding(crate::specs::Paths::cause_text))]
 pub fn cause(why: Skipped) -> &'static str
     ensures { result.now ≡ cause_text why }

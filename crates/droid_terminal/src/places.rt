@@ -1,4 +1,5 @@
-//! Where files and folders lie.
+//! Where files and folders lie: the folder and the name of a path, and whether two places are one or one is in the
+//! other.
 
 ghost use Rattle.std.specs.Prelude.{◌≡◌, ◌↔◌, IsTrue, Ok, Some, [], false, true};
 ghost use Rattle.droid_terminal.specs.Places.{IsAtOrBelow, LiesIn, folder_by, folder_of, name_of};
@@ -9,7 +10,8 @@ use std::fs;
 use std::fs::Files;
 use std::io::ErrorKind;
 
-/// Returns whether a place is a folder or lies in it. Both are absolute paths without links.
+/// Returns whether a place is a folder or lies in it. Both are absolute paths without links, which the caller makes by
+/// `absolute_path`; the clause speaks of the two texts alone.
 pub fn lies_in(place: &str, folder: &str) -> bool
     ensures { IsTrue result ↔ LiesIn place.now folder.now }
 {
@@ -19,7 +21,7 @@ pub fn lies_in(place: &str, folder: &str) -> bool
     is_at_or_below(place.as_bytes(), folder.as_bytes())
 }
 
-/// Returns whether a path is this folder, or begins with it and a `/`.
+/// Returns whether a path is this folder, or begins with it and a `/`. `/letters2` is not below `/letters`.
 fn is_at_or_below(path: &[u8], folder: &[u8]) -> bool
     ensures { IsTrue result ↔ IsAtOrBelow path.now folder.now }
 {
@@ -32,8 +34,9 @@ fn is_at_or_below(path: &[u8], folder: &[u8]) -> bool
     }
 }
 
-/// Returns the absolute path of a folder, without links. If it has none that is UTF-8, returns the path as given. It is
-/// up to the machine, so this has no contract: `tests/program/folders` tests what asks for it.
+/// Returns the absolute path of a folder, without links. If it has none that is UTF-8, returns the path as given. Fails
+/// only if memory runs out. It is up to the machine, so this has no contract: `test_same_path` of `profile_output.py`
+/// in `tests/program/folders`, and `submit_outputs.py` of `tests/program/submissions` (a file in the folder), test it.
 pub fn absolute_path<R: Files + AllocGlobal>(rt: &R, path: &str) -> Result<Text, AllocError> {
     match fs::canonicalize(rt, path) {
         Ok(absolute) => Ok(Text::from(absolute.into_string())),
@@ -42,7 +45,8 @@ pub fn absolute_path<R: Files + AllocGlobal>(rt: &R, path: &str) -> Result<Text,
     }
 }
 
-/// Returns the path of the folder that a file lies in.
+/// Returns the path of the folder that a file lies in: what stands before the last `/`, `/` if nothing does, and `.`
+/// for a name alone.
 pub fn folder_of(path: &str) -> &str
     ensures { result.now ≡ folder_of path.now }
 {
@@ -52,14 +56,14 @@ pub fn folder_of(path: &str) -> &str
     }
 }
 
-/// Returns the folder that stands before a `/`: the root, if nothing does.
+/// Returns the folder whose path stands before the last `/` of a path: the root, if nothing does.
 fn folder_named(folder: &str) -> &str
     ensures { result.now ≡ folder_by (Some (folder.now, [])) }
 {
     if folder.is_empty() { "/" } else { folder }
 }
 
-/// Returns the last name of a path.
+/// Returns the last name of a path: what stands behind its last `/`, which may be empty, or all if it has none.
 pub fn name_of(path: &str) -> &str
     ensures { result.now ≡ name_of path.now }
 {
@@ -70,7 +74,8 @@ pub fn name_of(path: &str) -> &str
 }
 
 /// Returns whether two files have the same path, by their names and by the absolute paths of their folders. These are
-/// up to the machine, so that only the two plain cases have clauses.
+/// up to the machine, so that only the two plain cases have clauses; `test_same_path` of `profile_output.py` in
+/// `tests/program/folders` has the third. Fails only if memory runs out.
 pub fn is_same_place<R: Files + AllocGlobal>(
     rt: &R,
     first: &str,

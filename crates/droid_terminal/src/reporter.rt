@@ -1,5 +1,6 @@
-//! Prints on standard error what a walk does. Proved is what is counted and when a line is due; that it is printed is
-//! tested by `tests/program/folders/profile_progress.py`.
+//! Prints on standard error what a walk does. Proved is what is counted, and that a line is noted as printed only when
+//! it is due. That lines are printed, and which, has no clause: in `tests/program/folders`, `profile_progress.py` tests
+//! it, `profile_arguments.py` with `--quiet`. That the whole amount and the time left are printed has no test.
 
 ghost use Rattle.std.specs.Prelude.{◌≡◌, Some};
 ghost use Rattle.droid_terminal.specs.Estimates.{amount_of};
@@ -33,13 +34,16 @@ pub struct Reporter<'a, R> {
     reported: u64,
     /// At which millisecond the clock was read last.
     looked: u64,
-    /// How many calls passed without a look at the clock before that, and how many may still pass now.
+    /// How many calls were to pass without a look at the clock, as that last look settled.
     calls: u32,
+    /// How many of these are left.
     unseen: u32,
 }
 
 impl<'a, R: Eprint + Clock> Reporter<'a, R> {
-    /// Makes a reporter that has printed nothing and does not know how large the tree is.
+    /// Makes a reporter that has printed nothing and does not know how large the tree is. Reads the clock once. Without
+    /// a contract: all that is proved is what each call adds. `test_summary` of `profile_progress.py` holds that it
+    /// counts from 0.
     pub fn new(runtime: &'a R, alloc: Global, verbosity: Verbosity) -> Reporter<'a, R> {
         Reporter {
             runtime,
@@ -55,7 +59,8 @@ impl<'a, R: Eprint + Clock> Reporter<'a, R> {
         }
     }
 
-    /// Sets the size of the tree.
+    /// Sets the size of the tree, so that lines of progress have the whole amount and the time left. The caller counts
+    /// the tree before the walk.
     pub fn expect(&mut self, counted: Counted)
         ensures all { self.new.all ≡ Some (amount_of counted) }
         ensures totals { self.new.totals ≡ self.old.totals }
@@ -63,7 +68,8 @@ impl<'a, R: Eprint + Clock> Reporter<'a, R> {
         self.all = Some(Amount::of(counted));
     }
 
-    /// Prints a line of progress if one is due. While calls come fast, most of them don't read the clock.
+    /// Prints a line of progress with this path if one is due. While calls come fast, most of them don't read the
+    /// clock: no clause holds `unseen`, `test_clock` of `profile_progress.py` does. Prints none where the clock fails.
     fn print_progress(&mut self, path: &str)
         ensures totals { self.new.totals ≡ self.old.totals }
         ensures reported { IsReported self.old.verbosity self.old.reported self.new.verbosity self.new.reported }
@@ -85,7 +91,8 @@ impl<'a, R: Eprint + Clock> Reporter<'a, R> {
         }
     }
 
-    /// Notes that the clock was read at this millisecond, and how many calls may pass until it is read again.
+    /// Notes that the clock was read at the millisecond `now`, and how many calls may pass until it is read again. No
+    /// clause holds what it sets in `calls` and `looked`; `test_clock` of `profile_progress.py` counts the readings.
     fn see(&mut self, now: u64)
         ensures totals { self.new.totals ≡ self.old.totals }
         ensures reported { (self.new.verbosity ≡ self.old.verbosity) × (self.new.reported ≡ self.old.reported) }
@@ -96,14 +103,16 @@ impl<'a, R: Eprint + Clock> Reporter<'a, R> {
         self.looked = now;
     }
 
-    /// Returns the milliseconds since the walk began.
+    /// Returns the milliseconds since the walk began, 0 where the clock went back. `None` if the clock failed then or
+    /// fails now.
     fn milliseconds(&self) -> Option<u64> {
         let begun = self.begun?;
         let now = Instant::now(self.runtime).ok()?;
         u64::try_from(now.saturating_duration_since(begun).as_millis()).ok()
     }
 
-    /// Prints a line of progress. If there is no memory for it, prints nothing.
+    /// Prints a line of progress. If there is no memory for it, prints nothing; a fault of standard error is ignored,
+    /// as wherever a reporter prints.
     fn print_line(&self, path: &str, milliseconds: u64) {
         let progress = Progress {
             all: self.all,
@@ -118,14 +127,16 @@ impl<'a, R: Eprint + Clock> Reporter<'a, R> {
         let _ = eprint!(self.runtime; "{}", Framed { verbosity, line });
     }
 
-    /// Removes the line of progress from a terminal.
+    /// Removes the line of progress from a terminal, so that another line can take its place. Elsewhere does nothing. A
+    /// quiet reporter counts as elsewhere.
     pub fn clear(&self) {
         if self.verbosity == Verbosity::Terminal {
             let _ = eprint!(self.runtime; "\r\x1b[K");
         }
     }
 
-    /// Prints the summary.
+    /// Removes the line of progress, and prints the summary: how many entries were skipped, how many of them are links,
+    /// and the table. A quiet reporter prints no table, and nothing if none was skipped.
     pub fn end(self) {
         self.clear();
         let skipped = CountLine {
@@ -142,7 +153,8 @@ impl<'a, R: Eprint + Clock> Reporter<'a, R> {
         }
     }
 
-    /// Prints the counts, and how long the walk took.
+    /// Prints the counts with the most frequent formats, and how many whole seconds the walk took, unless the clock
+    /// fails. Says that the formats are unknown if not all were counted or memory runs out; no test has either.
     fn print_table(&self) {
         let took = Took(self.milliseconds().map(|milliseconds| milliseconds / 1_000));
         let counts = self.totals.counts;
@@ -159,6 +171,8 @@ impl<'a, R: Eprint + Clock> Reporter<'a, R> {
     }
 }
 
+// `Watcher` says when each is called; the `ghost` line holds what is counted. All but `skipped` may print progress;
+// `skipped` prints the entry at once, also a quiet reporter's.
 impl<R: Eprint + Clock> Watcher for Reporter<'_, R> {
     ghost hears = { λ old heard new. ReporterHears old heard new };
 

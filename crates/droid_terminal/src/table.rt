@@ -1,4 +1,5 @@
-//! The table of the summary.
+//! The lines of the summary: the table of counts and formats, and those for symbolic links and seconds. The words are
+//! those of `specs/Tables.antt`, which the prover compares.
 
 ghost use Rattle.std.specs.Prelude.{Some, option_map, flat_map};
 ghost use Rattle.std.specs.Fmt.{WritesOnOk};
@@ -10,7 +11,7 @@ use crate::format_counts::FormatCount;
 use std::fmt;
 use std::fmt::{Display, Formatter, Write};
 
-/// A name and a number, in a line.
+/// A name and a number. Prints as a line, with `: ` between.
 #[derive(Clone, Copy)]
 pub(crate) struct CountLine<'a> {
     /// What is counted.
@@ -28,7 +29,7 @@ impl Display for CountLine<'_> {
     }
 }
 
-/// The table of the summary.
+/// The table of the summary: a line for each count, in a fixed order, with the formats before the bytes.
 #[derive(Clone, Copy)]
 pub(crate) struct Table<'a> {
     /// The numbers.
@@ -76,7 +77,7 @@ impl Display for Table<'_> {
     }
 }
 
-/// The most frequent formats, or that not all could be counted.
+/// The most frequent formats. Prints a line for each, or for `None` that not all could be counted.
 #[derive(Clone, Copy)]
 struct Formats<'a>(Option<&'a [FormatCount]>);
 
@@ -92,7 +93,7 @@ impl Display for Formats<'_> {
     }
 }
 
-/// Writes a line for each of these formats.
+/// Writes a line for each of these formats, in their order. Fails only if the formatter does.
 fn write_formats<W: Write>(f: &mut Formatter<W>, reported: &[FormatCount]) -> fmt::Result
     ensures { WritesOnOk W.write_str_gives f.old result (flat_map format_line reported.now) f.new }
 {
@@ -102,6 +103,7 @@ fn write_formats<W: Write>(f: &mut Formatter<W>, reported: &[FormatCount]) -> fm
     Ok(())
 }
 
+// Prints `format `, the identifier and the number of its files, as a line.
 impl Display for FormatCount {
     ghost output = { λ format. Some (format_line format) };
 

@@ -1,4 +1,4 @@
-//! Counts entries and formats of a walk.
+//! The totals of a walk: its counts, and how many files have each format.
 
 ghost use Rattle.std.specs.Prelude.{◌≡◌, [], ◌∷◌, OnOk};
 ghost use Rattle.droid_terminal.specs.WalkCounts.{after_found, puids_of, CountsFormats, HasFew, KeepsFormats};
@@ -8,7 +8,8 @@ use droid_frame::{Reply, Text, Texts};
 use std::alloc::{AllocError, Global};
 use std::collections::BTreeMap;
 
-/// How many formats are counted at most: a registry has no more.
+/// How many formats are counted at most: a registry has no more. `HasFew` has the same number, which the prover ties to
+/// it. Only this line ties it to the limit of `droid_pronom` (`FORMATS_LIMIT`) and to `PUIDS_LIMIT` of `droid_frame`.
 const FORMATS_LIMIT: usize = 4_096;
 
 /// The totals of a walk.
@@ -24,7 +25,8 @@ pub(crate) struct Totals {
 }
 
 impl Totals {
-    /// Starts with zeros, and with no formats. Without a contract: all that is proved is what a file adds.
+    /// Starts with zeros, and with no formats. Without a contract: all that is proved is what a file adds, and
+    /// `test_summary` of `profile_progress.py` in `tests/program/folders` holds that it counts from 0.
     pub fn new(alloc: Global) -> Totals {
         Totals {
             alloc,
@@ -34,7 +36,8 @@ impl Totals {
         }
     }
 
-    /// Counts the formats of a file, by the reply that finished it.
+    /// Counts how a file was identified and its formats, by the reply that finished it. Any other reply than `Finished`
+    /// changes nothing. Where a format cannot be counted, `has_all_formats` becomes false for good.
     pub fn count_found(&mut self, found: &Reply)
         ensures counts { self.new.counts ≡ after_found found.now self.old.counts }
         ensures formats { KeepsFormats (puids_of found.now) self.old self.new }
@@ -50,7 +53,8 @@ impl Totals {
     }
 }
 
-/// Counts each of these formats once. If memory runs out, or there are too many, only some are counted.
+/// Counts each of these formats once. Fails if memory runs out or there are too many: only some are counted then, and
+/// the caller notes that.
 fn count_formats(
     alloc: Global,
     formats: &mut BTreeMap<String, u64>,

@@ -150,6 +150,8 @@ pub record CountsItems (path : List ℕ) (entries : List FolderEntry) (before af
   pub adds : Adds items before after
   pub pending : paths_of waiting_after ≡ paths_of waiting ++ flat_map (path_of_item path) items
 
+-- the folder was listed, or could not be: what is in it adds this much to the counts, and the paths of its subfolders
+-- wait to be visited
 pub record CountsFolder {T : Type 0} (observes : T → Observation → T → Type 0) (path : List ℕ) (before after : Counted)
     (tree tree_after : T) (waiting waiting_after : List PendingFolder) : Type 0 where
   pub listing : CountedFolder

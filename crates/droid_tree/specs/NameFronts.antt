@@ -1,4 +1,4 @@
--- For proofs: the front of a name as a number.
+-- For inner clauses and proofs: the front of a name as a number.
 use Rattle.std.specs.Prelude.{◌≡◌, ℕ, zero, suc, ◌+◌, ◌*◌, ◌<◌, List, [], ◌∷◌, slice_index}
 
 -- the weight of a byte that n bytes follow

@@ -30,6 +30,7 @@ pub enum WalkFault {
     Bytes,
 }
 
+// A call that runs out of memory ends the walk with `Memory`, by `?` alone.
 impl From<AllocError> for WalkFault {
     ghost use Rattle.droid_tree.specs.declared.fault.WalkFault.TheVariants.{Memory};
 

@@ -1,4 +1,4 @@
-//! Reads a folder's entries in order.
+//! Reads a folder's entries, sorted by name, and an entry's name as text.
 
 ghost use Rattle.std.specs.Prelude.{◌≡◌, IfErr, IfOk, MatchOption, MatchResult, IsUtf8};
 ghost use Rattle.droid_tree.specs.Listings.{ListsInOrder};
@@ -22,7 +22,8 @@ pub struct Listing {
     pub repeated: Vec<FolderEntry>,
 }
 
-/// Reads the entries of a folder, sorted by name. The inner error says that the folder is unreadable.
+/// Reads the entries of a folder, sorted by name. The inner error says that the folder is unreadable; the outer one is
+/// always `Memory`, and nothing is promised of the tree after it.
 pub fn read_folder<T: Tree>(
     alloc: Global,
     tree: &mut T,
@@ -45,7 +46,7 @@ pub fn read_folder<T: Tree>(
     }
 }
 
-/// Returns the name as text, if it is valid UTF-8.
+/// Returns the name as text, or `None` if it is not valid UTF-8: such an entry is skipped.
 pub fn name_of(entry: &FolderEntry) -> Option<&str>
     ensures { MatchOption result (¬ (IsUtf8 entry.now.name)) (λ text.
         (text.now ≡ entry.now.name) × IsUtf8 entry.now.name) }

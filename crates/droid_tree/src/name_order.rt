@@ -1,4 +1,4 @@
-//! The order of names.
+//! Compares names by their bytes, the first eight at once where both have them.
 
 ghost use Rattle.std.specs.Prelude.{◌≡◌, IfSome};
 ghost use Rattle.std.specs.Ordering.{nat_cmp};
@@ -27,7 +27,8 @@ pub fn order_of_names(first: &[u8], second: &[u8]) -> Ordering
     }
 }
 
-/// Returns the first eight bytes of a name as a number, or `None` if it is shorter.
+/// Returns the first eight bytes of a name as a number, the first byte its highest, or `None` if it is shorter. No
+/// clause asks for `Some`: `None` only makes `order_of_names` slower.
 fn front_of(name: &[u8]) -> Option<u64>
     ensures { IfSome result (λ front. IsFront name.now front) }
 {

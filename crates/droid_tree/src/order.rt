@@ -12,7 +12,8 @@ use crate::name_order::order_of_names;
 use std::alloc::{AllocError, Global};
 use std::cmp::Ordering;
 
-/// Sorts entries by the bytes of their names, and sets apart those that have the name of another one.
+/// Sorts entries by the bytes of their names, and sets apart those that have the name of another one. One entry of each
+/// name stays in `entries`; which one, no clause says. Fails only if out of memory.
 pub(crate) fn in_order(alloc: Global, entries: Vec<FolderEntry>) -> Result<Listing, AllocError>
     ensures { IfOk result (λ listing. Splits entries.items listing.entries.items listing.repeated.items) }
 {
@@ -37,7 +38,8 @@ fn split(alloc: Global, sorted: Vec<FolderEntry>) -> Result<Listing, AllocError>
     Ok(listing)
 }
 
-/// Appends the next of sorted entries: to the repeated ones if the last entry has its name.
+/// Appends the next of sorted entries: to the repeated ones if the last of `entries` has its name. After an error
+/// nothing is promised of `listing`: `split` drops it.
 fn put(listing: &mut Listing, entry: FolderEntry) -> Result<(), AllocError>
     ensures { OnOk result ((all : List FolderEntry) → Splits all listing.old.entries.items listing.old.repeated.items
         → IsBeforeNone all entry
@@ -51,7 +53,8 @@ fn put(listing: &mut Listing, entry: FolderEntry) -> Result<(), AllocError>
     Ok(())
 }
 
-/// Returns whether the name of the last entry comes before this one's, or there is no entry.
+/// Returns whether the name of the last of `entries` comes before that of `entry`, or `entries` is empty. Of sorted
+/// entries, the other case is that both have one name.
 fn comes_next(entries: &[FolderEntry], entry: &FolderEntry) -> bool
     ensures next { IsTrue result → (last : FolderEntry) → slice_get entries.now (length entries.now - 1) ≡ Some last
         → IsBefore last.name entry.now.name }
@@ -65,7 +68,7 @@ fn comes_next(entries: &[FolderEntry], entry: &FolderEntry) -> bool
     }
 }
 
-/// Returns whether the first name comes before the second.
+/// Returns whether the first entry's name comes before the second's. Equal names do not.
 fn is_before(first: &FolderEntry, second: &FolderEntry) -> bool
     ensures { IsTrue result ↔ IsBefore first.now.name second.now.name }
 {

@@ -1,4 +1,4 @@
-//! Folders that a walk still has to visit.
+//! Folders that a walk still has to visit: their paths, their order, and how many there can be.
 
 ghost use Rattle.std.specs.Prelude.{◌≡◌, ◌++◌, [], ◌∷◌, IfOk, OnOk};
 ghost use Rattle.droid_tree.specs.Paths.{below, top};
@@ -7,7 +7,8 @@ use droid_frame::Text;
 use std::alloc::{AllocError, Global};
 use std::collections::VecDeque;
 
-/// How many folders and files a profile can have.
+/// How many folders and files a profile can have. `droid_core` promises to serve no more (`limits.nodes ≤ 100000` of
+/// its services), and `droid_cmd_serve` begins with as many; nothing but these lines ties the numbers.
 pub const NODE_LIMIT: u64 = 100_000;
 
 /// How many turns a walk makes at most: one for each folder of a full profile, one for the top, and one that finds no
@@ -32,7 +33,7 @@ impl Drop for PendingFolder {
     }
 }
 
-/// Returns the path of an entry of this folder.
+/// Returns the path of the entry `name` of the folder at `path`: both, joined by `/`. Fails only if out of memory.
 pub fn path_below(alloc: Global, path: &str, name: &str) -> Result<Text, AllocError>
     ensures { IfOk result (λ text. text ≡ below path.now name.now) }
 {
@@ -40,7 +41,8 @@ pub fn path_below(alloc: Global, path: &str, name: &str) -> Result<Text, AllocEr
     Ok(Text::from(joined))
 }
 
-/// Appends a folder to those that the walk still has to visit.
+/// Appends a folder to those that the walk still has to visit: the last one is visited last. `number` is its number in
+/// the profile. After an error nothing is promised of `pending`: callers end the walk.
 pub fn add_pending(
     pending: &mut VecDeque<PendingFolder>,
     path: Text,
@@ -52,7 +54,7 @@ pub fn add_pending(
     Ok(())
 }
 
-/// Returns the list of pending folders with the top alone.
+/// Returns the pending folders with which each walk begins: the top alone, with an empty path and the number 0.
 pub fn only_the_top(alloc: Global) -> Result<VecDeque<PendingFolder>, AllocError>
     ensures { IfOk result (λ pending. pending.items ≡ top ∷ []) }
 {

@@ -12,7 +12,8 @@ use crate::skip_reason::{Skipped, unread};
 use crate::tree::Tree;
 use std::alloc::Global;
 
-/// Returns the offset at which this piece begins, at most the file's length.
+/// Returns the offset in bytes at which the piece `index` begins, counted from 0 in a file of `size` bytes, or `size`
+/// if the file ends before. A piece size of 0 gives 0.
 pub fn begin_of(piece_size: u32, size: u64, index: u32) -> u64
     ensures { result ≡ begin_of piece_size size index }
 {
@@ -20,7 +21,8 @@ pub fn begin_of(piece_size: u32, size: u64, index: u32) -> u64
     before.min(size)
 }
 
-/// Returns the length of the next piece: the piece size, or fewer bytes if the file ends before.
+/// Returns the length of the piece that begins at offset `from` of a file of `size` bytes: the piece size, or fewer
+/// bytes if the file ends before. From the end on that is 0.
 pub fn next_len(size: u64, from: u64, piece_size: u32) -> u32
     ensures { result ≡ min piece_size (size - from) }
 {
@@ -31,8 +33,9 @@ pub fn next_len(size: u64, from: u64, piece_size: u32) -> u32
     }
 }
 
-/// Appends `wanted` bytes of a file, starting at offset `from`. `entry` is the file as its folder listed it. The inner
-/// error says that the file is unreadable, that it ends before, or that it is not as it was listed.
+/// Appends `wanted` bytes of a file to `body`, starting at offset `from`. `entry` is the file as its folder listed it.
+/// The inner error says that the file is unreadable, that it ends before, or that it is not as it was listed; the outer
+/// one is always `Memory`. After either nothing is promised of `body`.
 pub fn read_piece<T: Tree>(
     tree: &mut T,
     path: &str,
@@ -56,7 +59,7 @@ pub fn read_piece<T: Tree>(
     }
 }
 
-/// Checks that all bytes came. If not, the file is shorter than it was listed.
+/// Checks that `count` bytes came, as many as were wanted. If not, the file is shorter than it was listed: `Changed`.
 fn all_came(count: usize, wanted: usize) -> Result<(), Skipped>
     ensures { MatchResult result (λ _. count ≡ wanted) (λ why. (why ≡ reasons.Changed) × (count ≢ wanted)) }
 {
@@ -67,9 +70,10 @@ fn all_came(count: usize, wanted: usize) -> Result<(), Skipped>
     }
 }
 
-/// Checks that a file of this size has no bytes after its last piece, which ends at offset `from`. Fails with `Reply`
-/// if not all pieces were read: that happens when the service accepts a piece size of 0. The inner error says that the
-/// file is unreadable, that it is longer, or that it is not as it was listed.
+/// Checks that a file of this size has no bytes after its last piece, which ends at offset `from`: asks the tree for
+/// one byte there. Fails with `Reply` if not all pieces were read, which happens when the service accepts a piece size
+/// of 0; no clause holds that fault, only that there is one. The inner error says that the file is unreadable, that it
+/// is longer, or that it is not as it was listed.
 pub fn see_end<T: Tree>(
     alloc: Global,
     tree: &mut T,
@@ -97,7 +101,8 @@ pub fn see_end<T: Tree>(
     }
 }
 
-/// Checks that no more bytes came. If some did, the file is longer than it was listed.
+/// Checks that nothing came when the byte behind the end was asked for. If it came, the file is longer than it was
+/// listed: `Changed`.
 fn none_more(more: &[u8]) -> Result<(), Skipped>
     ensures { MatchResult result (λ _. more.now ≡ []) (λ why. (why ≡ reasons.Changed) × (0 < length more.now)) }
 {

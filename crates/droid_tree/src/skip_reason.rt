@@ -42,8 +42,8 @@ pub fn unread(fault: TreeFault) -> Result<Skipped, WalkFault>
     }
 }
 
-/// Returns the reason to skip a folder whose entries could not be listed. Running out of memory is no reason: it ends
-/// the walk.
+/// Returns the reason to skip a folder whose entries could not be listed: `Unreadable`, also for `Changed`, which is
+/// said of files alone. Running out of memory is no reason: it ends the walk.
 pub(crate) fn unlisted(fault: TreeFault) -> Result<Skipped, WalkFault>
     ensures observed { OnOk result (fault ≢ faults.Memory) }
     ensures reason { IfOk result (λ why. why ≡ reasons.Unreadable) }

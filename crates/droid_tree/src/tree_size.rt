@@ -1,4 +1,4 @@
-//! Counts what is in a tree before it is submitted.
+//! Counts the folders, files and bytes of a tree before it is submitted, and checks the count against a limit.
 
 ghost use Rattle.std.specs.Prelude.{◌≡◌, ◌≢◌, ◌+◌, ◌<◌, ◌≤◌, IfErr, IfOk, OnOk};
 ghost use Rattle.droid_tree.specs.Counts.{CountsItem, CountsItems, CountsFolder, CountsTooMany, CountsTree};
@@ -26,9 +26,9 @@ pub struct Counted {
     pub skipped: u64,
 }
 
-/// Counts the folders and files of a tree. Fails with `Entries` if there are more than `limit` together, and with
-/// `Folders` if there are more folders than a walk visits. Lists each folder once, in the order of a walk, and reads no
-/// file.
+/// Counts the folders and files of a tree. Fails with `Entries` if there are more than `limit` together, with `Folders`
+/// if there are more folders than a walk visits, with `Bytes` if the lengths do not fit 64 bits. Lists each folder
+/// once, in the order of a walk, and reads no file.
 pub fn count<T: Tree>(alloc: Global, tree: &mut T, limit: u64) -> Result<Counted, WalkFault>
     // The numbers are those of the tree as it was listed.
     ensures counted { IfOk result (λ counted. CountsTree T.observes counted tree.old tree.new) }
@@ -53,8 +53,8 @@ pub fn count<T: Tree>(alloc: Global, tree: &mut T, limit: u64) -> Result<Counted
     Err(WalkFault::Folders)
 }
 
-/// Counts what is in one folder and appends its subfolders to `pending`. An unreadable folder counts as one that is
-/// skipped.
+/// Adds what is in one folder to the counts `before`, and appends its subfolders to `pending`. An unreadable folder
+/// counts as one that is skipped. After an error nothing is promised of `pending`: `count` ends.
 fn count_folder<T: Tree>(
     alloc: Global,
     tree: &mut T,
@@ -81,7 +81,8 @@ fn count_folder<T: Tree>(
     }
 }
 
-/// Counts these entries of a folder.
+/// Adds these entries of a folder to the counts `before`, one of each name. `count_folder` counts the repeated ones as
+/// skipped.
 fn count_entries(
     alloc: Global,
     folder: &PendingFolder,
@@ -100,7 +101,8 @@ fn count_entries(
     Ok(counted)
 }
 
-/// Counts one entry, and appends it to `pending` if it is a folder. Its number is 0: only a walk knows numbers.
+/// Adds one entry to the counts `before`, and appends it to `pending` if it is a folder. Its number there is 0: only a
+/// walk that submits knows numbers, and no clause of this file speaks of them.
 fn count_entry(
     alloc: Global,
     folder: &PendingFolder,
@@ -142,7 +144,7 @@ fn count_entry(
     }
 }
 
-/// Counts one more folder.
+/// Counts one more folder. Its length counts nothing.
 fn one_folder(before: Counted) -> Result<Counted, WalkFault>
     ensures counted { IfOk result (λ after. after ≡ record before { folders = before.folders + 1 }) }
     ensures other { IfErr result (λ fault. fault ≢ Entries) }
@@ -155,7 +157,7 @@ fn one_folder(before: Counted) -> Result<Counted, WalkFault>
     })
 }
 
-/// Counts one more file of this length.
+/// Counts one more file of `len` bytes. Fails with `Bytes` on overflow.
 fn one_file(before: Counted, len: u64) -> Result<Counted, WalkFault>
     ensures counted { IfOk result (λ after.
         after ≡ record before { files = before.files + 1; bytes = before.bytes + len }) }
@@ -169,7 +171,7 @@ fn one_file(before: Counted, len: u64) -> Result<Counted, WalkFault>
     })
 }
 
-/// Counts more skipped entries.
+/// Counts `count` more entries or folders that a walk skips.
 fn some_skipped(before: Counted, count: u64) -> Result<Counted, WalkFault>
     ensures counted { IfOk result (λ after. after ≡ record before { skipped = before.skipped + count }) }
     ensures other { IfErr result (λ fault. fault ≢ Entries) }
@@ -182,7 +184,7 @@ fn some_skipped(before: Counted, count: u64) -> Result<Counted, WalkFault>
     })
 }
 
-/// Checks that there are no more folders and files than the limit.
+/// Checks that there are no more folders and files together than `limit`. Fails with `Entries` if there are.
 fn see_room(counted: Counted, limit: u64) -> Result<(), WalkFault>
     ensures within { OnOk result (counted.folders + counted.files ≤ limit) }
     ensures too_many { IfErr result (λ fault. fault ≡ Entries → limit < counted.folders + counted.files) }
@@ -195,7 +197,8 @@ fn see_room(counted: Counted, limit: u64) -> Result<(), WalkFault>
     }
 }
 
-/// Adds two numbers. Fails with `Bytes` on overflow.
+/// Adds two numbers. Fails with `Bytes` on overflow, which only the lengths of files can reach. The clauses ask only
+/// that it is not `Entries`, of which `count` promises when it comes.
 fn sum_of(first: u64, second: u64) -> Result<u64, WalkFault>
     ensures sum { IfOk result (λ sum. sum ≡ first + second) }
     ensures other { IfErr result (λ fault. fault ≢ Entries) }

@@ -1,4 +1,4 @@
--- For proofs only: the bytes of chunks.
+-- For inner clauses and proofs: the bytes of chunks.
 use Rattle.std.specs.Prelude.{◌≡◌, ℕ, ◌<◌, ◌≤◌, List, [], ◌++◌, length, drop}
 use Rattle.std.specs.List.{AllByRecursion, flat_map}
 use Rattle.std.specs.declared.alloc.Global.{Global}

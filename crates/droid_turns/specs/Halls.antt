@@ -1,4 +1,4 @@
--- For proofs only: what the loop keeps of all connections, after the steps so far.
+-- For inner clauses and proofs: what the loop keeps of all connections, after the steps so far.
 use Rattle.std.specs.Prelude.{◌≡◌, ℕ, ◌+◌, ◌-◌, ◌*◌, ◌<◌, ◌≤◌, ◌==◌, if◌then◌else◌, Bool, true, false, List, []}
 use Rattle.std.specs.Prelude.{◌∷◌, ◌++◌, Some, IsSome, count_by, length, vec_capacity}
 use Rattle.std.specs.List.{AllByRecursion}

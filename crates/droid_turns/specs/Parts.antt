@@ -1,4 +1,4 @@
--- For proofs only: the parts of what a reader holds between two pieces.
+-- For inner clauses and proofs: the parts of what a reader holds between two pieces.
 use Rattle.std.specs.Prelude.{◌≡◌, ℕ, ◌<◌, ◌≤◌, List, [], ◌++◌, Result, Ok, Err, length, take, vec_capacity}
 use Rattle.droid_frame.specs.Streams.{BeginsNoFrame}
 use Rattle.droid_frame.specs.declared.streams.fault.FrameFault.{FrameFault}

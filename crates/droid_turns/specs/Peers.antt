@@ -1,4 +1,4 @@
--- For proofs only: what the loop keeps of an open connection, after the steps so far.
+-- For inner clauses and proofs: what the loop keeps of an open connection, after the steps so far.
 use Rattle.std.specs.Prelude.{◌≡◌, ℕ, ◌+◌, ◌-◌, ◌*◌, ◌<◌, ◌≤◌, ◌&&◌, ◌⊎◌, ◌==◌, if◌then◌else◌, not, nat_le, nat_lt}
 use Rattle.std.specs.Prelude.{Bool, true, false, List, [], ◌++◌, length, take, drop, Option, None, Some, Err, IsSome}
 use Rattle.std.specs.Prelude.{is_none}

@@ -1,4 +1,4 @@
-//! Queued bytes, in chunks.
+//! The chunks in which a [`ReplyQueue`](crate::ReplyQueue) keeps its bytes, so that none is moved.
 
 ghost use Rattle.std.specs.Prelude.{◌≡◌, ◌≢◌, ◌+◌, ◌-◌, ◌≤◌, ◌++◌, [], OnOk, OnErr, length, drop, vec_len};
 ghost use Rattle.droid_frame.specs.ReplyFrames.{reply_frame};
@@ -38,7 +38,8 @@ impl Chunks {
         }
     }
 
-    /// Appends the frame of a reply.
+    /// Appends the frame of a reply. The version, client and number are those of the request. `first` stays as it is,
+    /// so the caller settles the queue after this.
     pub(crate) fn push(
         &mut self,
         alloc: Global,
@@ -61,7 +62,8 @@ impl Chunks {
         append_reply(alloc, &mut self.last, version, client, number, reply)
     }
 
-    /// Begins a new last chunk, if the last one would have more than [`GATHERED`] bytes with this many more.
+    /// Moves the last chunk to the end of `later` and begins an empty one, if it would have more than [`GATHERED`]
+    /// bytes with `size` more. An empty last chunk stays, however large the reply is.
     fn close_full(&mut self, alloc: Global, size: usize) -> Result<(), AllocError>
         requires filled { AreFilled self.old.later.items }
         ensures same { waiting self.new ≡ waiting self.old }
@@ -81,7 +83,7 @@ impl Chunks {
         Ok(())
     }
 
-    /// Drops the first chunk, if all of it is written. The next one is then the first.
+    /// Drops the first chunk, if all of it is written. Then the next one is the first: of `later`, or else `last`.
     pub(crate) fn settle(&mut self, alloc: Global)
         requires within { self.old.written ≤ vec_len self.old.first }
         requires filled { AreFilled self.old.later.items }

@@ -40,7 +40,8 @@ pub trait Connections {
     ghost does: { Self → Event → Self → Type 0 };
 
     /// Waits until a connection can be accepted, read or written, but at most `limit` milliseconds. `frames` frames
-    /// were handled since the last wait.
+    /// were handled since the last wait. No clause holds this count: `tests/program/wire/serve_options.py` does, by the
+    /// lines that `droid_sockets` prints each minute.
     fn wait(&mut self, limit: u64, frames: u64) -> Result<(), WaitFault>
         ensures waited { OnOk result (does self.old (Waited limit) self.new) }
         ensures unwaited { OnErr result (does self.old Unwaited self.new) };
@@ -53,7 +54,8 @@ pub trait Connections {
     fn accept(&mut self, id: u64) -> bool
         ensures { does self.old (if result then Opened id else NoneOpened) self.new };
 
-    /// Reads the bytes that have come on a connection.
+    /// Reads the bytes that have come on a connection, into the front of the buffer. The loop's buffer always has
+    /// 65,536 bytes: an implementation need not tell a read into no room from the end.
     fn read(&mut self, id: u64, buffer: &mut [u8]) -> Came
         ensures bound { CameWithin result (length buffer.new) }
         ensures came { does self.old (read_event id buffer.new result) self.new };

@@ -1,4 +1,4 @@
-//! The open connections, and their turns.
+//! All open connections, and the turn that each gets: accept, look, handle, settle, write. [`Peer`] does it for one.
 
 ghost use Rattle.std.specs.Prelude.{◌≡◌, ◌+◌, ◌-◌, ◌<◌, ◌≤◌, ◌⊎◌, ℕ, [], true, false, IfOk, Some, length, vec_capacity};
 ghost use Rattle.std.specs.List.{AllByRecursion};
@@ -18,11 +18,11 @@ use crate::rules::Rules;
 use std::alloc::{AllocError, Global};
 use std::mem;
 
-/// The longest wait, in milliseconds. No clause needs it: without it the loop could wait for ever, and connections that
-/// print a line each minute could not.
+/// The longest wait, in milliseconds. No clause needs it: without it the loop could wait for ever, and `droid_sockets`
+/// (`MINUTE`) could not print a line each minute.
 const LONGEST_WAIT: u64 = 60_000;
 
-/// The frames that are shared in a turn.
+/// The frames that are shared in a turn. This number and the next one stand in the definition `share_of` too.
 const FRAMES: usize = 256;
 
 /// The most frames of one connection that are handled in a turn.
@@ -35,18 +35,19 @@ pub(crate) struct Hall {
     pub(crate) waiting: Vec<Peer>,
     /// The connections that had their part.
     pub(crate) served: Vec<Peer>,
-    /// How many were accepted: the number of the next one.
+    /// How many were accepted. This is the number of the next one.
     pub(crate) opened: u64,
     /// The last reading of the clock.
     pub(crate) time: u64,
-    /// How many frames were handled in the last turn.
+    /// How many frames were handled in the last turn, for [`Connections::wait`]. No clause holds it.
     pub(crate) frames: u64,
-    /// How many frames of a connection are handled in the turn, at most.
+    /// How many frames of a connection are handled in the turn, at most. 1 until it is known how many have any.
     pub(crate) share: usize,
 }
 
 impl Hall {
-    /// Makes a hall in which no connection is open, with room for this many.
+    /// Makes a hall in which no connection is open. Takes the memory for `seats` of them, so no later move of one from
+    /// list to list can fail.
     pub(crate) fn new(alloc: Global, seats: usize) -> Result<Hall, AllocError>
         ensures rooms { IfOk result (HasRooms seats) }
         ensures first { IfOk result (λ hall. hall.served.items ≡ []) }
@@ -63,7 +64,7 @@ impl Hall {
         })
     }
 
-    /// Whether as many connections as the rules allow came and left.
+    /// Whether as many connections as the rules allow (`total`) came and left.
     pub(crate) fn is_over(&self, total: Option<u64>) -> bool
         ensures empty { result ≡ true → self.now.waiting.items ≡ [] }
         ensures all { result ≡ true → HasEnough total self.now.opened }
@@ -71,7 +72,7 @@ impl Hall {
         self.waiting.is_empty() && !self.wants_more(total)
     }
 
-    /// Whether the rules allow more connections.
+    /// Whether the rules allow more connections. Without a `total` the numbers end at 2^64 - 1.
     fn wants_more(&self, total: Option<u64>) -> bool
         ensures more { result ≡ true → (wanted : ℕ) → total ≡ Some wanted → self.now.opened < wanted }
         ensures enough { result ≡ false → HasEnough total self.now.opened }
@@ -83,7 +84,8 @@ impl Hall {
         }
     }
 
-    /// Returns how many milliseconds the loop may wait before the next turn.
+    /// Returns how many milliseconds the loop may wait before the next turn: the least [`Peer::patience`] of the open
+    /// connections, and at most a minute. `idle` is that of the rules.
     pub(crate) fn patience(&self, idle: u64) -> u64
         ensures { AllByRecursion (IsPatient idle self.now.time result) self.now.waiting.items }
     {
@@ -141,7 +143,8 @@ impl Hall {
         self.wants_more(rules.total)
     }
 
-    /// Accepts connections while there are seats. One for whose state there is no memory is closed at once.
+    /// Accepts waiting connections, while there are seats and the rules allow more. One for whose state there is no
+    /// memory is closed at once.
     fn admit<C: Connections>(&mut self, alloc: Global, connections: &mut C, rules: Rules)
         requires rooms { HasRooms rules.seats self.old }
         requires first { self.old.served.items ≡ [] }
@@ -164,7 +167,8 @@ impl Hall {
         }
     }
 
-    /// Looks what each connection has.
+    /// Has each connection look what it has. All stand in `waiting` before and after: [`look_each`](Hall::look_each)
+    /// moves them to the other list, and then the lists change places.
     fn look_all<C: Connections>(&mut self, connections: &mut C, seats: usize)
         requires rooms { HasRooms seats self.old }
         requires first { self.old.served.items ≡ [] }
@@ -181,7 +185,7 @@ impl Hall {
         mem::swap(&mut self.waiting, &mut self.served);
     }
 
-    /// Reads each connection that has no bytes once.
+    /// Has each connection look what it has, which reads those once that have no bytes, and moves it to `served`.
     fn look_each<C: Connections>(&mut self, connections: &mut C, seats: usize)
         requires rooms { HasRooms seats self.old }
         requires least { self.old.share ≡ 1 }
@@ -199,7 +203,7 @@ impl Hall {
         }
     }
 
-    /// Returns how many frames of a connection may be handled, by how many have any.
+    /// Returns how many frames of each connection may be handled in this turn, by how many connections have bytes.
     fn fair_share(&self) -> usize
         ensures fair { result ≡ share_of (having self.now.waiting.items) }
         ensures some { 1 ≤ result }
@@ -214,7 +218,8 @@ impl Hall {
         share_of(having)
     }
 
-    /// Handles the frames of each connection: of each its share.
+    /// Handles the frames of each connection, of each up to its share, and moves it to `served`. Counts them in
+    /// `frames`.
     fn hear_all<C: Connections, H: Handler>(
         &mut self,
         connections: &mut C,
@@ -243,7 +248,7 @@ impl Hall {
         }
     }
 
-    /// Writes each connection its replies, and closes those that are over.
+    /// Writes each connection its replies. Closes those that are over, and moves the others to `waiting`.
     fn write_out_all<C: Connections>(&mut self, connections: &mut C, seats: usize, idle: u64)
         requires rooms { HasRooms seats self.old }
         ensures rooms { HasRooms seats self.new }
@@ -264,7 +269,7 @@ impl Hall {
         }
     }
 
-    /// Closes every connection, since the loop ends.
+    /// Closes every connection, since waiting failed or the turns have run out. Between two turns all are in `waiting`.
     pub(crate) fn stop<C: Connections>(&mut self, connections: &mut C)
         requires first { self.old.served.items ≡ [] }
         ensures moves { (rules : RulesValue)
@@ -274,7 +279,8 @@ impl Hall {
     }
 }
 
-/// Returns how many frames of a connection may be handled, where so many have any.
+/// Returns how many frames of each connection may be handled, if `having` connections have bytes: an equal part of
+/// [`FRAMES`], at least 1 and at most [`FRAMES_OF_ONE`].
 fn share_of(having: usize) -> usize
     ensures fair { result ≡ share_of having }
     ensures some { 1 ≤ result }
@@ -283,7 +289,7 @@ fn share_of(having: usize) -> usize
     (FRAMES / having.max(1)).max(1).min(FRAMES_OF_ONE)
 }
 
-/// Closes these connections, for this reason.
+/// Closes these connections, for this reason, and empties the list.
 fn close_all<C: Connections>(peers: &mut Vec<Peer>, connections: &mut C, why: Departure)
     ensures none { peers.new.items ≡ [] }
     ensures moves { Moves C.does connections.old connections.new (ClosesSome why peers.old.items peers.new.items) }

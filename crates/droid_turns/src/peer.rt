@@ -1,4 +1,4 @@
-//! One open connection: its bytes that aren't handled yet, and its replies that aren't written yet.
+//! One open connection, and its part of a turn: it looks what it has, hears its frames, and writes out its replies.
 
 ghost use Rattle.std.specs.Prelude.{◌≡◌, ◌+◌, ◌-◌, ◌*◌, ◌<◌, ◌≤◌, ◌++◌, ◌∷◌, [], List, ℕ, None, Some, true, false};
 ghost use Rattle.std.specs.Prelude.{IfNone, IfOk, IfSome, IsSome, OnOk, length};
@@ -20,13 +20,15 @@ use crate::reply_queue::ReplyQueue;
 use droid_frame::{Frame, FrameFault};
 use std::alloc::{AllocError, Global};
 
-/// How many bytes are read at once.
+/// How many bytes are read at once. The definition `IsWhole` has this number too.
 const BUFFER: usize = 65_536;
 
-/// The most frames of one connection that are handled.
+/// The most frames of one connection that are handled: `frames_bound` in definitions. [`Departure::Enough`] and the
+/// line that `droid_sockets` prints for it name this number.
 const FRAMES: u64 = 1_000_000;
 
-/// A connection is not read while more bytes of replies than this are queued for it.
+/// A connection is not read while more bytes of replies than this are queued for it. The definition `may_be_read` has
+/// this number too.
 const QUEUE_LIMIT: usize = 8_388_608;
 
 /// An open connection.
@@ -44,7 +46,7 @@ pub(crate) struct Peer {
     pub(crate) queue: ReplyQueue,
     /// Why it will be closed, once all replies are written. It is not read any more.
     pub(crate) leaving: Option<Departure>,
-    /// When a byte of it last came or went.
+    /// When a byte of it last came or went, in milliseconds of the loop's clock. At first: when it was accepted.
     pub(crate) active: u64,
     /// Whether a read returned nothing in its last turn.
     pub(crate) drained: bool,
@@ -55,7 +57,8 @@ pub(crate) struct Peer {
 }
 
 impl Peer {
-    /// Makes the state of a connection that was just accepted.
+    /// Makes the state of a connection that was accepted just now, under this number. Fails only if memory for its
+    /// buffer runs out.
     pub(crate) fn new(alloc: Global, id: u64, now: u64) -> Result<Peer, AllocError>
         ensures { IfOk result (IsNew id now) }
     {
@@ -74,7 +77,8 @@ impl Peer {
         })
     }
 
-    /// Returns how many milliseconds the loop may wait before its next turn.
+    /// Returns how many milliseconds the loop may wait before its next turn: 0 if it is to be read on, otherwise what
+    /// is left of the `idle` milliseconds after which it is closed.
     pub(crate) fn patience(&self, now: u64, idle: u64) -> u64
         ensures hungry { is_hungry self.now ≡ true → result ≡ 0 }
         ensures prompt { result ≤ idle - (now - self.now.active) }
@@ -116,7 +120,7 @@ impl Peer {
         self.receive(connections, now);
     }
 
-    /// Whether bytes of it wait to be handled, and may be.
+    /// Whether bytes that were read of it wait in its buffer to be handled, and may be.
     pub(crate) fn has_bytes(&self) -> bool
         ensures { result ≡ has_bytes self.now }
     {
@@ -178,7 +182,7 @@ impl Peer {
         }
     }
 
-    /// Whether it isn't leaving, and no more than 8 MiB are queued.
+    /// Whether it isn't to leave, and no more than 8 MiB ([`QUEUE_LIMIT`]) of replies are queued for it.
     fn may_be_read(&self) -> bool
         ensures is { result ≡ may_be_read self.now }
         ensures stays { result ≡ true → self.now.leaving ≡ None }
@@ -287,7 +291,8 @@ impl Peer {
         }
     }
 
-    /// Reads once, and returns whether bytes came. A read of no bytes is one that returned nothing yet.
+    /// Reads once, and returns whether bytes came. A read of no bytes is one that returned nothing yet. At the end of
+    /// its input, and if it is broken, the connection is to leave.
     fn receive<C: Connections>(&mut self, connections: &mut C, now: u64) -> bool
         requires whole { IsWhole self.old }
         requires stays { self.old.leaving ≡ None }
@@ -335,7 +340,8 @@ impl Peer {
         }
     }
 
-    /// Writes the queued replies, as far as the connection takes them. Returns why the connection is over, if it is.
+    /// Writes the queued replies, as far as the connection takes them. Returns why the connection is over, if it is: it
+    /// is broken; it was to leave and all is written; or for `idle` milliseconds no byte came or went.
     pub(crate) fn write_out<C: Connections>(
         &mut self,
         connections: &mut C,
@@ -409,7 +415,7 @@ impl Peer {
     }
 }
 
-/// Returns why a connection leaves after this many frames of it were handled, if it does.
+/// Returns why a connection leaves after this many frames of it were handled: only after the last of [`FRAMES`].
 fn leaving_behind(frames: u64) -> Option<Departure>
     ensures { result ≡ leaving_behind frames }
 {
@@ -419,7 +425,7 @@ fn leaving_behind(frames: u64) -> Option<Departure>
     None
 }
 
-/// Reads once, into the front of a buffer.
+/// Reads once, into the front of a buffer. The trait's clauses, for a `Vec`, which keeps its length.
 fn read_into<C: Connections>(connections: &mut C, id: u64, buffer: &mut Vec<u8>) -> Came
     ensures size { length buffer.new.items ≡ length buffer.old.items }
     ensures bound { CameWithin result (length buffer.new.items) }

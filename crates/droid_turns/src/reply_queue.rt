@@ -1,4 +1,4 @@
-//! The queue of replies of one connection.
+//! The queue of one connection's replies: appended as frames, taken as bytes, any number at a time.
 
 ghost use Rattle.std.specs.Prelude.{◌≡◌, ◌≢◌, ◌<◌, ◌≤◌, ◌++◌, [], OnOk, OnErr, length, take, drop};
 ghost use Rattle.droid_frame.specs.ReplyFrames.{reply_frame};

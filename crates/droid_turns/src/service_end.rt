@@ -1,4 +1,4 @@
-//! How serving many connections ended.
+//! How serving many connections ended: the result of the loop.
 
 /// How serving many connections ended. Each connection has left.
 #[derive(Clone, Copy, PartialEq, Eq)]

@@ -1,4 +1,4 @@
-//! Many connections, served in turns.
+//! The loop that serves many connections in turns, from the first wait to the last close.
 
 ghost use Rattle.droid_turns.specs.Turns.{ServesAll};
 ghost use Rattle.droid_turns.specs.Steps.{Goes};

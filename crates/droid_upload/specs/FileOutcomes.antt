@@ -97,6 +97,7 @@ changed_deeds profile number path left =
     ∷ []
 
 module _ (into : Destination) (entry : FolderEntry) where
+  -- the request that adds the file
   abbrev pub file_request : Request
   file_request = AddFile into.profile into.folder entry.modified entry.len into.piece_size entry.name
 
@@ -123,6 +124,7 @@ abbrev pub past_all : ℕ
 past_all = 4294967295
 
 module _ (into : Destination) (entry : FolderEntry) where
+  -- it was read again exactly where that is asked for, and it has bytes
   abbrev pub MayHold : Holding → Type 0
   MayHold Kept = is_checked into entry ≡ false
   MayHold (ReadAgain pieces) =
@@ -136,6 +138,7 @@ module _ (into : Destination) (path : List ℕ) (entry : FolderEntry) (number : 
   checking_deeds reading =
       Informed (Held path entry.len) ∷ reading_deeds into.profile number past_all path entry reading
 
+  -- what is done with it, and what the watcher learns at the end
   abbrev pub holding_deeds : Reply → Holding → List Deed
   holding_deeds found Kept = Informed (heard_of_end path (hash_of_held into.hash entry.len) found) ∷ []
   holding_deeds found (ReadAgain pieces) =
@@ -166,6 +169,7 @@ module _ (into : Destination) (path : List ℕ) (entry : FolderEntry) where
       ∷ Informed (Held path (begin_of into.piece_size entry.len first))
       ∷ reading_deeds into.profile number first path entry reading)
 
+  -- all that is read, asked and reported for a file, by its outcome
   abbrev pub deeds_of_file : FileOutcome → List Deed
   deeds_of_file (UnreadFile stop) =
       Observed (observed_of_stop path entry 0 stop) ∷ Informed (Left path (reason_of stop)) ∷ []

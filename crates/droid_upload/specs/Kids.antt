@@ -84,6 +84,7 @@ module _ (into : Destination) (path : List ℕ) where
     is_read = true;
   }
 
+  -- a file, with what the service said of it
   abbrev pub file_node : FolderEntry → UploadedFile → Node
   file_node entry file = record {
     number = file.number;

@@ -45,6 +45,7 @@ module _ (profile number first : ℕ) (path : List ℕ) (entry : FolderEntry) wh
       Observed (Read path entry from (length bytes) bytes)
       ∷ (sending_deeds index bytes ++ piece_deeds (suc index) (from + length bytes) pieces)
 
+  -- all reads and sent pieces of a file, by how its reading ended
   abbrev pub reading_deeds : Reading → List Deed
   reading_deeds (ReadAll pieces) =
       piece_deeds 0 0 pieces ++ Observed (Read path entry (length (joined pieces)) 1 []) ∷ []

@@ -1,4 +1,4 @@
--- What each part of an upload does.
+-- For inner clauses and proofs: what each part of an upload does.
 use Rattle.std.specs.Prelude.{◌≡◌, ◌≢◌, ℕ, ◌-◌, ◌≤◌, min, true, Option, Some, None, List, [], ◌∷◌, ◌++◌, length}
 use Rattle.droid_frame.specs.Fields.{u32_bytes}
 use Rattle.droid_frame.specs.Hashes.{hash}
@@ -102,12 +102,14 @@ module _ (to : Target) (path : List ℕ) (entry : FolderEntry) where
       × (whole ≡ read_deeds (ReadPart pieces stop))
 
   module _ {T C W : Type 0} (does : Upload T C W → Deed → Upload T C W → Type 0) where
+    -- the piece was read, hashed, and sent unless the service has it
     pub record PassesOne (index : ℕ) (running running_after : RunningHash) (old new : Upload T C W) : Type 0 where
       pub bytes : List ℕ
       pub counted : length bytes ≡ wanted_at index
       pub happened : GoesOver does old (passed_deeds index bytes) new
       pub hashed : Hashes bytes running running_after
 
+    -- the piece was read, and the client says that the service has other bytes
     pub record FindsOther (index : ℕ) (old new : Upload T C W) : Type 0 where
       pub bytes : List ℕ
       pub counted : length bytes ≡ wanted_at index
@@ -130,11 +132,13 @@ module _ (to : Target) (path : List ℕ) (entry : FolderEntry) where
       pub happened : GoesOver does old (piece_deeds to.into.profile to.number to.first path entry 0 0 pieces) new
       pub hashed : Hashes (joined pieces) running running_after
 
+    -- all pieces were
     pub record PassesAll (running running_after : RunningHash) (old new : Upload T C W) : Type 0 where
       pub count : ℕ
       pub front : PassesFront count running running_after old new
       pub all : begin count ≡ entry.len
 
+    -- the reading ended early, for this reason
     pub record StopsPart (why : Skipped) (old new : Upload T C W) : Type 0 where
       pub pieces : List (List ℕ)
       pub stop : Stop
@@ -142,12 +146,14 @@ module _ (to : Target) (path : List ℕ) (entry : FolderEntry) where
       pub reason : why ≡ reason_of stop
       pub happened : GoesOver does old (read_deeds (ReadPart pieces stop)) new
 
+    -- the client says that the service has other bytes, which ends the reading
     pub record StopsOther (old new : Upload T C W) : Type 0 where
       pub pieces : List (List ℕ)
       pub bytes : List ℕ
       pub may_read : MayRead to.into.piece_size entry.len to.first (ReadOther pieces bytes)
       pub happened : GoesOver does old (read_deeds (ReadOther pieces bytes)) new
 
+    -- all pieces were read, hashed and sent, and the file has no more bytes
     pub record ReadsWhole (running running_after : RunningHash) (old new : Upload T C W) : Type 0 where
       pub pieces : List (List ℕ)
       pub may_read : MayRead to.into.piece_size entry.len to.first (ReadAll pieces)
@@ -225,6 +231,7 @@ uploaded_of_finishing number read (FinishedBy found) = uploaded_of_end number tr
 uploaded_of_finishing number read (FinishedOther left) = uploadeds.Skipped
 
 module _ (profile number : ℕ) (path : List ℕ) where
+  -- what is done at the end of a file that was read whole
   abbrev pub finishing_deeds : HashValue → Finishing → List Deed
   finishing_deeds read (FinishedBy found) =
       Called (Answered 0 (Finish profile number) found) ∷ Informed (heard_of_end path read found) ∷ []
@@ -232,6 +239,7 @@ module _ (profile number : ℕ) (path : List ℕ) where
       Called (Failed 0 (Finish profile number) (client_faults.Piece refusals.NumberReused))
       ∷ changed_deeds profile number path left
 
+  -- what is done at the end of a file whose reading ended early, for this reason
   abbrev pub dropping_deeds : Skipped → Dropping → List Deed
   dropping_deeds why (AbandonedBy left) =
       Called (Answered 0 (Abandon profile number) left) ∷ Informed (Left path why) ∷ []
@@ -239,28 +247,34 @@ module _ (profile number : ℕ) (path : List ℕ) where
       Called (Failed 0 (Abandon profile number) (client_faults.Piece refusals.NumberReused))
       ∷ changed_deeds profile number path left
 
+  -- these are the deeds of finishing a file, whatever was replied
   abbrev pub AreFinishing : HashValue → List Deed → Type 0
   AreFinishing read whole = (finishing : Finishing) × MayFinish finishing × (whole ≡ finishing_deeds read finishing)
 
+  -- these are the deeds of abandoning a file whose reading ended early
   abbrev pub AreDropping : Skipped → List Deed → Type 0
   AreDropping why whole = (dropping : Dropping) × MayDrop dropping × (whole ≡ dropping_deeds why dropping)
 
+  -- these are the deeds of abandoning a file of which the service has other bytes
   abbrev pub AreChanged : List Deed → Type 0
   AreChanged whole = (left : Reply) × (is_left left ≡ true) × (whole ≡ changed_deeds profile number path left)
 
   module _ {T C W : Type 0} (does : Upload T C W → Deed → Upload T C W → Type 0) where
+    -- a file that was read whole was ended: finished, or abandoned
     pub record Finishes (read : HashValue) (uploaded : Uploaded) (old new : Upload T C W) : Type 0 where
       pub finishing : Finishing
       pub may_finish : MayFinish finishing
       pub happened : GoesOver does old (finishing_deeds read finishing) new
       pub uploaded_is : uploaded ≡ uploaded_of_finishing number read finishing
 
+    -- a file whose reading ended early was abandoned
     pub record Drops (why : Skipped) (uploaded : Uploaded) (old new : Upload T C W) : Type 0 where
       pub dropping : Dropping
       pub may_drop : MayDrop dropping
       pub happened : GoesOver does old (dropping_deeds why dropping) new
       pub uploaded_is : uploaded ≡ uploadeds.Skipped
 
+    -- a file of which the service has other bytes was abandoned
     pub record Leaves (uploaded : Uploaded) (old new : Upload T C W) : Type 0 where
       pub left : Reply
       pub may_leave : is_left left ≡ true
@@ -300,6 +314,7 @@ module _ (into : Destination) (path : List ℕ) (entry : FolderEntry) (number fi
   abbrev pub rest_deeds : Rest → List Deed
   rest_deeds rest = Informed (Held path (begin_of into.piece_size entry.len first)) ∷ tail_deeds rest
 
+  -- the rest of a file may go so
   abbrev pub MayRest : Rest → Type 0
   MayRest (RestWhole pieces finishing) = MayRead into.piece_size entry.len first (ReadAll pieces) × MayFinish finishing
   MayRest (RestPart pieces stop dropping) =
@@ -312,9 +327,11 @@ module _ (into : Destination) (path : List ℕ) (entry : FolderEntry) (number fi
       uploaded_of_finishing number (hash into.hash (joined pieces)) finishing
   uploaded_of_rest _ = uploadeds.Skipped
 
+  -- these are the deeds of reading, sending and ending a file, whatever was replied
   abbrev pub AreRest : List Deed → Type 0
   AreRest whole = (rest : Rest) × MayRest rest × (whole ≡ rest_deeds rest)
 
+  -- the file was read, sent from the piece `first` on, and ended
   pub record SendsRest {T C W : Type 0} (does : Upload T C W → Deed → Upload T C W → Type 0) (uploaded : Uploaded)
       (old new : Upload T C W) : Type 0 where
     pub rest : Rest
@@ -325,10 +342,12 @@ module _ (into : Destination) (path : List ℕ) (entry : FolderEntry) (number fi
 -- ---- a file that was finished before
 
 module _ (into : Destination) (path : List ℕ) (entry : FolderEntry) (number : ℕ) (found : Reply) where
+  -- these are the deeds of ending a file that was finished before
   abbrev pub AreHeld : List Deed → Type 0
   AreHeld whole =
       (holding : Holding) × MayHold into entry holding × (whole ≡ holding_deeds into path entry number found holding)
 
+  -- a file that was finished before was ended: kept as it is, or read again
   pub record EndsHeld {T C W : Type 0} (does : Upload T C W → Deed → Upload T C W → Type 0) (uploaded : Uploaded)
       (old new : Upload T C W) : Type 0 where
     pub holding : Holding
@@ -362,6 +381,7 @@ MayOpen into entry (Declined refusal) = skips refusal ≡ true
 MayOpen into entry (Found number found holding) = (is_finished found ≡ true) × MayHold into entry holding
 
 module _ (into : Destination) (path : List ℕ) (entry : FolderEntry) where
+  -- what is done in an attempt that ends with nothing to send
   abbrev pub opening_deeds : ℕ → Opening → List Deed
   opening_deeds attempt (Declined refusal) =
       Called (Answered attempt (file_request into entry) (replies.Refused refusal))
@@ -391,12 +411,14 @@ module _ (into : Destination) (path : List ℕ) (entry : FolderEntry) where
       × (whole ≡ gone_deeds into entry 0 gone ++ opening_deeds (length gone) opening)
 
   module _ {T C W : Type 0} (does : Upload T C W → Deed → Upload T C W → Type 0) where
+    -- an attempt ended with nothing to send
     pub record EndsOpening (attempt : ℕ) (uploaded : Uploaded) (old new : Upload T C W) : Type 0 where
       pub opening : Opening
       pub may_open : MayOpen into entry opening
       pub happened : GoesOver does old (opening_deeds attempt opening) new
       pub uploaded_is : uploaded ≡ uploaded_of_opening opening
 
+    -- an attempt found that the node was abandoned before
     pub record FindsGone (attempt : ℕ) (old new : Upload T C W) : Type 0 where
       pub number : ℕ
       pub happened : GoesOver does old (gone_deeds into entry attempt (number ∷ [])) new
@@ -408,6 +430,7 @@ module _ (into : Destination) (path : List ℕ) (entry : FolderEntry) where
     OpensNode attempt (Some (openeds.Begun number first)) old new =
         (is_countable into.piece_size entry.len ≡ true) × GoesOver does old (missing_deeds attempt number first) new
 
+    -- some attempts found abandoned nodes, and the next ended with nothing to send
     pub record EndsOpenings (uploaded : Uploaded) (old new : Upload T C W) : Type 0 where
       pub gone : List ℕ
       pub opening : Opening
@@ -415,6 +438,7 @@ module _ (into : Destination) (path : List ℕ) (entry : FolderEntry) where
       pub happened : GoesOver does old (gone_deeds into entry 0 gone ++ opening_deeds (length gone) opening) new
       pub uploaded_is : uploaded ≡ uploaded_of_opening opening
 
+    -- some attempts found abandoned nodes, and the next a node that lacks a piece
     pub record LacksPiece (number first : ℕ) (old new : Upload T C W) : Type 0 where
       pub gone : List ℕ
       pub countable : is_countable into.piece_size entry.len ≡ true
@@ -460,9 +484,11 @@ module _ (into : Destination) (path : List ℕ) (entry : FolderEntry) where
   uploaded_of_addition (NothingSent gone opening) = uploaded_of_opening into path entry opening
   uploaded_of_addition (SentRest gone number first rest) = uploaded_of_rest into path entry number first rest
 
+  -- these are the deeds of adding, sending and ending a file, whatever was replied
   abbrev pub AreAdded : List Deed → Type 0
   AreAdded whole = (addition : Addition) × MayAdd addition × (whole ≡ addition_deeds addition)
 
+  -- the file was added, sent as far as the service lacks it, and ended
   pub record Adds {T C W : Type 0} (does : Upload T C W → Deed → Upload T C W → Type 0) (uploaded : Uploaded)
       (old new : Upload T C W) : Type 0 where
     pub addition : Addition

@@ -1,4 +1,4 @@
-//! One entry of a folder: a folder, a file, or something that is skipped.
+//! Submits one entry of a folder: a folder, a file, or something that is skipped.
 
 ghost use Rattle.std.specs.Prelude.{◌≡◌, [], ◌∷◌, IfErr, IfOk};
 ghost use Rattle.droid_tree.specs.Paths.{below};
@@ -20,8 +20,9 @@ use droid_tree::{
     EntryKind, FolderEntry, PendingFolder, Skipped, Tree, Watcher, name_of, path_below,
 };
 
-/// Submits one entry, or reports to the watcher why it is skipped. Returns whether it is in the profile as it is in the
-/// tree.
+/// Submits one entry of `folder`, or reports to the watcher why it is skipped. `into` says where it goes, and `found`
+/// gets what is then in the profile. Returns whether it is there as it is in the tree. After an error nothing is
+/// promised of `found`: `submit_tree` drops it.
 pub(crate) fn submit_entry<T: Tree, C: Client, W: Watcher>(
     upload: &mut Upload<T, C, W>,
     into: Destination,
@@ -66,8 +67,8 @@ pub(crate) fn submit_entry<T: Tree, C: Client, W: Watcher>(
     }
 }
 
-/// Asks the service for a folder, tells the watcher of it, and notes it in `found`, so that its entries are visited
-/// later. Returns whether the service did not refuse it.
+/// Asks the service for the folder at `path`, informs the watcher, and notes it in `found`, so that its entries are
+/// visited later. Returns false if the service refused it for a reason that skips it.
 fn submit_folder<T: Tree, C: Client, W: Watcher>(
     upload: &mut Upload<T, C, W>,
     into: Destination,
@@ -99,7 +100,8 @@ fn submit_folder<T: Tree, C: Client, W: Watcher>(
     }
 }
 
-/// Adds a file to the profile with all its bytes. Returns whether it is there as it is in the tree.
+/// Adds the file at `path` to the profile with all its bytes, and its node to `found`. Returns whether it is there as
+/// it is in the tree.
 fn submit_file<T: Tree, C: Client, W: Watcher>(
     upload: &mut Upload<T, C, W>,
     into: Destination,

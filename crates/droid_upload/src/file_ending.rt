@@ -1,4 +1,4 @@
-//! Finishes a file, or abandons it.
+//! Ends a file that was begun: finishes it, or abandons it.
 
 ghost use Rattle.std.specs.Prelude.{◌≡◌, ◌≢◌, ◌∷◌, [], false, true, IfErr, IfOk, MatchOption, OnOk};
 ghost use Rattle.droid_frame.specs.declared.refusal.Refusal.TheVariants as refusals;
@@ -21,8 +21,8 @@ use crate::upload_requests::ask;
 use droid_frame::{HashValue, Refusal, Reply, Request};
 use droid_tree::{Skipped, Tree, Watcher};
 
-/// Finishes a file of which all was read and sent. If a piece was refused, since the service has other bytes, abandons
-/// the file.
+/// Finishes a file of which all was read and sent, and compares its hash with `read`, that of the bytes that were read.
+/// If a piece was refused, since the service has other bytes, abandons the file.
 pub(crate) fn finish_file<T: Tree, C: Client, W: Watcher>(
     upload: &mut Upload<T, C, W>,
     profile: u32,
@@ -45,7 +45,8 @@ pub(crate) fn finish_file<T: Tree, C: Client, W: Watcher>(
     }
 }
 
-/// Abandons a file whose reading ended early.
+/// Abandons a file whose reading ended early, for the reason `why`, which the watcher gets. It gets NumberReused
+/// instead if the service has other bytes.
 pub(crate) fn drop_file<T: Tree, C: Client, W: Watcher>(
     upload: &mut Upload<T, C, W>,
     profile: u32,
@@ -68,7 +69,8 @@ pub(crate) fn drop_file<T: Tree, C: Client, W: Watcher>(
     Ok(uploaded)
 }
 
-/// Abandons a file of which the service has other bytes, after a call that said so.
+/// Abandons a file of which the service has other bytes, after a call that said so, and reports it as refused with
+/// NumberReused. A second such refusal ends the submission.
 pub(crate) fn leave_changed<T: Tree, C: Client, W: Watcher>(
     upload: &mut Upload<T, C, W>,
     profile: u32,
@@ -94,8 +96,8 @@ pub(crate) fn leave_changed<T: Tree, C: Client, W: Watcher>(
     Ok(Uploaded::Skipped)
 }
 
-/// Sends Finish behind the last read and returns the reply, or `None` if a piece was refused since the service has
-/// other bytes.
+/// Sends Finish behind the last read and returns the reply, which is Finished, or `None` if a piece was refused since
+/// the service has other bytes. Any other reply is a fault.
 fn finish<T: Tree, C: Client, W: Watcher>(
     upload: &mut Upload<T, C, W>,
     profile: u32,
@@ -128,7 +130,8 @@ fn finish<T: Tree, C: Client, W: Watcher>(
     }
 }
 
-/// Sends Abandon behind the last read. Returns `false` if a piece was refused since the service has other bytes.
+/// Sends Abandon behind the last read. Returns `true` if no unfinished file is left, and `false` if a piece was refused
+/// since the service has other bytes.
 fn abandon<T: Tree, C: Client, W: Watcher>(
     upload: &mut Upload<T, C, W>,
     profile: u32,
@@ -161,7 +164,7 @@ fn abandon<T: Tree, C: Client, W: Watcher>(
     }
 }
 
-/// Returns the reply if it finished a file.
+/// Returns the reply if it is Finished. A refusal ends the submission with its fault, any other reply with `Reply`.
 fn see_finished(reply: Reply) -> Result<Reply, SubmissionFault>
     ensures finished { IfOk result (λ found. (found ≡ reply) × (is_finished reply ≡ true)) }
     ensures fault { IfErr result (λ fault. (fault ≡ fault_of_reply reply) × (is_finished reply ≡ false)) }
@@ -183,7 +186,8 @@ fn see_finished(reply: Reply) -> Result<Reply, SubmissionFault>
     }
 }
 
-/// Checks that a file was abandoned or is finished.
+/// Checks the reply to Abandon: the file was abandoned, or was so before, or is finished. Any other reply ends the
+/// submission.
 fn see_left(reply: Reply) -> Result<(), SubmissionFault>
     ensures left { OnOk result (is_left reply ≡ true) }
     ensures fault { IfErr result (λ fault. (fault ≡ fault_of_reply reply) × (is_left reply ≡ false)) }
@@ -200,7 +204,8 @@ fn see_left(reply: Reply) -> Result<(), SubmissionFault>
     }
 }
 
-/// Returns whether an Abandon that is refused for this reason leaves no unfinished file.
+/// Returns whether an Abandon that is refused for this reason leaves no unfinished file: it was abandoned before, or is
+/// finished.
 fn leaves(refusal: Refusal) -> bool
     ensures { result ≡ is_left (replies.Refused refusal) }
 {
@@ -211,7 +216,8 @@ fn leaves(refusal: Refusal) -> bool
     }
 }
 
-/// Checks that a request failed since a piece was refused with NumberReused. Every other fault ends the submission.
+/// Checks that a request failed since a piece was refused with NumberReused. Every other fault is returned, and ends
+/// the submission.
 fn see_reused(fault: SubmissionFault) -> Result<(), SubmissionFault>
     ensures reused { OnOk result (fault ≡ faults.Refused refusals.NumberReused) }
     ensures other { IfErr result (λ other. (other ≡ fault) × (fault ≢ faults.Refused refusals.NumberReused)) }

@@ -16,7 +16,8 @@ use crate::upload_requests::{ask, node_of};
 use droid_frame::{Refusal, Reply, Request, Text};
 use droid_tree::{FolderEntry, Skipped, Tree, Watcher};
 
-/// How often a file is added at most.
+/// How often a file is added at most, under the attempts from 0 on. The last one is 4294967294 in the clauses, and the
+/// prover compares both.
 const ATTEMPTS: u32 = u32::MAX;
 
 /// What the service has of a file.
@@ -44,7 +45,8 @@ pub(crate) enum NodeState {
     Lacks(u32),
 }
 
-/// Adds a file. If its node was abandoned before, adds it again, under the next attempt.
+/// Adds the file `name` to the folder `into`, and finds what the service has of it. If its node was abandoned before,
+/// adds it again, under the next attempt.
 pub(crate) fn open_file<T: Tree, C: Client, W: Watcher>(
     upload: &mut Upload<T, C, W>,
     into: Destination,
@@ -70,7 +72,8 @@ pub(crate) fn open_file<T: Tree, C: Client, W: Watcher>(
     Ok(opened)
 }
 
-/// Adds a file under one attempt after the other, until its node was not abandoned before.
+/// Adds a file under one attempt after the other, from 0 on, until its node was not abandoned before. `request` is its
+/// AddFile.
 fn add_again<T: Tree, C: Client, W: Watcher>(
     upload: &mut Upload<T, C, W>,
     into: Destination,
@@ -94,6 +97,7 @@ fn add_again<T: Tree, C: Client, W: Watcher>(
 }
 
 /// Adds a file under one attempt. Returns `None` if its node was abandoned before; at the last attempt that is a fault.
+/// A refusal that skips the file is no fault: the watcher is informed.
 fn open_node<T: Tree, C: Client, W: Watcher>(
     upload: &mut Upload<T, C, W>,
     into: Destination,
@@ -123,16 +127,17 @@ fn open_node<T: Tree, C: Client, W: Watcher>(
     }
 }
 
-/// Returns whether the indexes of a file's pieces are below 2^32 - 1. A file with more can't be sent, and a service
-/// that takes it sent a wrong reply.
+/// Returns whether the indexes of a file's pieces are below 2^32 - 1, so that the `u32::MAX` of `check_held` is behind
+/// them all. A file with more can't be sent, and a service that takes it sent a wrong reply.
 fn is_countable(piece_size: u32, size: u64) -> bool
     ensures { result ≡ is_countable piece_size size }
 {
     size <= u64::from(u32::MAX) * u64::from(piece_size)
 }
 
-/// Sends the first Finish of a file that was just added: its reply says what the service has of it. Returns `None` if
-/// its node was abandoned before.
+/// Sends the first Finish of the file `number`, which was just added under `attempt`: the reply says what the service
+/// has of it. Returns `None` if its node was abandoned before. A file that lacks no piece, as an empty one, is finished
+/// by it.
 fn see_node<T: Tree, C: Client, W: Watcher>(
     upload: &mut Upload<T, C, W>,
     into: Destination,
@@ -172,7 +177,8 @@ fn see_node<T: Tree, C: Client, W: Watcher>(
     }
 }
 
-/// Returns what the reply to the first Finish of a file says.
+/// Returns what the reply to the first Finish of a file says: Finished, NoSuchNode or Incomplete. Any other one ends
+/// the submission with its fault.
 fn state_of(reply: &Reply) -> Result<NodeState, SubmissionFault>
     ensures state { IfOk result (λ state. IsNodeState reply.now state) }
     ensures fault { IfErr result (λ fault.

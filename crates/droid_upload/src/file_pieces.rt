@@ -28,7 +28,8 @@ use droid_frame::{Blob, Refusal, RunningHash};
 use droid_tree::{FolderEntry, Skipped, Tree, Watcher, begin_of, next_len, read_piece, see_end};
 use std::alloc::{AllocError, Global};
 
-/// How many bytes stand before the piece's bytes in the body of a Piece request.
+/// How many bytes stand before the piece's bytes in the body of a Piece request: profile, file and index, four bytes
+/// each. `piece_head` of the definitions has them too, and the prover compares both.
 const BEFORE_BYTES: usize = 12;
 
 /// A file of a profile, and how it is sent.
@@ -53,7 +54,8 @@ pub(crate) enum Progress {
     Changed,
 }
 
-/// Reads a whole file piece by piece, adds its bytes to the hash and sends the pieces from `to.first` on.
+/// Reads a whole file piece by piece, adds its bytes to the hash `running`, sends the pieces from `to.first` on, and
+/// sees that the file has no more bytes. After an error nothing is promised of `running`.
 pub(crate) fn read_file<T: Tree, C: Client, W: Watcher>(
     upload: &mut Upload<T, C, W>,
     to: Target,
@@ -78,7 +80,8 @@ pub(crate) fn read_file<T: Tree, C: Client, W: Watcher>(
     }
 }
 
-/// Reads and sends the pieces of a file, but does not see whether it has more bytes.
+/// Reads all pieces of a file, and sends those from `to.first` on, until one stops it. Does not see whether the file
+/// has more bytes.
 fn pass_pieces<T: Tree, C: Client, W: Watcher>(
     upload: &mut Upload<T, C, W>,
     to: Target,
@@ -107,8 +110,8 @@ fn pass_pieces<T: Tree, C: Client, W: Watcher>(
     Ok(Progress::Done)
 }
 
-/// Reads one piece, adds it to the hash, and sends it unless the service has it. The piece's bytes exist once in
-/// memory: in the body of the request.
+/// Reads the piece `index`, adds it to the hash, and sends it unless the service has it. The piece's bytes exist once
+/// in memory: in the body of the request.
 fn pass_piece<T: Tree, C: Client, W: Watcher>(
     upload: &mut Upload<T, C, W>,
     to: Target,
@@ -140,7 +143,8 @@ fn pass_piece<T: Tree, C: Client, W: Watcher>(
     }
 }
 
-/// Appends the next `wanted` bytes of a file to the buffer. The inner error says why they did not come.
+/// Appends the `wanted` bytes of a file from offset `from` to `body`. The inner error says why they did not come; the
+/// outer one is always `Memory`.
 fn read_next<T: Tree, C: Client, W: Watcher>(
     upload: &mut Upload<T, C, W>,
     path: &str,
@@ -165,7 +169,8 @@ fn read_next<T: Tree, C: Client, W: Watcher>(
     }
 }
 
-/// Checks that a file has no bytes behind those that its folder lists.
+/// Checks that a file has no bytes behind those that its folder lists. Returns `Done` or `Stopped`, never `Changed`:
+/// nothing is sent.
 pub(crate) fn see_last<T: Tree, C: Client, W: Watcher>(
     upload: &mut Upload<T, C, W>,
     path: &str,
@@ -190,7 +195,9 @@ pub(crate) fn see_last<T: Tree, C: Client, W: Watcher>(
     }
 }
 
-/// Sends a piece. The body is that of the request.
+/// Sends the piece `index`, of `wanted` bytes, and reports that to the watcher. `body` is that of the request, with the
+/// piece's bytes in it. Returns `Changed` if the client says that a piece, this or an earlier one, was refused since
+/// the service has other bytes.
 fn send_piece<T: Tree, C: Client, W: Watcher>(
     upload: &mut Upload<T, C, W>,
     to: Target,
@@ -234,7 +241,7 @@ fn changed_by(why: ClientFault) -> Result<Progress, SubmissionFault>
     Err(SubmissionFault::from(why))
 }
 
-/// Returns the bytes of the piece in the body of its request.
+/// Returns the bytes of the piece in the body of its request: all behind the first 12.
 fn bytes_in(body: &[u8]) -> &[u8]
     requires { 12 ≤ length body.now }
     ensures { result.now ≡ drop 12 body.now }
@@ -242,7 +249,7 @@ fn bytes_in(body: &[u8]) -> &[u8]
     &body[BEFORE_BYTES..]
 }
 
-/// Returns the finished body as a `Blob`.
+/// Returns the body as a `Blob`, which the client sends. The clause `bytes` is what the contract of the client asks.
 fn whole_body(body: Vec<u8>) -> Blob
     ensures same { result ≡ body.items }
     ensures bytes { IsBytes result }
@@ -253,7 +260,8 @@ fn whole_body(body: Vec<u8>) -> Blob
     blob
 }
 
-/// Returns the start of a Piece request's body, with capacity for the piece's bytes.
+/// Returns the start of a Piece request's body, with capacity for the `wanted` bytes of the piece. The numbers are
+/// written in four bytes each, the highest first.
 fn begun_body(
     alloc: Global,
     profile: u32,

@@ -1,4 +1,4 @@
-//! Sends one file.
+//! Sends one file: adds it, sends what the service lacks of it, and ends it.
 
 ghost use Rattle.std.specs.Prelude.{◌≡◌, true, IfErr, IfOk, MatchResult, OnErr};
 ghost use Rattle.droid_tree.specs.Observation.{GoesOver};
@@ -51,8 +51,8 @@ pub fn upload_file<T: Tree, C: Client, W: Watcher>(
     }
 }
 
-/// Reads the end of an empty file, before it is added. Does nothing for other files. The inner error says why the end
-/// could not be seen.
+/// Reads the end of an empty file, before it is added: the first Finish would finish it. Does nothing for other files.
+/// The inner error says why the end could not be seen.
 fn see_empty<T: Tree, C: Client, W: Watcher>(
     upload: &mut Upload<T, C, W>,
     path: &str,
@@ -73,7 +73,7 @@ fn see_empty<T: Tree, C: Client, W: Watcher>(
     }
 }
 
-/// Adds a file and sends what the service lacks of it.
+/// Adds a file and sends what the service lacks of it. The end of an empty file was seen before.
 fn add_file<T: Tree, C: Client, W: Watcher>(
     upload: &mut Upload<T, C, W>,
     into: Destination,
@@ -101,7 +101,8 @@ fn add_file<T: Tree, C: Client, W: Watcher>(
     }
 }
 
-/// Reads a file of which the service lacks a piece, sends its pieces from that one on, and finishes or abandons it.
+/// Reads a file of which the service lacks the piece `to.first`, sends its pieces from that one on, and finishes or
+/// abandons it.
 fn send_rest<T: Tree, C: Client, W: Watcher>(
     upload: &mut Upload<T, C, W>,
     to: Target,

@@ -1,4 +1,4 @@
-//! What a submission has found so far.
+//! What a submission has found so far: the folders to visit, and the nodes of the profile.
 
 ghost use Rattle.std.specs.Prelude.{◌≡◌, ◌++◌, [], ◌∷◌, IfOk, OnOk};
 ghost use Rattle.droid_upload.specs.Kids.{file_node, folder_node, is_taken_file, nodes_of_file};
@@ -20,7 +20,8 @@ pub(crate) struct Found {
     pub nodes: Vec<Node>,
 }
 
-/// Adds the node of a folder that is in the profile, and the folder to those that are pending.
+/// Adds the node of a folder that is in the profile under this number, and the folder to those that are pending. After
+/// an error one may be there without the other: `submit_tree` drops both.
 pub(crate) fn add_folder_node(
     alloc: Global,
     found: &mut Found,
@@ -49,7 +50,8 @@ pub(crate) fn add_folder_node(
     Ok(())
 }
 
-/// Adds the node of a file if it is in the profile. Returns whether it is there as it is in the tree.
+/// Adds the node of a file if it is in the profile, by the outcome of its upload. Returns whether it is there as it is
+/// in the tree: not if its hash differs.
 pub(crate) fn add_file_node(
     found: &mut Found,
     into: Destination,
@@ -75,7 +77,7 @@ pub(crate) fn add_file_node(
     }
 }
 
-/// Adds the node of a file that is in the profile.
+/// Adds the node of a file that is in the profile, with what the service said of it.
 fn push_file_node(
     found: &mut Found,
     into: Destination,

@@ -1,4 +1,4 @@
-//! One folder: lists it and submits its entries one after the other.
+//! Visits one folder: lists it and submits its entries one after the other.
 
 ghost use Rattle.std.specs.Prelude.{◌≡◌, ◌&&◌, map, IfErr, IfOk, MatchResult, OnOk};
 ghost use Rattle.droid_tree.specs.Observation.{GoesOver, Unlisted};
@@ -18,7 +18,8 @@ use crate::upload::{Destination, Upload};
 use crate::watcher_reports::{report, report_below};
 use droid_tree::{FolderEntry, Listing, PendingFolder, Skipped, Tree, Watcher, read_folder};
 
-/// Submits the entries of a folder. Returns whether all are in the profile as they are in the tree.
+/// Lists a folder and submits its entries. An unreadable folder is reported, and is in the profile without entries.
+/// Returns whether all are in the profile as they are in the tree.
 pub(crate) fn visit_folder<T: Tree, C: Client, W: Watcher>(
     upload: &mut Upload<T, C, W>,
     into: Destination,
@@ -42,7 +43,7 @@ pub(crate) fn visit_folder<T: Tree, C: Client, W: Watcher>(
     }
 }
 
-/// Lists a folder. The inner error says that it is unreadable.
+/// Lists a folder. The inner error says that it is unreadable; the outer one is always `Memory`.
 fn list_folder<T: Tree, C: Client, W: Watcher>(
     upload: &mut Upload<T, C, W>,
     path: &str,
@@ -63,7 +64,8 @@ fn list_folder<T: Tree, C: Client, W: Watcher>(
     }
 }
 
-/// Reports the repeated entries of a folder and submits the others.
+/// Reports the repeated entries of a folder, which are skipped, and submits the others. Returns whether none is
+/// repeated and all the others are in the profile as they are in the tree.
 fn submit_listing<T: Tree, C: Client, W: Watcher>(
     upload: &mut Upload<T, C, W>,
     into: Destination,
@@ -85,7 +87,7 @@ fn submit_listing<T: Tree, C: Client, W: Watcher>(
     Ok(both(repeated.is_empty(), taken))
 }
 
-/// Reports the repeated entries of a folder to the watcher.
+/// Reports the repeated entries of a folder to the watcher, each as `SameName`.
 fn report_all<T: Tree, C: Client, W: Watcher>(
     upload: &mut Upload<T, C, W>,
     folder: &PendingFolder,
@@ -104,7 +106,8 @@ fn report_all<T: Tree, C: Client, W: Watcher>(
     Ok(())
 }
 
-/// Submits these entries of a folder.
+/// Submits these entries of a folder, in their order. Returns whether all are in the profile as they are in the tree;
+/// one that is not stops nothing.
 fn submit_entries<T: Tree, C: Client, W: Watcher>(
     upload: &mut Upload<T, C, W>,
     into: Destination,
@@ -127,7 +130,8 @@ fn submit_entries<T: Tree, C: Client, W: Watcher>(
     Ok(all)
 }
 
-/// Returns whether both are true. A function, so that the proofs of its callers do not split.
+/// Returns whether both are true. A function, so that the proofs of its callers, here and in `submit_tree`, do not
+/// split.
 pub(crate) fn both(first: bool, second: bool) -> bool
     ensures { result ≡ (first && second) }
 {

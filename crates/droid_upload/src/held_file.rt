@@ -1,4 +1,4 @@
-//! Ends a file that was finished before.
+//! Ends a file that was finished before: checks it if that is asked for, and reports it.
 
 ghost use Rattle.std.specs.Prelude.{◌≡◌, true, IfErr, IfOk};
 ghost use Rattle.droid_upload.specs.Deeds.{Does};
@@ -16,6 +16,7 @@ use droid_frame::{HashKind, HashValue, Reply, RunningHash};
 use droid_tree::{FolderEntry, Tree, Watcher};
 
 /// Ends a file that was finished before with the reply `found`. Reads it first if it is to be checked. Sends nothing.
+/// `is_read` is then true of a file that was read, or is empty.
 pub(crate) fn end_held<T: Tree, C: Client, W: Watcher>(
     upload: &mut Upload<T, C, W>,
     into: Destination,
@@ -40,7 +41,7 @@ pub(crate) fn end_held<T: Tree, C: Client, W: Watcher>(
     Ok(report_end(upload, path, number, entry.len == 0, read, found))
 }
 
-/// Reads a file that was finished before, and compares its hash. Skips it if it cannot be read.
+/// Reads a file that was finished before, and compares its hash with that of `found`. Skips it if it cannot be read.
 fn check_held<T: Tree, C: Client, W: Watcher>(
     upload: &mut Upload<T, C, W>,
     into: Destination,
@@ -86,7 +87,8 @@ fn is_checked(into: Destination, entry: &FolderEntry) -> bool
     into.check && entry.len != 0
 }
 
-/// Returns the hash of a file that was not read again: that of no bytes if it is empty, and otherwise none.
+/// Returns the hash of a file that was not read again: that of no bytes if it is empty, and otherwise `Nothing`, which
+/// is compared with no other.
 fn hash_of_held(kind: HashKind, size: u64) -> HashValue
     ensures { result ≡ hash_of_held kind size }
 {

@@ -11,7 +11,7 @@ use droid_frame::{HashValue, Reply};
 use droid_hash::finding_of;
 use droid_tree::{Skipped, Tree, Watcher};
 
-/// Reports that a file was skipped.
+/// Reports that the file at `path` was skipped, or differs, and why. Its path is text.
 pub(crate) fn report_skipped<T: Tree, C: Client, W: Watcher>(
     upload: &mut Upload<T, C, W>,
     path: &str,
@@ -22,7 +22,7 @@ pub(crate) fn report_skipped<T: Tree, C: Client, W: Watcher>(
     upload.watcher.skipped(path.as_bytes(), why);
 }
 
-/// Reports how many bytes of a file are not sent, since the service has them.
+/// Reports how many bytes of a file, its first ones, are not sent, since the service has them.
 pub(crate) fn report_held<T: Tree, C: Client, W: Watcher>(
     upload: &mut Upload<T, C, W>,
     path: &str,
@@ -33,7 +33,7 @@ pub(crate) fn report_held<T: Tree, C: Client, W: Watcher>(
     upload.watcher.held(path, count);
 }
 
-/// Reports a piece that was sent.
+/// Reports that a piece of `count` bytes was sent.
 pub(crate) fn report_bytes<T: Tree, C: Client, W: Watcher>(
     upload: &mut Upload<T, C, W>,
     path: &str,
@@ -44,8 +44,8 @@ pub(crate) fn report_bytes<T: Tree, C: Client, W: Watcher>(
     upload.watcher.took_bytes(path, count);
 }
 
-/// Reports a finished file: that it was taken, or that it has another hash than the bytes that were read. `is_read`
-/// says whether all of it was read in this run.
+/// Reports a file that the reply `found` finished: that it was taken, or that it has another hash than `read`, that of
+/// the bytes that were read. `is_read` says whether all of it was read in this run. Returns the outcome of the file.
 pub(crate) fn report_end<T: Tree, C: Client, W: Watcher>(
     upload: &mut Upload<T, C, W>,
     path: &str,
@@ -71,7 +71,8 @@ pub(crate) fn report_end<T: Tree, C: Client, W: Watcher>(
     Uploaded::Taken(file)
 }
 
-/// Returns whether a finished file has another hash than the bytes that were read. Without a hash nothing is compared.
+/// Returns whether the reply `found` has another hash than `read`. Without a hash of what was read nothing is compared,
+/// and no other reply than Finished has one.
 fn has_other_hash(read: HashValue, found: &Reply) -> bool
     ensures { result ≡ has_other_hash read found.now }
 {
@@ -81,7 +82,7 @@ fn has_other_hash(read: HashValue, found: &Reply) -> bool
     }
 }
 
-/// Returns whether two hashes are the same.
+/// Returns whether two hashes are of one kind and have the same bytes.
 fn same_hash(one: HashValue, other: HashValue) -> bool
     ensures { result ≡ same_hash one other }
 {

@@ -1,4 +1,4 @@
-//! Errors that end a submission.
+//! Errors that end a submission, and which fault a refusal or a client's fault is.
 
 ghost use Rattle.std.specs.Prelude.{◌≡◌};
 ghost use Rattle.droid_upload.specs.Faults.{fault_of_refusal, fault_of_reply};
@@ -24,6 +24,7 @@ pub enum SubmissionFault {
     Folders,
 }
 
+// A call that runs out of memory ends the submission with `Memory`, by `?` alone.
 impl From<AllocError> for SubmissionFault {
     ghost use Rattle.droid_upload.specs.declared.submission_fault.SubmissionFault.TheVariants.{Memory};
 
@@ -34,6 +35,7 @@ impl From<AllocError> for SubmissionFault {
     }
 }
 
+// A client that has no reply ends the submission by `?`, too: with the fault of the refusal, if a piece was refused.
 impl From<ClientFault> for SubmissionFault {
     ghost use Rattle.droid_upload.specs.Faults.{fault_of_client};
 
@@ -47,7 +49,8 @@ impl From<ClientFault> for SubmissionFault {
     }
 }
 
-/// Returns the fault of a refusal that ends a submission.
+/// Returns the fault of a refusal that ends a submission: `Memory` if the service ran out of memory, otherwise
+/// `Refused`.
 pub(crate) fn fault_of_refusal(refusal: Refusal) -> SubmissionFault
     ensures { result ≡ fault_of_refusal refusal }
 {
@@ -57,7 +60,7 @@ pub(crate) fn fault_of_refusal(refusal: Refusal) -> SubmissionFault
     }
 }
 
-/// Returns the fault of a reply that ends a submission.
+/// Returns the fault of a reply that ends a submission: that of the refusal, or `Reply` for any other kind.
 pub(crate) fn fault_of_reply(reply: Reply) -> SubmissionFault
     ensures { result ≡ fault_of_reply reply }
 {

@@ -1,4 +1,4 @@
-//! The submission of a whole tree.
+//! Submits a whole tree, folder by folder.
 
 ghost use Rattle.std.specs.Prelude.{IfErr, IfOk};
 ghost use Rattle.droid_upload.specs.Submissions.{AreOfFront, SubmitsTree};
@@ -42,7 +42,8 @@ pub struct Submitted {
 }
 
 /// Creates a profile and submits everything in the tree to it. Folders come before what they contain, and the entries
-/// of one folder in the order of their names' bytes. The watcher is informed of each entry that is skipped.
+/// of one folder in the order of their names' bytes. The watcher is informed of each entry that is skipped. Fails with
+/// `Folders` if the tree has more folders than a profile can have.
 pub fn submit_tree<T: Tree, C: Client, W: Watcher>(
     upload: &mut Upload<T, C, W>,
     options: Options,

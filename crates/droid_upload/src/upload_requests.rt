@@ -1,4 +1,4 @@
-//! The requests of a submission, and what their replies mean.
+//! Sends the requests of a submission, and reads the replies that make a profile, a folder or a file.
 
 ghost use Rattle.std.specs.Prelude.{◌≡◌, false, true, IfErr, IfOk};
 ghost use Rattle.droid_frame.specs.declared.reply.Reply.TheVariants as replies;
@@ -14,11 +14,13 @@ use crate::upload::Upload;
 use droid_frame::{Frame, HashKind, Limit, Refusal, Reply, Request, Text, request_frame};
 use droid_tree::{Tree, Watcher};
 
-/// The version of the frames: version 2 has all hashes.
+/// The version of the frames: version 2 has all hashes. The contract of `Client` has the number too, and the prover
+/// compares both.
 const VERSION: u8 = 2;
 
-/// Sends a request and returns its reply. `attempt` says how often the file of an AddFile was added before and found
-/// abandoned; it is 0 for other requests.
+/// Sends a request and returns its reply, whatever it says. `attempt` says how often the file of an AddFile was added
+/// before and found abandoned; it is 0 for other requests. Fails with `TooLong` if the request fits no frame: the
+/// client is not called then.
 pub fn ask<T: Tree, C: Client, W: Watcher>(
     upload: &mut Upload<T, C, W>,
     attempt: u32,
@@ -40,7 +42,8 @@ pub fn ask<T: Tree, C: Client, W: Watcher>(
     Ok(reply)
 }
 
-/// Returns whether a new folder or file that is refused for this reason is skipped. Every other refusal ends the
+/// Returns whether a new folder or file that is refused for this reason is skipped: for its name, its path, its length
+/// or its time, since another request has its number, or since the profile is full. Every other refusal ends the
 /// submission.
 pub fn refusal_skips(refusal: Refusal) -> bool
     ensures { result ≡ skips refusal }
@@ -57,7 +60,8 @@ pub fn refusal_skips(refusal: Refusal) -> bool
     }
 }
 
-/// Creates a profile and returns its number. Every refusal is a fault.
+/// Creates a profile and returns its number. `scan_limit`, `match_all` and `hash` are those of `Options`. Every refusal
+/// is a fault.
 pub fn create_profile<T: Tree, C: Client, W: Watcher>(
     upload: &mut Upload<T, C, W>,
     scan_limit: u32,
@@ -83,7 +87,7 @@ pub fn create_profile<T: Tree, C: Client, W: Watcher>(
     Ok(profile)
 }
 
-/// Returns the number of the profile that was made, or the fault.
+/// Returns the number of the profile that was made, or the fault of any other reply.
 fn profile_of(reply: Reply) -> Result<u32, SubmissionFault>
     ensures made { IfOk result (λ profile. reply ≡ replies.Made profile) }
     ensures fault { IfErr result (λ fault. (fault ≡ fault_of_reply reply) × (is_made reply ≡ false)) }
@@ -95,8 +99,8 @@ fn profile_of(reply: Reply) -> Result<u32, SubmissionFault>
     }
 }
 
-/// Adds a folder to a profile and returns its number, or the refusal if that skips the folder. The watcher is not
-/// informed.
+/// Adds a folder to the folder `parent` of a profile, 0 for the top, and returns its number, or the refusal if that
+/// skips the folder. The watcher is not informed. `modified` is in seconds since 1970-01-01T00:00:00 UTC.
 pub fn add_folder<T: Tree, C: Client, W: Watcher>(
     upload: &mut Upload<T, C, W>,
     profile: u32,
@@ -123,8 +127,8 @@ pub fn add_folder<T: Tree, C: Client, W: Watcher>(
     Ok(added)
 }
 
-/// Returns the number of a new node, the refusal that skips it, or the fault. `of_use` says whether a number is of use:
-/// that of a file with too many pieces is not, and is a wrong reply.
+/// Reads the reply to AddFolder or AddFile: returns the number of the new node, the refusal that skips it, or the
+/// fault. `of_use` says whether a number is of use: that of a file with too many pieces is not, and is a wrong reply.
 pub(crate) fn node_of(reply: Reply, of_use: bool) -> Result<Result<u32, Refusal>, SubmissionFault>
     ensures node { IfOk result (λ added. (reply ≡ reply_of_node added) × (is_node of_use reply ≡ true)) }
     ensures fault { IfErr result (λ fault. (fault ≡ fault_of_reply reply) × (is_node of_use reply ≡ false)) }

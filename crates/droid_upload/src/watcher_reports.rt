@@ -11,7 +11,7 @@ use crate::submission_fault::SubmissionFault;
 use crate::upload::Upload;
 use droid_tree::{FolderEntry, PendingFolder, Skipped, Tree, Watcher};
 
-/// Reports that an entry was skipped. Its path may be invalid UTF-8.
+/// Reports that the entry at `path` was skipped, and why. The path may be invalid UTF-8.
 pub(crate) fn report<T: Tree, C: Client, W: Watcher>(
     upload: &mut Upload<T, C, W>,
     path: &[u8],
@@ -22,7 +22,8 @@ pub(crate) fn report<T: Tree, C: Client, W: Watcher>(
     upload.watcher.skipped(path, why);
 }
 
-/// Reports that an entry of this folder was skipped. Its name may be invalid UTF-8.
+/// Reports that this entry of `folder` was skipped, and why. Its name may be invalid UTF-8, so its path is put together
+/// as bytes. Fails only if out of memory, and reports nothing then.
 pub(crate) fn report_below<T: Tree, C: Client, W: Watcher>(
     upload: &mut Upload<T, C, W>,
     folder: &PendingFolder,

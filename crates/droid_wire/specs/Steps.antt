@@ -1,4 +1,4 @@
--- For proofs alone: the outcome of one turn of serving a stream.
+-- For inner clauses and proofs: the outcome of one turn of serving a stream.
 use Rattle.std.specs.Prelude.{◌≡◌, ℕ, ◌-◌, ◌<◌, ◌≤◌, List, [], ◌++◌, length, take, Option, Some, None, Result, Ok, Err}
 use Rattle.std.specs.Io.KnownBytes.{Appends}
 use Rattle.droid_frame.specs.Frames.{frame_bytes}

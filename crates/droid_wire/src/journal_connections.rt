@@ -1,4 +1,4 @@
-//! Many connections, served by a service with a journal.
+//! Many connections, served by a service with a journal: `serve_in_turns` of droid_turns with a `JournalHandler`.
 
 ghost use Rattle.std.specs.Prelude.{ℕ, List};
 ghost use Rattle.droid_core_spec.specs.Histories.{History};
@@ -15,8 +15,9 @@ use droid_journal::LogFile;
 use droid_turns::{Connections, Rules, Served, serve_in_turns};
 use std::alloc::Global;
 
-/// Serves many connections by one service with a journal, in turns, until as many as the rules allow came and left, or
-/// the journal fails.
+/// Serves many connections by one service with a journal, in turns, until as many as the rules allow came and left,
+/// waiting or the journal fails, or memory for the list of connections runs out at the start. `Served` says which; if
+/// the journal failed, the handler has its fault.
 ///
 /// In each turn it handles the frames of all connections, then brings the accepted ones to the disk, then writes the
 /// replies.

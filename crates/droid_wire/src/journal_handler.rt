@@ -1,4 +1,4 @@
-//! A service with its journal, as a handler.
+//! A service with its journal, as the handler of droid_turns' loop.
 
 use crate::service_journal::ServiceJournal;
 use droid_frame::{Frame, Reply};
@@ -21,10 +21,15 @@ impl<F: LogFile + Drop> Handler for JournalHandler<F> {
 
     ghost settles = { SettlesSo F.has F.kept };
 
+    /// Handles a frame by the service, which writes the record of a new accepted command to the journal's file, and
+    /// returns its reply. After a fault of the journal the reply is Store, as [`ServiceJournal::handle`] says, and the
+    /// loop does not write it, since settling fails too.
     fn handle(&mut self, frame: Frame) -> Reply {
         self.journal.handle(frame)
     }
 
+    /// Brings to the disk what was accepted since the last call. Returns false, and notes the fault, if that fails:
+    /// then the loop writes no reply any more.
     fn settle(&mut self) -> bool {
         match self.journal.settle() {
             Ok(()) => true,

@@ -1,5 +1,5 @@
-//! Laws of the records of a service's journal. Each is the contract of a function that does nothing, and is proved with
-//! it.
+//! Laws of the records of a service's journal: which history they have, also when the journal was made smaller. Each is
+//! the contract of a function that does nothing, and is proved with it.
 
 ghost use Rattle.std.specs.Prelude.{◌≡◌, ℕ, false, List};
 ghost use Rattle.droid_core_spec.specs.Histories.{History};

@@ -1,4 +1,4 @@
-//! One stream, answered by a service with a journal.
+//! One stream, answered by a service with a journal: `answer_pipe` of droid_turns with a `JournalHandler`.
 
 ghost use Rattle.std.specs.Prelude.{ℕ, List};
 ghost use Rattle.droid_core_spec.specs.Histories.{History};
@@ -13,8 +13,10 @@ use droid_journal::LogFile;
 use droid_turns::{Pipe, Served, answer_pipe};
 use std::alloc::Global;
 
-/// Answers the frames of a reader by a service with a journal, until the input ends, or a frame, a stream or the
-/// journal fails.
+/// Answers the frames of a reader by a service with a journal, until the input ends, a frame, a stream or the journal
+/// fails, memory runs out for a frame, or 1,000,000 frames were handled (`FRAMES` of droid_turns). The departure of
+/// `pipe` says which; if the journal failed, the result is `Unsettled`, and the handler has the fault. `pipe` has the
+/// reader, for requests, and the writer, for replies.
 pub fn answer_journal<R: SteadyRead, W: SteadyWrite, F: LogFile + Drop>(
     alloc: Global,
     handler: &mut JournalHandler<F>,

@@ -29,7 +29,8 @@ pub fn read_frames_are_answered()
 /// A stream that [`answer_service`](crate::service_stream::answer_service) answers has an outcome of
 /// [`serve`](crate::server::serve) with 1,000,000 turns: frames of its front were handled, in order, their reply frames
 /// were written, and it ends for the same reason. But the loop may have read further than the frames that it handled,
-/// and if writing fails it may have handled up to 64 frames whose replies were not written.
+/// and if writing fails it may have handled up to 64 frames whose replies were not written. The 1,000,000 is `FRAMES`
+/// of `peer.rt`, the 64 `FRAMES_OF_ONE` of `hall.rt` in droid_turns; no clause here has the 64.
 pub fn a_stream_is_answered_as_by_serve<R: SteadyRead, W: SteadyWrite>()
     ensures { StreamsAreServed R.remaining W.contents R.seen W.seen W.room }
 {}
@@ -44,7 +45,7 @@ pub fn answers_once()
 /// once, and an answer that a client holds is the answer to that very request.
 ///
 /// The premise `AreOnes`: if several cores belong to one client, for instance after a restart, they submit equal frames
-/// under equal numbers.
+/// under equal numbers. The body calls [`answers_once`], since the proof needs that law.
 pub fn schedules()
     // An answer to a command is the reply in the one entry of that very request. An answer to a query is what the
     // service answered to it at some event.

@@ -1,4 +1,4 @@
-//! Many connections, served by one service.
+//! Many connections, served by one service without a journal: `serve_in_turns` of droid_turns with a `ServiceHandler`.
 
 ghost use Rattle.std.specs.Prelude.{◌≡◌, ◌≢◌};
 ghost use Rattle.droid_core_spec.specs.Histories.{History};
@@ -10,7 +10,8 @@ use crate::service_handler::ServiceHandler;
 use droid_turns::{Connections, Rules, Served, serve_in_turns};
 use std::alloc::Global;
 
-/// Serves many connections by one service, in turns, until as many as the rules allow came and left.
+/// Serves many connections by one service, in turns, until as many as the rules allow came and left, waiting fails, or
+/// memory for the list of connections runs out at the start. `Served` says which.
 ///
 /// A silent connection delays no other: each is read when it has bytes, and written when it takes them.
 pub fn serve_many<C: Connections>(

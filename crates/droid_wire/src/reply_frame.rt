@@ -15,11 +15,14 @@ use droid_frame::{
 };
 use std::alloc::Global;
 
-/// The most bytes in the body of a reply whose frame goes out in one write. For speed: no clause needs it.
+/// The most bytes in the body of a reply whose frame goes out in one write. Any other number meets the contracts too:
+/// it is for speed alone. `tests/program/wire/long_session.py` has replies about this length, but of the program, which
+/// does not call [`serve`](crate::server::serve); no test needs the number.
 const GATHERED: usize = 4_096;
 
 /// Writes the frame of a reply as [`write_reply`] does. A small frame goes out in one write, if there is memory for it.
-/// Nothing is buffered after the call returns.
+/// Nothing is buffered after the call returns. Its contract is that of [`write_reply`]: no clause says how many writes
+/// there are. Fails only if the writer does, never for memory.
 pub(crate) fn send_reply<W: SteadyWrite>(
     alloc: Global,
     version: u8,
@@ -48,8 +51,9 @@ pub(crate) fn send_reply<W: SteadyWrite>(
     }
 }
 
-/// Returns the bytes of a reply's frame, so that one write sends them. `None`: the body has more than 4,096 bytes, or
-/// out of memory.
+/// Returns the bytes of a reply's frame, so that one write sends them. `None`: the body has more than [`GATHERED`]
+/// bytes, or out of memory; that `None` comes only then no clause says, since [`send_reply`] writes the frame either
+/// way.
 fn gathered(alloc: Global, version: u8, client: u32, number: u64, reply: &Reply) -> Option<Vec<u8>>
     requires version { IsVersion version }
     requires spelling { HasReplySpelling version reply.now }

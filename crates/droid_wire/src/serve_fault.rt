@@ -1,4 +1,4 @@
-//! The faults of serving a stream.
+//! The faults of serving a stream by `serve`.
 
 ghost use Rattle.std.specs.Prelude.{◌≡◌};
 
@@ -21,6 +21,7 @@ impl From<FrameFault> for ServeFault {
 
     ghost from_gives = { λ from fault. fault ≡ Frame from };
 
+    /// Keeps the fault of a frame as it is.
     fn from(fault: FrameFault) -> ServeFault {
         ServeFault::Frame(fault)
     }

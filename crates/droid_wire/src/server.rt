@@ -1,4 +1,5 @@
-//! The service's end of a stream.
+//! The specification's call: `serve`, one stream answered frame by frame. The program calls `answer_service` instead,
+//! which the law `a_stream_is_answered_as_by_serve` ties to it.
 
 ghost use Rattle.std.specs.Prelude.{◌≡◌, ◌+◌, ◌*◌, ◌≤◌, ℕ, None, IfSome, IfOk, IsErrOf, IsErrAnd};
 ghost use Rattle.droid_frame.specs.declared.frame.Frame.{Frame};
@@ -24,8 +25,8 @@ use std::alloc::Global;
 /// Reads up to `turns` frames and answers each with one reply frame of the same version, client and number.
 ///
 /// All bytes of a reply are written before the next frame is read. An interrupted read or write is tried again, up to
-/// 64 times within one frame. If memory runs out while a request is handled, the reply says so. Any fault of a frame or
-/// a stream ends the call, and so does running out of memory for a frame's body.
+/// 64 times within one frame (`RETRY_LIMIT` of droid_frame). If memory runs out while a request is handled, the reply
+/// says so. Any fault of a frame or a stream ends the call, and so does running out of memory for a frame's body.
 pub fn serve<R: SteadyRead, W: SteadyWrite>(
     alloc: Global,
     service: &mut Service,
@@ -65,9 +66,11 @@ pub fn serve<R: SteadyRead, W: SteadyWrite>(
 }
 
 /// Reads the next frame, answers it, and returns the length of the reply's frame in bytes; `None` where the stream
-/// ends.
+/// ends. Fails with the fault of the frame or of the writer; in the latter case the request was handled all the same.
 ///
-/// The turns before wrote `written` bytes: at most 2^53, since 2^32 replies of at most 1,048,658 bytes have fewer.
+/// `written` is how many bytes the turns before wrote, which a fault of the writer counts too: at most 2^53, which the
+/// clause spells out, since 2^32 replies of at most 1,048,658 bytes (18 of the header, `HEADER_LENGTH`, and 1,048,640
+/// of the body, the `bound` of `reply_body_len`) have fewer. The prover ties these numbers.
 fn answer_next<R: SteadyRead, W: SteadyWrite>(
     alloc: Global,
     service: &mut Service,

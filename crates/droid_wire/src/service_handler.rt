@@ -1,4 +1,4 @@
-//! A service as a handler.
+//! A service without a journal, as the handler of droid_turns' loop.
 
 use droid_core::Service;
 use droid_frame::{Frame, Reply};
@@ -20,10 +20,12 @@ impl Handler for ServiceHandler {
 
     ghost settles = { λ old done new. (new ≡ old) × (done ≡ true) };
 
+    /// Handles a frame by the service, and returns its reply.
     fn handle(&mut self, frame: Frame) -> Reply {
         self.service.handle(frame)
     }
 
+    /// Does nothing and returns true: everything is in memory.
     fn settle(&mut self) -> bool {
         true
     }

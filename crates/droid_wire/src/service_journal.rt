@@ -1,4 +1,8 @@
-//! A service with its journal, in histories.
+//! A service with its journal: opened from a file, used, and settled. Its contracts speak of histories, those of
+//! droid_journal of records.
+//!
+//! The faults are those of droid_journal. In the clauses 4096 is the most bytes of a header that droid_journal takes
+//! (`start.rt`), as the clauses of `header.rt` in droid_cmd_serve promise; the prover ties them.
 
 ghost use Rattle.std.specs.Prelude.{◌≡◌, ◌≢◌, ◌≤◌, ◌++◌, ◌⊎◌, ℕ, List, [], None, Some, false, true, IfErr, IfOk};
 ghost use Rattle.std.specs.Prelude.{IfSome, IsErr, IsErrOf, IsSome, OnErr, OnOk, length};
@@ -53,7 +57,8 @@ impl<F: LogFile + Drop> ServiceJournal<F> {
     /// yet. An empty file gets its header. Nothing is written or cut off before the whole file was read and found
     /// right.
     ///
-    /// A journal that was made small is not opened: [`Fault::Record`]. [`ServiceJournal::open_small`] opens it.
+    /// A journal that was made small is not opened: [`Fault::Record`]. [`ServiceJournal::open_small`] opens it. After
+    /// any fault but [`Fault::Write`] the file is handed back as it was.
     pub fn open(
         alloc: Global,
         file: F,
@@ -102,8 +107,10 @@ impl<F: LogFile + Drop> ServiceJournal<F> {
     }
 
     /// Makes a service from the records of a file that was made small, and truncates the file behind them. The service
-    /// has this registry and these limits, and caches up to `places` replies. Returns `None` if no record lacks its
-    /// bytes, so that the file was not made small.
+    /// has this registry and these limits, which are at most those of `Limits` in droid_core, and caches up to `places`
+    /// replies. Returns `None` if no record lacks its bytes, so that the file was not made small. The file is then
+    /// dropped, as after a fault: the only caller, `droid_cmd_serve`, comes here after [`ServiceJournal::open`] met a
+    /// record that it refused.
     pub fn open_small(
         alloc: Global,
         file: F,
@@ -161,6 +168,7 @@ impl<F: LogFile + Drop> ServiceJournal<F> {
     }
 
     /// Starts from a journal that was read, if it was made small: the service takes the place of the reader of records.
+    /// Returns `None` if it was not. Fails only if memory runs out for the service.
     fn revived(
         alloc: Global,
         file: F,
@@ -194,7 +202,8 @@ impl<F: LogFile + Drop> ServiceJournal<F> {
         Ok(Some(ServiceJournal { journal }))
     }
 
-    /// Starts from a journal that was read: the service that read it serves from now on.
+    /// Starts from a journal of whole records that was read: the service that read it serves from then on, as a
+    /// `ServiceMachine`.
     fn begun(alloc: Global, file: F, opened: Opened<ReadingMachine>) -> ServiceJournal<F>
         ensures settled { (setting : Setting) (base : Base setting) (header : List ℕ) (records : List Record)
             → IsReady F.has F.kept (λ machine its. StandsForRecords setting base machine.service its) header file opened
@@ -210,14 +219,16 @@ impl<F: LogFile + Drop> ServiceJournal<F> {
         ServiceJournal { journal }
     }
 
-    /// Returns the journal's file.
+    /// Returns the journal's file, as it is.
     pub fn file(&self) -> &F
         ensures { result.now ≡ self.now.journal.file }
     {
         &self.journal.file
     }
 
-    /// Handles a request and returns its reply.
+    /// Handles a request and returns its reply. The record of a new command that is accepted is written to the file;
+    /// [`ServiceJournal::settle`] syncs it. After a fault of the journal nothing is handled any more: the reply is
+    /// Store, and may not be sent. That it is Store no clause holds.
     pub fn handle(&mut self, frame: Frame) -> Reply
         ensures handled { (setting : Setting) (header : List ℕ) (synced all : History)
             → StandsForHistory F.has F.kept setting header self.old.journal synced all
@@ -245,8 +256,8 @@ impl<F: LogFile + Drop> ServiceJournal<F> {
     /// Brings the history to the disk. After `Ok` the replies to all requests so far may be sent. After a fault no
     /// reply may be sent any more, and every further call returns a fault.
     ///
-    /// A call with nothing to sync writes the mark of the last turn instead: from then on damage in it is not taken for
-    /// a torn end.
+    /// A call with nothing to sync writes the mark of the last turn instead, unless it is there or the journal is of
+    /// version 3, which has none: from then on damage in that turn is not taken for a torn end.
     pub fn settle(&mut self) -> Result<(), Fault>
         ensures settled { (setting : Setting) (header : List ℕ) (synced all : History)
             → StandsForHistory F.has F.kept setting header self.old.journal synced all
@@ -266,6 +277,9 @@ impl<F: LogFile + Drop> ServiceJournal<F> {
 /// Crashes a service with a journal in any state, with any bytes behind those on the disk, and makes a new service from
 /// the file. Unless these bytes are records by chance, its history begins with the one on the disk, and is a prefix of
 /// the accepted one. So a client that got a reply gets it again.
+///
+/// Fails with `Read` if the file can't be opened after the crash, or with a fault of [`ServiceJournal::open`]. Nothing
+/// calls it: its contract is the promise about a crash, which docs/PROMISES.md names.
 pub fn crash_and_reopen<F: Tears + Drop>(
     alloc: Global,
     before: ServiceJournal<F>,

@@ -1,4 +1,4 @@
-//! A service as the machine of a journal.
+//! A service that serves, as the machine of its journal.
 
 use droid_core::Service;
 use droid_frame::Frame;
@@ -24,6 +24,8 @@ impl Machine for ServiceMachine {
 
     ghost gives = { λ start. GivesNew start.setting start.base };
 
+    /// Handles a frame whose mark this is. It is accepted, and so goes into the journal, if it is a new command that
+    /// the service accepted.
     fn handle(&mut self, frame: Frame, mark: [u8; 16]) -> Handled {
         let answered = self.service.handle_marked(frame, mark);
         Handled {

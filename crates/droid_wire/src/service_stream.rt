@@ -1,4 +1,4 @@
-//! One stream, answered by a service.
+//! One stream, answered by a service without a journal: `answer_pipe` of droid_turns with a `ServiceHandler`.
 
 ghost use Rattle.std.specs.Prelude.{◌≡◌, ◌≢◌};
 ghost use Rattle.droid_core_spec.specs.Histories.{History};
@@ -11,8 +11,10 @@ use droid_frame::{SteadyRead, SteadyWrite};
 use droid_turns::{Pipe, Served, answer_pipe};
 use std::alloc::Global;
 
-/// Answers the frames of a reader by a service, until the input ends, a frame or a stream fails, or 1,000,000 frames
-/// were handled.
+/// Answers the frames of a reader by a service, until the input ends, a frame or a stream fails, memory runs out for a
+/// frame, or 1,000,000 frames were handled. The departure of `pipe` says which. `pipe` has the reader, for requests,
+/// and the writer, for replies. The 1,000,000 is `FRAMES` of droid_turns and stands in `specs/StreamServing.antt`; the
+/// prover ties them.
 pub fn answer_service<R: SteadyRead, W: SteadyWrite>(
     alloc: Global,
     handler: &mut ServiceHandler,

@@ -1,4 +1,5 @@
-//! The machine that reads a journal that was made small.
+//! The machine that reads any journal whole, bare records included, and notes whether there was a bare one: whether the
+//! journal was made small.
 
 ghost use Rattle.std.specs.Prelude.{◌≡◌, ◌≤◌, ◌⊎◌, [], true, IfErr, IfOk};
 ghost use Rattle.droid_core.specs.Identified.{IsOf};
@@ -25,8 +26,8 @@ pub struct SmallReader {
 }
 
 impl SmallReader {
-    /// Makes one that has read nothing yet, for a service with this registry and these limits. Fails only if memory
-    /// runs out.
+    /// Makes one that has read nothing yet, for a service with this registry and these limits, which are at most those
+    /// of `Limits` in droid_core. Fails only if memory runs out.
     pub(crate) fn new(
         alloc: Global,
         registry: Registry,
@@ -61,6 +62,8 @@ impl Machine for SmallReader {
 
     ghost gives = { GivesReply };
 
+    /// Handles the frame of the next record by the recovering machine, and notes whether it is a bare one that was
+    /// accepted.
     fn handle(&mut self, frame: Frame, mark: [u8; 16]) -> Handled {
         let bare = is_bare(frame.kind);
         let handled = self.machine.handle(frame, mark);
@@ -69,7 +72,8 @@ impl Machine for SmallReader {
     }
 }
 
-/// Returns whether a frame of this kind lacks its bytes.
+/// Returns whether a frame of this kind is bare, that is, lacks the bytes of a file: kinds 68 and 69, which
+/// droid_compaction writes. Its law `a_bare_frame_spells_no_request` ties its two constants to these numbers.
 fn is_bare(kind: u8) -> bool
     ensures bare { result ≡ true → (kind ≡ 68) ⊎ (kind ≡ 69) }
     ensures all { (kind ≡ 68) ⊎ (kind ≡ 69) → result ≡ true }
@@ -77,7 +81,7 @@ fn is_bare(kind: u8) -> bool
     kind == BARE_PIECE || kind == BARE_FINISH
 }
 
-/// Returns whether this frame, or one before it, is bare.
+/// Returns whether a bare frame was accepted: one before this frame (`before`), or this one.
 fn has_bare(before: bool, bare: bool, accepted: bool) -> bool
     ensures one { result ≡ true → (before ≡ true) ⊎ ((bare ≡ true) × (accepted ≡ true)) }
     ensures stays { before ≡ true → result ≡ true }

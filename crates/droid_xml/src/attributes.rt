@@ -1,4 +1,4 @@
-//! Reads attributes.
+//! Reads the attributes of a start tag one by one, and checks that no two have one name.
 
 ghost use Rattle.std.specs.Prelude.{◌≡◌, map};
 ghost use Rattle.std.specs.List.{list_any};
@@ -22,7 +22,8 @@ pub struct Attribute<'a> {
     pub value: String,
 }
 
-/// Reads an attribute. Returns it and what follows it.
+/// Reads an attribute: a name, `=` and a value in quotes. Returns it and what follows it. Anything else is not
+/// well-formed.
 #[tactic(auto, unfolding(crate::specs::Attributes::attribute_at))]
 fn attribute_at(alloc: Global, text: &[u8]) -> Result<(Attribute<'_>, &[u8]), Stop>
     ensures { Gives (λ x. (setting x.0, x.1.now)) result (required (attribute_at text.now)) }
@@ -42,7 +43,7 @@ pub fn next_attribute(alloc: Global, text: &[u8]) -> Result<(Attribute<'_>, &[u8
     attribute_at(alloc, rest)
 }
 
-/// Returns whether one of the attributes has this name.
+/// Returns whether one of the attributes has this name, byte by byte.
 fn has_name(attributes: &[Attribute<'_>], name: &str) -> bool
     ensures { result ≡ list_any (λ other. bytes_eq name.now other.name) (map setting attributes.now) }
 {
@@ -54,7 +55,7 @@ fn has_name(attributes: &[Attribute<'_>], name: &str) -> bool
     false
 }
 
-/// Returns whether no name stands twice.
+/// Returns whether no name stands twice among the attributes of an element.
 pub fn are_distinct(attributes: &[Attribute<'_>]) -> bool
     ensures { result ≡ are_distinct (map setting attributes.now) }
 {

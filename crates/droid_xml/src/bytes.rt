@@ -5,7 +5,7 @@ ghost use Rattle.std.specs.List.{position_or_len, prefix_len};
 ghost use Rattle.std.specs.Option.{option_map};
 ghost use Rattle.droid_xml.specs.Bytes.{after, cut_at, cut_at_byte, is_byte, is_space, past_spaces, past_some_space};
 
-/// Returns what follows `front`, where the text begins with it.
+/// Returns what follows `front`, where the text begins with it. `None`: it begins otherwise.
 #[tactic(auto, unfolding(crate::specs::Bytes::after))]
 pub fn after<'a>(text: &'a [u8], front: &[u8]) -> Option<&'a [u8]>
     ensures { option_map (λ x. x.now) result ≡ after front.now text.now }
@@ -17,7 +17,7 @@ pub fn after<'a>(text: &'a [u8], front: &[u8]) -> Option<&'a [u8]>
     }
 }
 
-/// Returns what stands before the first `mark`, and what follows it.
+/// Returns what stands before the first `mark`, and what follows it. `None`: it stands nowhere.
 pub fn cut_at<'a>(text: &'a [u8], mark: &[u8]) -> Option<(&'a [u8], &'a [u8])>
     ensures { option_map (λ x. (x.0.now, x.1.now)) result ≡ cut_at mark.now text.now }
 {
@@ -30,7 +30,7 @@ pub fn cut_at<'a>(text: &'a [u8], mark: &[u8]) -> Option<(&'a [u8], &'a [u8])>
     None
 }
 
-/// Returns what stands before the first such byte, and what follows it.
+/// Returns what stands before the first such byte, and what follows it. `None`: there is no such byte.
 #[tactic(auto, unfolding(crate::specs::Bytes::cut_at_byte))]
 pub fn cut_at_byte(text: &[u8], byte: u8) -> Option<(&[u8], &[u8])>
     ensures { option_map (λ x. (x.0.now, x.1.now)) result ≡ cut_at_byte byte text.now }
@@ -43,7 +43,7 @@ pub fn cut_at_byte(text: &[u8], byte: u8) -> Option<(&[u8], &[u8])>
     }
 }
 
-/// Counts the bytes before the first such byte.
+/// Counts the bytes before the first such byte: all of them, if there is none.
 fn len_before(text: &[u8], byte: u8) -> usize
     ensures { result ≡ position_or_len (is_byte byte) text.now }
 {
@@ -55,14 +55,14 @@ fn len_before(text: &[u8], byte: u8) -> usize
     text.len()
 }
 
-/// Returns whether the byte is white space.
+/// Returns whether the byte is XML's white space, which is ASCII alone.
 pub fn is_space(byte: u8) -> bool
     ensures { result ≡ is_space byte }
 {
     matches!(byte, b' ' | b'\t' | b'\r' | b'\n')
 }
 
-/// Counts the white space at the front.
+/// Counts the bytes of white space at the front.
 fn space_len(text: &[u8]) -> usize
     ensures count { result ≡ prefix_len is_space text.now }
     ensures bound { result ≤ length text.now }
@@ -83,7 +83,7 @@ pub fn past_spaces(text: &[u8]) -> &[u8]
     &text[space_len(text)..]
 }
 
-/// Returns what follows white space that has to be there.
+/// Returns what follows white space that has to be there. `None`: the first byte is no white space.
 #[tactic(auto, unfolding(crate::specs::Bytes::past_some_space, crate::specs::Bytes::past_spaces))]
 pub fn past_some_space(text: &[u8]) -> Option<&[u8]>
     ensures { option_map (λ x. x.now) result ≡ past_some_space text.now }

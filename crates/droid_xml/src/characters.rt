@@ -8,14 +8,15 @@ ghost use Rattle.droid_xml.specs.Characters.{is_char, is_name_start, is_name_cha
 
 use std::str;
 
-/// Returns whether a document may have the character of this number.
+/// Returns whether a document may have the character of this number in Unicode. It may not have the controls below
+/// U+0020 other than tab, line feed and carriage return, nor surrogates, U+FFFE and U+FFFF.
 pub fn is_char(c: u32) -> bool
     ensures { result ≡ is_char c }
 {
     matches!(c, 0x9 | 0xA | 0xD | 0x20..=0xD7FF | 0xE000..=0xFFFD | 0x1_0000..=0x10_FFFF)
 }
 
-/// Returns whether a name may begin with this character.
+/// Returns whether a name may begin with the character of this number. The ranges are those of XML 1.0, fifth edition.
 #[tactic(auto, unfolding(crate::specs::Characters::is_name_start))]
 pub fn is_name_start(c: u32) -> bool
     ensures { result ≡ is_name_start c }
@@ -40,7 +41,7 @@ pub fn is_name_start(c: u32) -> bool
     )
 }
 
-/// Returns whether a name may have this character behind its first.
+/// Returns whether a name may have the character of this number behind its first.
 #[tactic(auto, unfolding(crate::specs::Characters::is_name_char))]
 pub fn is_name_char(c: u32) -> bool
     ensures { result ≡ is_name_char c }
@@ -48,7 +49,7 @@ pub fn is_name_char(c: u32) -> bool
     is_name_start(c) || matches!(c, 45 | 46 | 48..=57 | 0xB7 | 0x300..=0x36F | 0x203F..=0x2040)
 }
 
-/// Returns the bytes as a text, where they are one that a document may have.
+/// Returns the bytes as a text. `None`: they are no UTF-8, or have a character that a document may not have.
 #[tactic(auto, unfolding(crate::specs::Characters::text_in))]
 pub fn text_in(bytes: &[u8]) -> Option<&str>
     ensures { option_map (λ x. x.now) result ≡ text_in bytes.now }

@@ -1,4 +1,4 @@
-//! Reads the XML declaration, and judges the encoding that it declares.
+//! Reads the XML declaration (`<?xml version="1.0" encoding="UTF-8"?>`), and judges the encoding that it declares.
 
 ghost use Rattle.std.specs.Prelude.{◌≡◌, ◌==◌};
 ghost use Rattle.std.specs.List.{list_all};
@@ -10,21 +10,21 @@ ghost use Rattle.droid_xml.specs.Declarations.{are_ascii, is_readable};
 
 use crate::bytes::{after, cut_at_byte, past_some_space, past_spaces};
 
-/// Returns whether a declared word may have this byte.
+/// Returns whether a declared word may have this byte: an ASCII letter or digit, `.`, `-` or `_`.
 fn is_word_byte(byte: u8) -> bool
     ensures { result ≡ is_word_byte byte }
 {
     matches!(byte, b'A'..=b'Z' | b'a'..=b'z' | b'0'..=b'9' | b'.' | b'-' | b'_')
 }
 
-/// Returns whether a declared word may have each of these bytes.
+/// Returns whether a declared word may have each of these bytes. So it may be empty.
 fn is_word(bytes: &[u8]) -> bool
     ensures { result ≡ list_all is_word_byte bytes.now }
 {
     bytes.iter().all(|byte| is_word_byte(*byte))
 }
 
-/// Reads a word behind its first quote. Returns it and what follows its last quote.
+/// Reads a declared word behind its first quote, up to the next `quote`. Returns it and what follows that quote.
 #[tactic(auto, unfolding(crate::specs::Declarations::word_by))]
 fn word_by(text: &[u8], quote: u8) -> Option<(&[u8], &[u8])>
     ensures { option_map (λ x. (x.0.now, x.1.now)) result ≡ word_by quote text.now }
@@ -37,7 +37,7 @@ fn word_by(text: &[u8], quote: u8) -> Option<(&[u8], &[u8])>
     }
 }
 
-/// Reads a word in either kind of quotes. Returns it and what follows it.
+/// Reads a declared word in either kind of quotes. Returns it and what follows it.
 #[tactic(auto, unfolding(crate::specs::Declarations::word_at))]
 fn word_at(text: &[u8]) -> Option<(&[u8], &[u8])>
     ensures { option_map (λ x. (x.0.now, x.1.now)) result ≡ word_at text.now }
@@ -49,7 +49,8 @@ fn word_at(text: &[u8]) -> Option<(&[u8], &[u8])>
     }
 }
 
-/// Reads what is declared under a name. Returns it and what follows it.
+/// Reads white space, and then what is declared under a name, as in ` encoding="UTF-8"`. Returns the word without its
+/// quotes, and what follows it.
 #[tactic(auto, unfolding(crate::specs::Declarations::declared_at))]
 fn declared_at<'a>(text: &'a [u8], name: &[u8]) -> Option<(&'a [u8], &'a [u8])>
     ensures { option_map (λ x. (x.0.now, x.1.now)) result ≡ declared_at name.now text.now }
@@ -60,7 +61,8 @@ fn declared_at<'a>(text: &'a [u8], name: &[u8]) -> Option<(&'a [u8], &'a [u8])>
     word_at(past_spaces(rest))
 }
 
-/// Reads what is declared under a name, or returns the default, and what follows.
+/// Reads what is declared under a name, and returns the word and what follows it. If it is missing or wrong, returns
+/// the default and the whole text: what is wrong then stands where the declaration has to end.
 #[tactic(auto, unfolding(crate::specs::Declarations::declared_or))]
 fn declared_or<'a>(text: &'a [u8], name: &[u8], default: &'a [u8]) -> (&'a [u8], &'a [u8])
     ensures { (result.0.now, result.1.now) ≡ declared_or default.now name.now text.now }
@@ -71,14 +73,14 @@ fn declared_or<'a>(text: &'a [u8], name: &[u8], default: &'a [u8]) -> (&'a [u8],
     }
 }
 
-/// Returns whether the word is `yes` or `no`.
+/// Returns whether the word is `yes` or `no`, which are all that `standalone` may be.
 fn is_yes_or_no(word: &[u8]) -> bool
     ensures { result ≡ is_yes_or_no word.now }
 {
     word == b"yes".as_slice() || word == b"no".as_slice()
 }
 
-/// Reads the end of a declaration behind this word for `standalone`. Returns what follows it.
+/// Reads the end of a declaration, `?>`. Returns what follows it, if `standalone` is one of its two words.
 #[tactic(auto, unfolding(crate::specs::Declarations::declaration_end))]
 fn declaration_end<'a>(standalone: &[u8], text: &'a [u8]) -> Option<&'a [u8]>
     ensures { option_map (λ x. x.now) result ≡ declaration_end (standalone.now, text.now) }
@@ -102,7 +104,8 @@ pub fn declaration_at(text: &[u8]) -> Option<(&[u8], &[u8])>
     Some((encoding, declaration_end(standalone, rest)?))
 }
 
-/// Returns what follows `<?xml`, where a declaration begins so.
+/// Returns what follows `<?xml`, if white space follows. `None`: there is no declaration; an instruction such as
+/// `<?xml-stylesheet` is none.
 #[tactic(auto, unfolding(crate::specs::Declarations::declaration_start, crate::specs::Bytes::past_some_space))]
 pub fn declaration_start(text: &[u8]) -> Option<&[u8]>
     ensures { option_map (λ x. x.now) result ≡ declaration_start text.now }
@@ -115,7 +118,8 @@ pub fn declaration_start(text: &[u8]) -> Option<&[u8]>
     }
 }
 
-/// Returns whether the bytes, declared to be in this encoding, can be read as UTF-8.
+/// Returns whether the bytes, declared to be in this encoding, can be read as UTF-8: it is UTF-8, or US-ASCII and each
+/// byte is ASCII. The case of its letters doesn't matter. Whether the bytes are UTF-8 is checked piece by piece.
 #[tactic(auto, unfolding(crate::specs::Declarations::is_readable))]
 pub fn is_readable(encoding: &[u8], text: &[u8]) -> bool
     ensures { result ≡ is_readable encoding.now text.now }

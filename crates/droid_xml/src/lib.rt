@@ -2,6 +2,10 @@
 //!
 //! [`Reader`] gives the pieces of a document one after the other; [`read`] gives all of them at once.
 //! Line ends are made line feeds beforehand, by [`with_line_feeds`].
+//!
+//! An inner function `.._at` reads from the front of bytes, and returns what it found and the bytes behind it. Where it
+//! returns `None`, what it reads does not stand there: its caller makes of that
+//! [`NotWellFormed`](Problem::NotWellFormed), or tries something else.
 #![tactic(auto)]
 
 mod attributes;

@@ -1,11 +1,11 @@
-//! Makes line ends line feeds.
+//! Makes each line end a line feed: a carriage return with a line feed behind it, or alone, becomes one.
 
 ghost use Rattle.std.specs.Prelude.{◌≡◌, ◌++◌, IfOk, MatchOption, OnOk};
 ghost use Rattle.droid_xml.specs.LineEnds.{line_feed, with_line_feeds};
 
 use std::alloc::{AllocError, Global};
 
-/// Makes each line end a line feed. Returns None where each is one already.
+/// Makes each line end a line feed. Returns `None` where each is one already, without a copy. Fails if memory runs out.
 pub fn with_line_feeds(alloc: Global, text: &[u8]) -> Result<Option<Vec<u8>>, AllocError>
     ensures { IfOk result (λ made.
         MatchOption made (with_line_feeds text.now ≡ text.now) (λ bytes. bytes.items ≡ with_line_feeds text.now)) }
@@ -16,7 +16,7 @@ pub fn with_line_feeds(alloc: Global, text: &[u8]) -> Result<Option<Vec<u8>>, Al
     Ok(Some(rewritten(alloc, text)?))
 }
 
-/// Copies the text with line feeds for its line ends.
+/// Copies the text with a line feed for each of its line ends. It has at least one carriage return.
 #[tactic(auto, unfolding(crate::specs::LineEnds::with_line_feeds))]
 fn rewritten(alloc: Global, text: &[u8]) -> Result<Vec<u8>, AllocError>
     ensures { IfOk result (λ bytes. bytes.items ≡ with_line_feeds text.now) }

@@ -10,14 +10,15 @@ ghost use Rattle.droid_xml.specs.Names.{is_name_byte, begins_name, are_of_name, 
 use crate::characters::{is_name_char, is_name_start};
 use std::str;
 
-/// Returns whether a name may have this byte.
+/// Returns whether a name may have this byte. Every byte of a character beyond ASCII passes here: `are_of_name` judges
+/// those.
 fn is_name_byte(byte: u8) -> bool
     ensures { result ≡ is_name_byte byte }
 {
     byte >= 128 || is_name_char(u32::from(byte))
 }
 
-/// Counts the bytes of a name at the front.
+/// Counts the bytes at the front that a name may have. Whether they are a name is not checked here.
 fn name_len(text: &[u8]) -> usize
     ensures count { result ≡ prefix_len is_name_byte text.now }
     ensures bound { result ≤ length text.now }
@@ -30,7 +31,7 @@ fn name_len(text: &[u8]) -> usize
     text.len()
 }
 
-/// Returns whether the characters are those of a name.
+/// Returns whether the text is a name: at least one character, and each of them allowed in its place.
 fn are_of_name(text: &str) -> bool
     ensures { result ≡ are_of_name (chars text.now) }
 {
@@ -41,7 +42,7 @@ fn are_of_name(text: &str) -> bool
     }
 }
 
-/// Returns whether a name may begin with the first character.
+/// Returns whether a name may begin with the first character, if there is one.
 fn begins_name(text: &str) -> bool
     ensures { result ≡ begins_name (chars text.now) }
 {
@@ -58,7 +59,7 @@ fn are_name_chars(text: &str) -> bool
     text.chars().all(|c| is_name_char(u32::from(c)))
 }
 
-/// Returns the name at the front, and what follows it.
+/// Returns the name at the front, and what follows it. `None`: the bytes there are no name, or no UTF-8.
 #[tactic(auto, unfolding(crate::specs::Names::name_at))]
 pub fn name_at(text: &[u8]) -> Option<(&str, &[u8])>
     ensures { option_map (λ x. (x.0.now, x.1.now)) result ≡ name_at text.now }

@@ -45,7 +45,8 @@ impl<'a> Open<'a> {
         self.is_outside() & self.has_root
     }
 
-    /// Begins an element.
+    /// Notes that an element begins. It may not begin behind the root, and no element inside 16 open ones: that number
+    /// stands in `begun` and at [`Problem::TooDeep`] too. An empty element is not left open.
     fn begin(&mut self, element: &Element<'a>) -> Result<(), Stop>
         ensures { Changes result (begun (nesting self.old) (tag element.now)) (nesting self.old) (nesting self.new) }
     {
@@ -72,7 +73,7 @@ impl<'a> Open<'a> {
         }
     }
 
-    /// Ends the innermost element, which has to have this name.
+    /// Ends the innermost element, which has to have this name: otherwise the document is not well-formed.
     fn close(&mut self, name: &str) -> Result<(), Stop>
         ensures { Changes result (closed (nesting self.old) name.now) (nesting self.old) (nesting self.new) }
     {
@@ -83,7 +84,7 @@ impl<'a> Open<'a> {
         Ok(())
     }
 
-    /// Accepts a piece that opens and closes nothing, if it may stand here.
+    /// Accepts a piece that opens and closes nothing, if it may stand here: otherwise the document is not well-formed.
     fn allow(&self, is_allowed: bool) -> Result<(), Stop>
         ensures { Changes result (allowed is_allowed (nesting self.now)) (nesting self.now) (nesting self.now) }
     {

@@ -1,4 +1,5 @@
-//! Reads the pieces of a document.
+//! Reads one piece at the front of bytes, of whichever kind. Whether it may stand there is judged elsewhere
+//! (`open_elements.rt`).
 
 ghost use Rattle.std.specs.Prelude.{◌≡◌};
 ghost use Rattle.std.specs.Option.{option_map};
@@ -35,7 +36,7 @@ pub enum Piece<'a> {
     Instruction(&'a str, &'a str),
 }
 
-/// Reads a comment behind its `<!--`. Returns its text and what follows it.
+/// Reads a comment behind its `<!--`, up to the first `--`, which `>` has to follow. Returns it and what follows it.
 #[tactic(auto, unfolding(crate::specs::Pieces::comment_at))]
 fn comment_at(text: &[u8]) -> Option<(Piece<'_>, &[u8])>
     ensures { option_map (λ x. (part x.0, x.1.now)) result ≡ comment_at text.now }
@@ -45,7 +46,7 @@ fn comment_at(text: &[u8]) -> Option<(Piece<'_>, &[u8])>
     Some((Piece::Comment(text_in(comment)?), rest))
 }
 
-/// Reads a CDATA section behind its `<![CDATA[`. Returns its text and what follows it.
+/// Reads a CDATA section behind its `<![CDATA[`, up to the first `]]>`. Returns it and what follows it.
 #[tactic(auto, unfolding(crate::specs::Pieces::data_at))]
 fn data_at(text: &[u8]) -> Option<(Piece<'_>, &[u8])>
     ensures { option_map (λ x. (part x.0, x.1.now)) result ≡ data_at text.now }
@@ -54,7 +55,8 @@ fn data_at(text: &[u8]) -> Option<(Piece<'_>, &[u8])>
     Some((Piece::Data(text_in(data)?), rest))
 }
 
-/// Returns what stands behind the target of a processing instruction, and what follows the instruction.
+/// Reads a processing instruction behind its target, up to `?>`. Returns its text, without the white space before it,
+/// and what follows the instruction.
 #[tactic(auto, unfolding(crate::specs::Pieces::instruction_text))]
 fn instruction_text(text: &[u8]) -> Option<(&[u8], &[u8])>
     ensures { option_map (λ x. (x.0.now, x.1.now)) result ≡ instruction_text text.now }
@@ -65,7 +67,8 @@ fn instruction_text(text: &[u8]) -> Option<(&[u8], &[u8])>
     }
 }
 
-/// Reads a processing instruction behind its `<?`. Returns it and what follows it.
+/// Reads a processing instruction behind its `<?`. Returns it and what follows it. Its target may not be `xml`, in any
+/// case: a declaration stands at the front of a document alone.
 #[tactic(auto, unfolding(crate::specs::Pieces::instruction_at))]
 fn instruction_at(text: &[u8]) -> Option<(Piece<'_>, &[u8])>
     ensures { option_map (λ x. (part x.0, x.1.now)) result ≡ instruction_at text.now }
@@ -78,7 +81,7 @@ fn instruction_at(text: &[u8]) -> Option<(Piece<'_>, &[u8])>
     Some((Piece::Instruction(target, text_in(instruction)?), rest))
 }
 
-/// Reads an end tag behind its `</`. Returns the name and what follows it.
+/// Reads an end tag behind its `</`. Returns it and what follows its `>`.
 #[tactic(auto, unfolding(crate::specs::Pieces::end_tag_at))]
 fn end_tag_at(text: &[u8]) -> Option<(Piece<'_>, &[u8])>
     ensures { option_map (λ x. (part x.0, x.1.now)) result ≡ end_tag_at text.now }
@@ -88,14 +91,14 @@ fn end_tag_at(text: &[u8]) -> Option<(Piece<'_>, &[u8])>
     Some((Piece::End(name), rest))
 }
 
-/// Returns whether text ends before this byte.
+/// Returns whether text ends before this byte: `<` begins a tag, `&` a reference.
 fn ends_text(byte: u8) -> bool
     ensures { result ≡ ends_text byte }
 {
     byte == b'<' || byte == b'&'
 }
 
-/// Counts the bytes before the first `<` or `&`.
+/// Counts the bytes before the first `<` or `&`: all, if there is none.
 fn text_len(text: &[u8]) -> usize
     ensures { result ≡ text_len text.now }
 {
@@ -107,7 +110,7 @@ fn text_len(text: &[u8]) -> usize
     text.len()
 }
 
-/// Reads text up to the next `<` or `&`. Returns it and what follows it.
+/// Reads text up to the next `<` or `&`, or to the end. Returns it and what follows it. It may not have `]]>` in it.
 #[tactic(auto, unfolding(crate::specs::Pieces::text_at))]
 fn text_at(text: &[u8]) -> Option<(Piece<'_>, &[u8])>
     ensures { option_map (λ x. (part x.0, x.1.now)) result ≡ text_at text.now }
@@ -120,7 +123,7 @@ fn text_at(text: &[u8]) -> Option<(Piece<'_>, &[u8])>
     Some((Piece::Text(whole), &text[length..]))
 }
 
-/// Reads a piece behind its `<`. Returns it and what follows it.
+/// Reads a piece behind its `<`: a tag, a comment, a CDATA section or an instruction. Returns it and what follows it.
 #[tactic(auto, unfolding(crate::specs::Documents::piece_behind_less))]
 fn piece_behind_less(alloc: Global, text: &[u8]) -> Result<(Piece<'_>, &[u8]), Stop>
     ensures { Gives (λ x. (part x.0, x.1.now)) result (piece_behind_less text.now) }
@@ -144,7 +147,8 @@ fn piece_behind_less(alloc: Global, text: &[u8]) -> Result<(Piece<'_>, &[u8]), S
     Ok((Piece::Start(element), rest))
 }
 
-/// Reads the next piece. Returns it and what follows it.
+/// Reads the next piece, by its first byte. Returns it and what follows it. The one caller, `Reader::next`, never
+/// passes empty bytes.
 #[tactic(auto, unfolding(crate::specs::Documents::piece_at))]
 pub fn piece_at(alloc: Global, text: &[u8]) -> Result<(Piece<'_>, &[u8]), Stop>
     ensures { Gives (λ x. (part x.0, x.1.now)) result (piece_at text.now) }

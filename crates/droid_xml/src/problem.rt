@@ -1,4 +1,4 @@
-//! What can be wrong with a document.
+//! Why a document is not read: a problem of its own, or memory; and how one kind of fault becomes another.
 
 ghost use Rattle.std.specs.Prelude.{◌≡◌};
 ghost use Rattle.droid_xml.specs.declared.problem.Fault.TheVariants as faults;
@@ -30,7 +30,7 @@ pub enum Fault {
     Problem { problem: Problem, line: usize },
 }
 
-/// As [`Fault`], without a line.
+/// As [`Fault`], without a line: inner functions do not know where in the document they read.
 #[derive(Clone, Copy)]
 pub(crate) enum Stop {
     Memory,
@@ -40,6 +40,7 @@ pub(crate) enum Stop {
 impl<T: Drop> From<AllocFailed<T>> for Fault {
     ghost from_gives = { λ _ e. e ≡ faults.Memory };
 
+    /// Drops what there was no memory for.
     fn from(_: AllocFailed<T>) -> Self {
         Fault::Memory
     }
@@ -48,6 +49,7 @@ impl<T: Drop> From<AllocFailed<T>> for Fault {
 impl From<AllocError> for Stop {
     ghost from_gives = { λ _ e. e ≡ stops.Memory };
 
+    /// Memory ran out.
     fn from(_: AllocError) -> Self {
         Stop::Memory
     }
@@ -56,6 +58,7 @@ impl From<AllocError> for Stop {
 impl<T: Drop> From<AllocFailed<T>> for Stop {
     ghost from_gives = { λ _ e. e ≡ stops.Memory };
 
+    /// Drops what there was no memory for.
     fn from(_: AllocFailed<T>) -> Self {
         Stop::Memory
     }
@@ -64,6 +67,7 @@ impl<T: Drop> From<AllocFailed<T>> for Stop {
 impl From<Problem> for Stop {
     ghost from_gives = { λ problem e. e ≡ stops.Problem problem };
 
+    /// Lets `?` return a problem of the document.
     fn from(problem: Problem) -> Self {
         Stop::Problem(problem)
     }

@@ -1,4 +1,4 @@
-//! A document, piece by piece.
+//! Reads a document from its front to its end, piece by piece, and says in which line it has its first problem.
 
 ghost use Rattle.std.specs.Prelude.{◌≡◌, List, length, map, IfOk, IfErr, MatchResult, count_by};
 ghost use Rattle.droid_xml.specs.Documents.{IsDocument, declared, line_of, past_mark, prolog, start_of};
@@ -71,7 +71,8 @@ impl<'a> Reader<'a> {
     }
 }
 
-/// Returns what follows the byte order mark and the declaration, each of which may be missing.
+/// Returns what follows the byte order mark and the declaration, each of which may be missing. A problem is one of the
+/// declaration: it is not well-formed, or its encoding cannot be read.
 #[tactic(auto, unfolding(crate::specs::Documents::prolog, crate::specs::Documents::declared))]
 fn prolog(text: &[u8]) -> Result<&[u8], Problem>
     ensures { Reads (λ x. x.now) result (prolog text.now) }
@@ -90,7 +91,7 @@ fn prolog(text: &[u8]) -> Result<&[u8], Problem>
     }
 }
 
-/// Returns what follows the byte order mark, which may be missing.
+/// Returns what follows the byte order mark of UTF-8, or the whole text if it is missing.
 #[tactic(auto, unfolding(crate::specs::Documents::past_mark))]
 fn past_mark(text: &[u8]) -> &[u8]
     ensures { result.now ≡ past_mark text.now }
@@ -101,7 +102,7 @@ fn past_mark(text: &[u8]) -> &[u8]
     }
 }
 
-/// Returns the fault, with the line in which the rest of the text begins.
+/// Makes a [`Fault`] of a stop: a problem gets the line in which `rest`, an end of `text`, begins.
 fn fault(text: &[u8], rest: &[u8], stop: Stop) -> Fault
     ensures { result ≡ fault_at (line_of text.now rest.now) stop }
 {
@@ -114,7 +115,7 @@ fn fault(text: &[u8], rest: &[u8], stop: Stop) -> Fault
     }
 }
 
-/// Counts the line feeds.
+/// Counts the line feeds: no other line end is left in a document.
 fn line_ends(text: &[u8]) -> usize
     ensures { result ≡ count_by (is_byte 10) text.now }
 {
@@ -127,7 +128,7 @@ fn line_ends(text: &[u8]) -> usize
     count
 }
 
-/// Reads all pieces of a document, whose line ends are line feeds.
+/// Reads all pieces of a document, whose line ends are line feeds. After a fault no piece is returned.
 pub fn read(alloc: Global, text: &[u8]) -> Result<Vec<Piece<'_>>, Fault>
     // They are the pieces of the document.
     ensures found { IfOk result (λ pieces. IsDocument text.now (map part pieces.items)) }

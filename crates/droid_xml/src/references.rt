@@ -8,7 +8,8 @@ ghost use Rattle.droid_xml.specs.References.{char_of, numbered, entity, referenc
 use crate::bytes::{after, cut_at_byte};
 use crate::characters::is_char;
 
-/// Returns the character whose number these digits write.
+/// Returns the character whose number these digits write in a base. `None`: there is no digit, another byte stands
+/// among them, or a document may not have this character.
 fn numbered(base: u32, digits: &[u8]) -> Option<char>
     requires low { 2 ≤ base }
     requires high { base ≤ 16 }
@@ -29,7 +30,7 @@ fn numbered(base: u32, digits: &[u8]) -> Option<char>
     char_of(value)
 }
 
-/// Returns the value of a digit of this base.
+/// Returns the value of a digit of this base, of either case. `None`: the byte is none.
 fn digit(base: u32, byte: u8) -> Option<u32>
     requires low { 2 ≤ base }
     requires high { base ≤ 16 }
@@ -50,7 +51,7 @@ fn char_of(number: u32) -> Option<char>
     }
 }
 
-/// Returns the character of one of the five entities.
+/// Returns the character of one of the five entities. `None`: another name.
 #[tactic(auto, unfolding(crate::specs::References::entity))]
 fn entity(name: &[u8]) -> Option<char>
     ensures { result ≡ entity name.now }
@@ -70,7 +71,7 @@ fn entity(name: &[u8]) -> Option<char>
     }
 }
 
-/// Returns the character that stands for what is between `&` and `;`.
+/// Returns the character for which a reference stands, by what is between its `&` and `;`. `values.rt` calls this too.
 #[tactic(auto, unfolding(crate::specs::References::referenced))]
 pub fn referenced(name: &[u8]) -> Option<char>
     ensures { result ≡ referenced name.now }

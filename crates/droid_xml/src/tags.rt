@@ -1,4 +1,4 @@
-//! Reads start tags.
+//! Reads start tags, each with all its attributes.
 
 ghost use Rattle.std.specs.Prelude.{◌≡◌, ◌≤◌, map};
 ghost use Rattle.std.specs.Option.{option_map};
@@ -41,7 +41,8 @@ fn tag_end(text: &[u8]) -> Option<(bool, &[u8])>
 /// The attributes of a tag, and what its end is.
 type Attributes<'a> = (Vec<Attribute<'a>>, (bool, &'a [u8]));
 
-/// Reads the attributes of a start tag, at most 64, and its end.
+/// Reads the attributes of a start tag, at most 64, and its end. This number stands in the clause,
+/// [`Problem::TooManyAttributes`] and [`Element`] too.
 fn attributes_at(alloc: Global, text: &[u8]) -> Result<Attributes<'_>, Stop>
     ensures { Gives (λ x. (map setting x.0.items, (x.1.0, x.1.1.now))) result (attributes_at 64 text.now) }
 {
@@ -76,7 +77,8 @@ fn one_more(alloc: Global, text: &[u8]) -> Stop
     stop
 }
 
-/// Reads a start tag behind its `<`. Returns the element and what follows the tag.
+/// Reads a start tag behind its `<`. Returns the element and what follows the tag. Two attributes of one name are not
+/// well-formed.
 #[tactic(auto, unfolding(crate::specs::Tags::start_tag_at))]
 pub fn start_tag_at(alloc: Global, text: &[u8]) -> Result<(Element<'_>, &[u8]), Stop>
     ensures { Gives (λ x. (tag x.0, x.1.now)) result (start_tag_at text.now) }

@@ -37,7 +37,7 @@ impl Draft {
         }
     }
 
-    /// Takes the next character. Returns whether it may stand there.
+    /// Takes the next character. Returns whether it may stand there: only the `;` of an unknown reference may not.
     fn take(&mut self, c: char) -> Result<bool, AllocError>
         ensures { IfOk result (λ is_right. after_char (partial self.old) c ≡ only_if is_right (partial self.new)) }
     {
@@ -59,7 +59,7 @@ impl Draft {
         }
     }
 
-    /// Takes a character outside of references.
+    /// Takes a character outside of references: `&` begins one, white space becomes a space, any other stays.
     fn take_plain(&mut self, c: char) -> Result<(), AllocError>
         requires { self.old.is_inside ≡ false }
         ensures { OnOk result (partial self.new ≡ plain (string_bytes self.old.text) c) }
@@ -73,7 +73,7 @@ impl Draft {
         Ok(())
     }
 
-    /// Returns the value, unless it ends inside a reference.
+    /// Returns the value, or `None` if it ends inside a reference.
     fn finish(self) -> Option<String>
         ensures { option_map (λ x. string_bytes x) result ≡ ended (partial self) }
     {
@@ -86,7 +86,7 @@ impl Draft {
     }
 }
 
-/// Makes white space a space.
+/// Returns a space for white space, and any other character as it is.
 fn spaced(c: char) -> char
     ensures { result ≡ spaced c }
 {
@@ -97,7 +97,8 @@ fn spaced(c: char) -> char
     }
 }
 
-/// Replaces the references in the text between quotes, and makes white space spaces.
+/// Replaces the references in the text between quotes, and makes its own white space spaces. A wrong reference is not
+/// well-formed.
 fn value_of(alloc: Global, text: &str) -> Result<String, Stop>
     ensures { Gives (λ x. string_bytes x) result (required (value_of (chars text.now))) }
 {
@@ -124,7 +125,8 @@ fn has_less(text: &str) -> bool
     text.as_bytes().contains(&b'<')
 }
 
-/// Reads a value behind its first quote. Returns it and what follows its last quote.
+/// Reads a value behind its first quote, up to the next `quote`. Returns it and what follows that quote. A `<` in it is
+/// not well-formed.
 #[tactic(auto, unfolding(crate::specs::Values::quoted_by))]
 fn quoted_by(alloc: Global, text: &[u8], quote: u8) -> Result<(String, &[u8]), Stop>
     ensures { Gives (λ x. (string_bytes x.0, x.1.now)) result (required (quoted_by quote text.now)) }

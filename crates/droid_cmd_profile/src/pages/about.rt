@@ -1,4 +1,4 @@
-//! What a page says of itself.
+//! The sentences in which a page says of what, when and by what it was made. Their words are those of `droid_report`.
 
 ghost use Rattle.std.specs.Prelude.{Some, option_map};
 ghost use Rattle.droid_cmd_profile.specs.Abouts.{about_text, hash_words, registry_words};
@@ -8,7 +8,7 @@ use droid_report::texts;
 use std::fmt;
 use std::fmt::{Display, Formatter, Write};
 
-/// What a page says of itself.
+/// What a page says of itself: prints its CSV, its time, its registry if that is known, its hash, and how it counts.
 #[derive(Clone, Copy)]
 pub(crate) struct About<'a> {
     /// When it was made, in UTC.
@@ -42,7 +42,7 @@ impl Display for About<'_> {
     }
 }
 
-/// Which registry identified the files, in words.
+/// Which registry identified the files, in words. Prints nothing if that is not known.
 #[derive(Clone, Copy)]
 struct RegistryWords<'a>(Option<&'a str>);
 

@@ -1,4 +1,4 @@
-//! The page of a profile's CSV.
+//! Makes the page of a profile's CSV from its bytes and texts: no clock and no file.
 
 ghost use Rattle.std.specs.Prelude.{◌≡◌, ℕ, List, IfOk, option_map, string_bytes};
 ghost use Rattle.csv.specs.Reading.{AreRecords, default_config, strip_bom};
@@ -46,7 +46,7 @@ pub fn page_of_csv(alloc: Global, csv: &[u8], texts: PageTexts<'_>) -> Result<St
     }
 }
 
-/// Makes the page of a report.
+/// Makes the page of a report: the counts and the hash of a CSV that was read. Fails only if memory runs out.
 fn page_of(alloc: Global, report: &Report, texts: PageTexts<'_>) -> Result<String, AllocError>
     ensures { IfOk result (λ page.
         IsPage texts.entry.title.now
@@ -59,7 +59,8 @@ fn page_of(alloc: Global, report: &Report, texts: PageTexts<'_>) -> Result<Strin
     Ok(page)
 }
 
-/// Returns the lines above the page's tables: what was profiled, when, and by which hash.
+/// Returns the lines above the page's tables: of which CSV it was made, when, by which registry, and which hash it has.
+/// Fails only if memory runs out.
 fn about_of(alloc: Global, texts: PageTexts<'_>, hash: HashKind) -> Result<String, AllocError>
     ensures { IfOk result (λ about.
         string_bytes about

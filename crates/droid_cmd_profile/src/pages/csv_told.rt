@@ -1,4 +1,4 @@
-//! What is told of a CSV that is none of a profile.
+//! How a command ends by a CSV that is none of a profile: for the commands above too.
 
 ghost use Rattle.std.specs.Prelude.{◌≡◌};
 ghost use Rattle.droid_cmd_profile.specs.Endings.{told_no_csv};
@@ -7,7 +7,8 @@ ghost use Rattle.droid_terminal.specs.Endings.{told};
 use droid_export::ListFault;
 use droid_terminal::{About, Detail, Ending, faults};
 
-/// Returns the ending where a profile's CSV is malformed or contradicts itself, or memory ran out.
+/// Returns the ending where the CSV at this path is malformed or contradicts itself, or memory ran out. Its sentence
+/// names the record and the column at fault, as far as there are such.
 pub fn told_no_csv<'a>(fault: ListFault, csv: &'a str) -> Ending<'a>
     ensures { told result ≡ told_no_csv fault csv.now }
 {

@@ -26,6 +26,7 @@ pub enum PageFault {
     Unwritten(WriteFault),
 }
 
+// The `ghost` line of each `from` is its contract.
 impl From<AllocError> for PageFault {
     ghost use Rattle.droid_cmd_profile.specs.declared.pages.page_fault.PageFault.TheVariants.{Memory};
 
@@ -49,7 +50,8 @@ impl From<ProfileFault> for PageFault {
     }
 }
 
-/// Returns the fault of the page of a CSV that the command itself made.
+/// Returns the fault of the page of a CSV that the command itself made: that memory ran out, or else that it was
+/// refused, which it never is.
 fn csv_fault(fault: ListFault) -> PageFault
     ensures { result ≡ csv_fault fault }
 {
@@ -60,7 +62,7 @@ fn csv_fault(fault: ListFault) -> PageFault
 }
 
 impl PageFault {
-    /// Returns the ending by the table, given the paths of the CSV and of the page.
+    /// Returns the ending by the table of faults, given the paths of the CSV and of the page, of which one is at fault.
     pub fn told<'a, R: Files>(self, rt: &R, csv: &'a str, page: &'a str) -> Ending<'a>
         ensures { TellsPage self csv.now page.now (told result) }
     {

@@ -1,4 +1,4 @@
-//! Writes a page.
+//! Writes a page to any writer.
 
 ghost use Rattle.std.specs.Prelude.{◌≡◌, ℕ, IfErr, OnOk};
 ghost use Rattle.std.specs.Io.KnownBytes.{Appends};
@@ -7,7 +7,8 @@ ghost use Rattle.droid_frame.specs.Writes.{StopsWithin, WritesOn};
 
 use droid_frame::{SteadyWrite, WriteFault, WriteState, write_all};
 
-/// Writes a page whole, or says how far it came. Interrupted writes are tried again, at most 64 times.
+/// Writes a page whole, or says how far it came. Interrupted writes are tried again, at most 64 times, by `write_all`
+/// of `droid_frame`.
 pub fn write_page<S: SteadyWrite>(writer: &mut S, page: &str) -> Result<(), WriteFault>
     ensures ok { OnOk result (Appends (S.contents writer.old) (S.contents writer.new) page.now) }
     ensures err { IfErr result (λ fault.

@@ -1,5 +1,6 @@
-//! The report on a profile in a file of this machine. It joins proved calls to files, without contracts, and is tested
-//! by `tests/program/report`.
+//! The command `report`: the page of a profile in a file of this machine. It joins proved calls to files, without
+//! contracts, and is tested by `check_report.py` of `tests/program/report` (`faults`), by `output_calls.py` of
+//! `tests/program/folders`, and by `reports_refused.py` of `tests/memory`.
 
 use crate::pages::csv_report::{page_now, put_page};
 use crate::pages::page_fault::PageFault;
@@ -32,7 +33,8 @@ where
     }
 }
 
-/// Makes the page, and writes it to a file, which must not be the CSV itself.
+/// Makes the page, and writes it to the file at `place`, which must not be the CSV itself. Whether it can be created is
+/// checked before the CSV is read. Without a page, an older file stays.
 fn report_to_file<R>(rt: &R, profile: &str, title: &str, place: &str) -> ReportEnding
 where
     R: Files<File = File> + Clock + AllocGlobal,
@@ -55,7 +57,7 @@ where
     }
 }
 
-/// Writes the page to its file.
+/// Writes the page to its file, and returns the ending.
 fn put<R: Files<File = File>>(output: Output<'_, R>, page: &str) -> ReportEnding {
     match put_page(output, page) {
         Ok(()) => ReportEnding::Whole,
@@ -78,7 +80,8 @@ where
     }
 }
 
-/// Reads the CSV and makes its page.
+/// Reads the CSV at the path `profile` whole and makes its page, which names no registry, since the CSV has none. Fails
+/// with the ending of the report.
 fn page_for<R>(rt: &R, profile: &str, title: &str) -> Result<String, ReportEnding>
 where
     R: Files<File = File> + Clock + AllocGlobal,
@@ -93,12 +96,12 @@ where
     }
 }
 
-/// Ends a report whose page was not written.
+/// Returns the ending of a report whose page was not written, by this fault.
 fn no_page(fault: PageFault) -> ReportEnding {
     ReportEnding::NoPage(fault)
 }
 
-/// Ends a report whose CSV could not be read.
+/// Returns the ending of a report whose CSV could not be read, for the system's reason. Out of memory has its own.
 fn unread(kind: ErrorKind) -> ReportEnding {
     match kind {
         ErrorKind::OutOfMemory => no_page(PageFault::Memory),

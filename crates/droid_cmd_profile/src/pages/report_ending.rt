@@ -1,4 +1,4 @@
-//! How a report ended, and what is told of it.
+//! How the command `report` ended, and what is told of it.
 
 ghost use Rattle.std.specs.Prelude.{◌≡◌, option_map};
 ghost use Rattle.droid_cmd_profile.specs.Endings.{told_no_profile, told_unread};
@@ -29,7 +29,7 @@ pub enum ReportEnding {
 impl ReportEnding {
     ghost use Rattle.droid_cmd_profile.specs.Endings.{Tells};
 
-    /// Returns the ending by the table, given the paths of the CSV and of the page.
+    /// Returns the ending by the table of faults, given the paths of the CSV and of the page, if that has one.
     pub fn told<'a, R: Files>(
         &'a self,
         rt: &R,
@@ -49,7 +49,7 @@ impl ReportEnding {
     }
 }
 
-/// Returns the ending where the CSV could not be read.
+/// Returns the ending where the CSV at this path could not be read: that it is missing, or the system's reason.
 fn told_unread<'a>(kind: ErrorKind, profile: &'a str) -> Ending<'a>
     ensures { told result ≡ told_unread kind profile.now }
 {
@@ -60,7 +60,7 @@ fn told_unread<'a>(kind: ErrorKind, profile: &'a str) -> Ending<'a>
     }
 }
 
-/// Returns the ending where the CSV is none of a profile.
+/// Returns the ending where the CSV at this path is none of a profile, or has a path twice, which is named.
 fn told_no_profile<'a>(fault: &'a ProfileFault, profile: &'a str) -> Ending<'a>
     ensures { told result ≡ told_no_profile fault.now profile.now }
 {

@@ -1,4 +1,5 @@
-//! The conditions under which requests are refused.
+//! The conditions under which requests are refused. `specs/Conditions.antt` and `Judging.antt` of droid_core_spec
+//! define them; the prover ties each number and each order here to them.
 
 pub mod options;
 pub mod paths;

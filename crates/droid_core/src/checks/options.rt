@@ -1,4 +1,7 @@
-//! The ranges of the numbers in requests, and which hash a reply can carry.
+//! The ranges of the numbers in requests, and which hash a reply can carry. Each number stands in
+//! `specs/Conditions.antt` of droid_core_spec too; the prover refuses another one here. docs/SERVICE has all of them,
+//! and the help of `script` (`help.rt` of droid_arguments) those of scan limit, pieces and parts; nothing ties these
+//! texts.
 
 ghost use Rattle.std.specs.Prelude.{◌≡◌, ◌<◌, IsTrue};
 ghost use Rattle.droid_core_spec.specs.Conditions.{is_scan_limit, is_piece_size, piece_size_limit, is_part_size};
@@ -6,7 +9,7 @@ ghost use Rattle.droid_core_spec.specs.Conditions.{is_too_large, is_md5, is_carr
 
 use droid_frame::HashKind;
 
-/// Returns whether a scan limit lies from 1 to 65,536.
+/// Returns whether a profile may have this scan limit, in bytes from each end of a file: 1 to 65,536.
 #[tactic(auto, using(crate::proofs::Meanings::scan_limit_is))]
 pub fn is_scan_limit(bytes: u32) -> bool
     ensures { result ≡ is_scan_limit bytes }
@@ -14,7 +17,8 @@ pub fn is_scan_limit(bytes: u32) -> bool
     1 <= bytes && bytes <= 65_536
 }
 
-/// Returns whether the size of a piece lies from 1 to 1,048,576 in version 1, and to 4,194,304 in version 2.
+/// Returns whether a file may have pieces of this many bytes: 1 to 1,048,576 in version 1, and to 4,194,304 in version
+/// 2.
 #[tactic(auto, using(crate::proofs::Meanings::piece_size_is))]
 pub(crate) fn is_piece_size(version: u8, bytes: u32) -> bool
     ensures same { result ≡ is_piece_size version bytes }
@@ -24,14 +28,15 @@ pub(crate) fn is_piece_size(version: u8, bytes: u32) -> bool
     1 <= bytes && bytes <= most
 }
 
-/// Returns the most bytes that a piece may have in a file that is announced in this version.
+/// Returns the most bytes that a piece may have in a file that is announced in this version. Callers have checked that
+/// it is 1 or 2.
 fn piece_size_limit(version: u8) -> u32
     ensures { result ≡ piece_size_limit version }
 {
     if version == 1 { 1_048_576 } else { 4_194_304 }
 }
 
-/// Returns whether the size of a part of an export lies from 1 to 1,048,576.
+/// Returns whether an Export may ask for a part of up to this many bytes: 1 to 1,048,576.
 #[tactic(auto, using(crate::proofs::Meanings::part_size_is))]
 pub(crate) fn is_part_size(max: u32) -> bool
     ensures { result ≡ is_part_size max }
@@ -39,7 +44,8 @@ pub(crate) fn is_part_size(max: u32) -> bool
     1 <= max && max <= 1_048_576
 }
 
-/// Returns whether a file has more than 2^40 bytes, or more than 1,048,576 pieces.
+/// Returns whether a file of this size, cut into pieces of this size, has more than 2^40 bytes (1,099,511,627,776), or
+/// more than 1,048,576 pieces.
 #[tactic(auto, using(crate::proofs::Meanings::too_large_is))]
 pub(crate) fn is_too_large(size: u64, piece_size: u32) -> bool
     requires { 0 < piece_size }
@@ -48,7 +54,8 @@ pub(crate) fn is_too_large(size: u64, piece_size: u32) -> bool
     1_099_511_627_776 < size || 1_048_576 < size.div_ceil(u64::from(piece_size))
 }
 
-/// Returns whether a Finished of this version can carry a hash of this kind.
+/// Returns whether a Finished of this version can carry a hash of this kind. Version 1 carries an MD5 alone, version 2
+/// any kind and none.
 pub fn is_carried(version: u8, hash: HashKind) -> bool
     ensures { result ≡ is_carried version hash }
 {
@@ -58,7 +65,7 @@ pub fn is_carried(version: u8, hash: HashKind) -> bool
     is_md5(hash)
 }
 
-/// Returns whether a profile's files get MD5s, as version 1 of a Finished needs them.
+/// Returns whether this is the kind MD5, as [`is_carried`] asks for version 1.
 fn is_md5(hash: HashKind) -> bool
     ensures { result ≡ is_md5 hash }
 {

@@ -1,4 +1,5 @@
-//! The first refusal of a request: the conditions that are checked behind its look-ups, in their order.
+//! The first refusal of a request: the conditions that are checked behind its look-ups, in their order. `Judging.antt`
+//! of droid_core_spec has this order, as `create_checks` and so on; in another one the prover refuses the function.
 
 ghost use Rattle.std.specs.Prelude.{◌≡◌, ◌<◌, ℕ, List, length, None, IsTrue, IfNone};
 ghost use Rattle.droid_assembly.specs.Pieces.{AreSizes};
@@ -14,7 +15,8 @@ use crate::checks::room::Room;
 use droid_core_spec::is_moment;
 use droid_frame::{Limit, Refusal};
 
-/// Returns the first refusal of a new profile, if there is one.
+/// Returns the first refusal of a CreateProfile, if there is one: BadOption for its scan limit, LimitReached for the
+/// profiles.
 pub fn create_refusal(scan_limit: u32, profiles: Room) -> Option<Refusal>
     ensures first { (limits : Limits) (world : World) → profiles.limit ≡ limits.profiles
         → profiles.count ≡ length world.profiles
@@ -31,7 +33,8 @@ pub fn create_refusal(scan_limit: u32, profiles: Room) -> Option<Refusal>
     None
 }
 
-/// Returns the first refusal of a new folder whose place and name are not refused, if there is one.
+/// Returns the first refusal of an AddFolder whose place and name are not refused, if there is one: BadOption for its
+/// moment, LimitReached for the profile's nodes.
 pub fn folder_refusal(modified: i64, nodes: Room) -> Option<Refusal>
     ensures first { (limits : Limits) (all : List Node) (parent : ℕ) (name : List ℕ) → nodes.limit ≡ limits.nodes
         → nodes.count ≡ length all
@@ -49,7 +52,9 @@ pub fn folder_refusal(modified: i64, nodes: Room) -> Option<Refusal>
     None
 }
 
-/// Returns the first refusal of a new file whose place and name are not refused, if there is one.
+/// Returns the first refusal of an AddFile whose place and name are not refused, if there is one: BadOption for its
+/// moment or its piece size in this version, TooLarge, LimitReached for the profile's nodes, LimitReached for the
+/// service's unfinished files.
 pub fn file_refusal(
     version: u8,
     modified: i64,
@@ -87,7 +92,7 @@ pub fn file_refusal(
     None
 }
 
-/// Returns the refusal of an export whose part may not have this many bytes.
+/// Returns the refusal of an Export whose part may not have this many bytes: BadOption, or `None`.
 pub fn export_refusal(max: u32) -> Option<Refusal>
     ensures first { result ≡ refusal_of (export_checks max) }
 {

@@ -1,4 +1,4 @@
-//! Counts beside their limits.
+//! A count beside its limit: whether there is room for one more.
 
 ghost use Rattle.std.specs.Prelude.{◌≡◌, nat_le};
 
@@ -12,7 +12,7 @@ pub struct Room {
 }
 
 impl Room {
-    /// Returns whether the count has reached the limit.
+    /// Returns whether the count has reached the limit, or is past it: then there is no room for one more.
     pub fn is_full(self) -> bool
         ensures { result ≡ nat_le self.limit self.count }
     {

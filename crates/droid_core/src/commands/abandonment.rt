@@ -13,7 +13,8 @@ use crate::replies::entry_of;
 use crate::stamps::Stamp;
 use droid_frame::{Refusal, Reply};
 
-/// Abandons an unfinished file, and drops its pieces.
+/// Abandons an unfinished file, and drops its pieces: first the store's row goes, with the reply kept, and then, which
+/// takes no memory, the assembly. Refuses as [`unfinished_file`].
 pub fn abandon(
     holdings: &mut Holdings,
     stamp: Stamp,

@@ -32,7 +32,9 @@ use droid_pronom::Registry;
 use droid_store::Store;
 use std::alloc::Global;
 
-/// Finishes a file: identifies it, keeps the finding, and drops its pieces.
+/// Finishes a file: identifies it, keeps the finding with the reply in one commit, and then drops its pieces, which
+/// takes no memory. Refuses as [`unfinished_file`], then with BadOption if a Finished of the stamp's version can't
+/// carry the hash of its profile, then with Incomplete if a piece is missing.
 pub fn finish(
     holdings: &mut Holdings,
     stamp: Stamp,
@@ -70,7 +72,8 @@ pub fn finish(
     Ok(reply)
 }
 
-/// Identifies the file at this place by its name and its profile's mode. No piece of it may be pending.
+/// Identifies the file at this place by its name and its profile's mode (`match_all`), which `row` has. Refuses with
+/// Incomplete, which has the first missing piece, or with Memory. No piece of it may be pending.
 fn identify_file(
     alloc: Global,
     files: &mut UnfinishedFiles,
@@ -111,7 +114,8 @@ fn is_of_kind(hash: HashValue, kind: HashKind) -> Result<(), Refusal>
     Ok(())
 }
 
-/// Keeps the finding and the reply with it.
+/// Keeps the finding and the reply with it, in one commit of the store, and returns the reply. Fails only if memory
+/// runs out, as long as each name and path in the rows is short; then nothing is kept.
 fn keep_finding(
     alloc: Global,
     store: &mut Store,
@@ -141,7 +145,8 @@ fn keep_finding(
     Ok(reply)
 }
 
-/// Returns the reply with the finding, and with a copy of the identifiers: the store gets the originals.
+/// Returns the reply Finished with the finding, and with a copy of the identifiers: the store gets the originals. Fails
+/// only if there is no memory.
 fn finished_reply(alloc: Global, finding: &Finding) -> Result<Reply, Refusal>
     requires well_formed { IsWellFormed finding.now }
     ensures reply { IfOk result (λ reply. reply ≡ finished_reply (finding_in finding.now)) }

@@ -1,4 +1,5 @@
-//! The look-up of a new node's place, and of the room that its profile has for one more.
+//! The look-up of a new node's place, and of the room that its profile has for one more. AddFolder and AddFile begin
+//! with it.
 
 ghost use Rattle.std.specs.Prelude.{◌≡◌, ◌≢◌, Some, None, IfOk, IfErr, OnOk};
 ghost use Rattle.droid_core_spec.specs.Setting.{Setting};
@@ -17,7 +18,8 @@ use droid_frame::{Refusal, Text};
 use droid_store::{NodeRow, NodeState, ProfileRow, Store, StoreFault};
 use std::alloc::Global;
 
-/// Returns the path of a new node of this folder, or the first refusal of its place and its name.
+/// Returns the path of a new node of this folder (0 is the top), or the first refusal of its place and its name, in
+/// this order: NoSuchNode, NotAFolder, BadName, PathTooLong, NameTaken. Memory may come at any of them.
 pub fn path_of_new(
     alloc: Global,
     store: &mut Store,
@@ -45,7 +47,8 @@ pub fn path_of_new(
     Ok(new_path(alloc, folder.as_str(), name)?)
 }
 
-/// Returns the path of a folder. That of the top is empty.
+/// Returns the path of the folder with this number; that of the top, number 0, is empty. Refuses with NoSuchNode or
+/// NotAFolder, in this order, or with Memory.
 fn folder_path(alloc: Global, store: &mut Store, profile: u32, parent: u32) -> Result<Text, Refusal>
     ensures same { store.new ≡ store.old }
     ensures found { (setting : Setting) (world : World) (its : Profile) → KeepsWorld setting world store.old
@@ -58,7 +61,7 @@ fn folder_path(alloc: Global, store: &mut Store, profile: u32, parent: u32) -> R
     path_of(row)
 }
 
-/// Returns the path of a node, or refuses the request if it is not a folder.
+/// Returns the path in this row of a node, or NotAFolder if the node is a file.
 fn path_of(row: NodeRow) -> Result<Text, Refusal>
     ensures folder { IfOk result (λ path. (row.state ≡ NodeState.Folder) × (path ≡ row.item.path)) }
     ensures file { IfErr result (λ refusal. (row.state ≢ NodeState.Folder) × (refusal ≡ Refusal.NotAFolder)) }
@@ -70,7 +73,8 @@ fn path_of(row: NodeRow) -> Result<Text, Refusal>
     }
 }
 
-/// Returns whether the store found the node. The store fails only if memory runs out.
+/// Returns, of what the store's look-up of a name in a folder returned, whether a node has that name. The store fails
+/// only if memory runs out, which becomes the refusal Memory.
 fn is_taken(found: Result<Option<u32>, StoreFault>) -> Result<bool, Refusal>
     requires memory { IfErr found (λ fault. fault ≡ StoreFault.Memory) }
     ensures reported { result ≡ taken_in found }
@@ -79,7 +83,7 @@ fn is_taken(found: Result<Option<u32>, StoreFault>) -> Result<bool, Refusal>
     Ok(found?.is_some())
 }
 
-/// Returns the number of nodes that a profile has had, and its limit.
+/// Returns the number of nodes that a profile has had, those that were abandoned included, and its limit.
 pub fn node_room(holdings: &Holdings, profile: ProfileRow) -> Room
     ensures count { result.count ≡ profile.nodes }
     ensures limit { result.limit ≡ holdings.now.limits.nodes }

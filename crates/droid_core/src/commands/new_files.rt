@@ -24,7 +24,9 @@ use droid_assembly::Assembly;
 use droid_frame::{HashKind, Refusal, Reply, Text};
 use std::alloc::Global;
 
-/// Adds a file to a profile, whose pieces are still to come.
+/// Adds a file to a profile, whose pieces are still to come. Its number is the count of nodes that the profile has had
+/// and 1. Refuses with NoSuchProfile, then as [`path_of_new`], then as [`file_refusal`]. Behind the commit nothing
+/// takes memory: the assembly is put into its reserved place.
 pub fn add_file(
     holdings: &mut Holdings,
     stamp: Stamp,
@@ -82,7 +84,7 @@ pub fn add_file(
     Ok(reply)
 }
 
-/// Returns the number of unfinished files of all profiles, and its limit.
+/// Returns the number of unfinished files of all profiles, and the service's limit on them.
 fn unfinished_room(holdings: &Holdings) -> Room
     ensures count { result.count ≡ length holdings.now.files.files }
     ensures limit { result.limit ≡ holdings.now.limits.unfinished }
@@ -93,8 +95,9 @@ fn unfinished_room(holdings: &Holdings) -> Room
     }
 }
 
-/// Returns the assembly of a new file whose sizes are in range. Fails if there is no memory. It cannot happen that the
-/// scan limit is out of range, since no profile has such a one; the code would answer Store.
+/// Returns the assembly of a new file whose sizes are in range, with its profile's scan limit and kind of hash. Fails
+/// if there is no memory. It cannot happen that the scan limit is out of range, since no profile has such a one; the
+/// code would answer Store.
 fn new_assembly(
     alloc: Global,
     size: u64,

@@ -15,7 +15,8 @@ use crate::replies::entry_of;
 use crate::stamps::Stamp;
 use droid_frame::{Refusal, Reply, Text};
 
-/// Adds a folder to a profile.
+/// Adds a folder to a profile, below the folder `parent` or, if that is 0, at the top. Its number is the count of nodes
+/// that the profile has had and 1. Refuses with NoSuchProfile, then as [`path_of_new`], then as [`folder_refusal`].
 pub fn add_folder(
     holdings: &mut Holdings,
     stamp: Stamp,

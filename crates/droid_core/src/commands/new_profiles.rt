@@ -18,7 +18,8 @@ use crate::replies::entry_of;
 use crate::stamps::Stamp;
 use droid_frame::{HashKind, Refusal, Reply};
 
-/// Makes a profile whose files get a hash of this kind.
+/// Makes an empty profile with this scan limit and this mode (`match_all`), whose files get a hash of this kind. Its
+/// number is the count of profiles and 1. Refuses as [`create_refusal`].
 pub fn create_profile(
     holdings: &mut Holdings,
     stamp: Stamp,
@@ -48,7 +49,8 @@ pub fn create_profile(
     Ok(reply)
 }
 
-/// Returns the number of profiles, which the store always knows, and its limit.
+/// Returns the number of profiles, which the store always knows, and the service's limit on them. Nothing of the
+/// holdings changes.
 fn profile_room(holdings: &mut Holdings) -> Room
     ensures count { result.count ≡ length holdings.old.store.profiles }
     ensures limit { result.limit ≡ holdings.old.limits.profiles }

@@ -25,7 +25,8 @@ use crate::unfinished::files::UnfinishedFiles;
 use droid_frame::{Blob, Refusal, Reply};
 use droid_store::{Entry, Store};
 
-/// Takes a piece of a file.
+/// Takes a piece of a file; its index is counted from 0. Replies how many pieces are held, this one included. Refuses
+/// as [`unfinished_file`], then as [`put_piece`]. The piece is pending until the reply to it is kept.
 pub fn take_piece(
     holdings: &mut Holdings,
     stamp: Stamp,
@@ -43,6 +44,8 @@ pub fn take_piece(
     let found = unfinished_file(&mut holdings.store, &holdings.files, profile, file)?;
     let held = holdings.files.held(found.place) + 1;
     let reply = Reply::Taken { held };
+    // Takes memory before the piece is checked and put: behind `put_piece` only `keep_piece` can fail, and that takes
+    // the piece back. A failure between the two would leave a pending piece behind.
     let entry = entry_of(holdings.alloc, stamp, &reply)?;
     put_piece(&mut holdings.files, found.place, index, bytes)?;
     keep_piece(
@@ -54,7 +57,8 @@ pub fn take_piece(
     Ok(reply)
 }
 
-/// Makes the piece the pending one of the file at this place, or refuses it.
+/// Makes the piece the pending one of the file at this place, or refuses it: BadPiece, PieceHeld or TooFarAhead, the
+/// first that holds. Takes no memory.
 fn put_piece(
     files: &mut UnfinishedFiles,
     place: usize,
@@ -81,7 +85,7 @@ fn put_piece(
 }
 
 /// Keeps the reply to the pending piece of the file at this place, and then takes the piece for good. If the reply is
-/// not kept, the piece is taken back.
+/// not kept, since memory ran out, the piece is taken back, and all is as it was before.
 fn keep_piece(
     store: &mut Store,
     files: &mut UnfinishedFiles,

@@ -25,7 +25,9 @@ use droid_store::Store;
 use std::alloc::Global;
 
 /// Returns a part of the text that shows the profile's records that meet the filter. Keeps the text for its further
-/// parts, and reads a kept one if it is the same.
+/// parts, and reads a kept one if it is the same. Refuses with NoSuchProfile or BadOption, in this order, or with
+/// Memory. A kept text of another export goes before the new one is made, so that not both take memory: if memory then
+/// runs out, none is kept.
 pub fn export(
     holdings: &mut Holdings,
     last: &mut Option<KeptText>,
@@ -61,7 +63,8 @@ pub fn export(
     Ok(reply)
 }
 
-/// Returns the records of a profile, each with a moment that can be written.
+/// Returns the records of a profile, each with a moment that can be written, as the export's text needs it. Fails only
+/// if there is no memory.
 fn records_in(store: &mut Store, profile: u32) -> Result<Vec<Record>, Refusal>
     ensures same { store.new ≡ store.old }
     ensures found { IfOk result (λ records. records.items ≡ records_of profile store.old) }
@@ -86,7 +89,8 @@ fn with_moments(records: Vec<Record>) -> Result<Vec<Record>, Refusal>
     Ok(records)
 }
 
-/// Returns whether each record has a moment that can be written.
+/// Returns whether each record has a moment that can be written: one of a year from 0001 to 9999, as `is_moment` of
+/// droid_core_spec tests.
 fn have_moments(records: &[Record]) -> bool
     ensures all { IsTrue result → HaveMoments records.now }
     ensures none { HaveMoments records.now → IsTrue result }
@@ -99,7 +103,7 @@ fn have_moments(records: &[Record]) -> bool
     true
 }
 
-/// Returns the number of accepted commands, which the store always knows.
+/// Returns the number of accepted commands, which the store always knows: the `as_of` of a part.
 fn accepted_by(store: &mut Store) -> u64
     ensures same { store.new ≡ store.old }
     ensures found { result ≡ length store.old.replies }
@@ -108,7 +112,9 @@ fn accepted_by(store: &mut Store) -> u64
     counts.accepted
 }
 
-/// Returns the part of a text from a place on. Only its own bytes are copied, once.
+/// Returns the reply with the part of a text that begins at `from`, counted from 0, and has at most `max` bytes. From
+/// the text's end on it has none. Only the part's own bytes are copied, once; that copy alone can fail. 1048576 in the
+/// clause is the most bytes of a part: `is_part_size`, and `PART_LIMIT` of droid_frame.
 fn part_of(alloc: Global, accepted: u64, text: &Blob, from: u64, max: u32) -> Result<Reply, Refusal>
     ensures part { IfOk result (λ reply. reply ≡ part accepted text.now from max) }
     ensures spelled { (version : ℕ) → max ≤ 1048576 → HasReplySpelling version (answered result) }

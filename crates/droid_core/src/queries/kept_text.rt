@@ -7,10 +7,12 @@ ghost use Rattle.droid_core.specs.declared.queries.kept_text.KeptText.{KeptText 
 use crate::queries::same_filters::are_same_filters;
 use droid_frame::{Blob, Filter};
 
-/// A longer text is not kept: 256 MiB.
+/// A longer text is not kept: 256 MiB. It is the `2 ^ 28` of `specs/KeptTexts.antt`; the prover refuses another number
+/// here. docs/DECISIONS has it too.
 const MOST_KEPT: usize = 268_435_456;
 
-/// The text of an export of a profile by a filter.
+/// The text of an export of a profile by a filter. It is kept until a command is accepted, or an export by another
+/// filter or of another profile makes its own text.
 #[derive(Drop)]
 pub struct KeptText {
     profile: u32,
@@ -18,7 +20,7 @@ pub struct KeptText {
     text: Blob,
 }
 
-/// Returns the kept text if it is of this profile and by this filter.
+/// Returns the kept text if it is of this profile and by this filter, otherwise `None`.
 pub fn text_for<'a>(last: &'a Option<KeptText>, profile: u32, filter: &Filter) -> Option<&'a Blob>
     ensures its { IfSome result (λ text. IsFor profile filter.now last.now) }
     ensures text { IfSome result (λ text. text.now ≡ bytes_in last.now) }
@@ -34,8 +36,8 @@ pub fn text_for<'a>(last: &'a Option<KeptText>, profile: u32, filter: &Filter) -
     Some(&kept.text)
 }
 
-/// Keeps the text in the place of another if this part leaves something of it unread and it is not too long. Takes no
-/// memory.
+/// Keeps the text in the place of another if this part, of at most `max` bytes from `from` on, leaves something of it
+/// unread and it is not too long. Otherwise no text is kept. Takes no memory.
 pub fn keep_text(
     last: &mut Option<KeptText>,
     profile: u32,
@@ -64,7 +66,8 @@ pub fn keep_text(
     });
 }
 
-/// Forgets the kept text and frees its memory.
+/// Forgets the kept text, if there is one, and frees its memory: an accepted command made it out of date, or another
+/// takes its place.
 pub fn forget_text(last: &mut Option<KeptText>)
     ensures { last.new ≡ None }
 {

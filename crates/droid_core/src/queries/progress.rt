@@ -18,7 +18,8 @@ use crate::holdings::Holdings;
 use crate::unfinished::files::UnfinishedFiles;
 use droid_frame::{Refusal, Reply};
 
-/// Returns how many pieces of a file were taken, and the first missing one.
+/// Returns how many pieces of a file were taken, and the first missing one. Of a finished file both are the number of
+/// its pieces. Refuses with NoSuchProfile, NoSuchNode or NotAFile, in this order, or with Memory.
 pub fn status(holdings: &mut Holdings, profile: u32, file: u32) -> Result<Reply, Refusal>
     ensures answers { (stamp : Stamp)
         → Answers (λ setting world. judge_status world profile file) stamp holdings.old holdings.new (answered result) }
@@ -34,7 +35,8 @@ pub fn status(holdings: &mut Holdings, profile: u32, file: u32) -> Result<Reply,
     })
 }
 
-/// Returns the progress of an unfinished file.
+/// Returns the progress of an unfinished file, from its assembly. It cannot happen that it has none; the code would
+/// answer Store.
 fn progress_of(files: &UnfinishedFiles, profile: u32, file: u32) -> Result<Reply, Refusal>
     ensures progress { IfOk result (λ reply.
         (world : World) (its : Profile) (parent : ℕ) (modified : ℤ) (name : List ℕ) (content : Content)
@@ -53,8 +55,8 @@ fn progress_of(files: &UnfinishedFiles, profile: u32, file: u32) -> Result<Reply
     })
 }
 
-/// Returns the number of pieces of a file of this size. It cannot happen that pieces have no bytes or that there are
-/// 2^32 or more, since no such file is accepted; the code would answer Store.
+/// Returns the number of pieces of a finished file, from the size and piece size in its row. It cannot happen that
+/// pieces have no bytes or that there are 2^32 or more, since no such file is accepted; the code would answer Store.
 fn count_of(size: u64, piece_size: u32) -> Result<u32, Refusal>
     ensures count { IfOk result (λ count. count ≡ piece_count size piece_size) }
     ensures fits { 0 < piece_size → piece_count size piece_size < 2 ^ 32 → IsOk result }

@@ -1,10 +1,12 @@
-//! Equality of filters, criterion by criterion.
+//! Equality of filters, criterion by criterion and in order. A filter that selects the same records by other criteria
+//! is another one.
 
 ghost use Rattle.std.specs.Prelude.{◌≡◌, IsTrue};
 
 use droid_frame::{Criterion, Filter, Text};
 
-/// Returns whether two filters join the same criteria in the same way.
+/// Returns whether two filters are equal: both join by all or both by any, and they have the same criteria in the same
+/// order.
 pub fn are_same_filters(one: &Filter, other: &Filter) -> bool
     ensures same { IsTrue result → one.now ≡ other.now }
     ensures found { one.now ≡ other.now → IsTrue result }
@@ -31,7 +33,7 @@ fn are_same_criteria(one: &[Criterion], other: &[Criterion]) -> bool
     true
 }
 
-/// Returns whether two criteria are the same.
+/// Returns whether two criteria are of one kind and ask for the same value.
 fn are_same(one: &Criterion, other: &Criterion) -> bool
     ensures same { IsTrue result → one.now ≡ other.now }
     ensures found { one.now ≡ other.now → IsTrue result }

@@ -44,13 +44,12 @@ use droid_store::Entry;
 pub struct Outcome {
     /// The reply.
     pub reply: Reply,
-    /// Returns whether the request is a new command that was accepted. A repeated command is not new, however old it
-    /// is.
+    /// Whether the request is a new command that was accepted. A repeated command is not new, however old it is.
     pub is_new: bool,
 }
 
 /// Answers the request of a frame. Looks for a kept reply under its number, first in the cache and then in the store,
-/// and judges the request if there is none.
+/// and judges the request if there is none. Answers Memory if the store has no memory for the look-up.
 pub fn answer(service: &mut Service, stamp: Stamp, request: Request) -> Outcome
     requires small { stamp.number < 2 ^ 63 }
     requires version { IsVersion stamp.version }
@@ -80,7 +79,8 @@ pub fn answer(service: &mut Service, stamp: Stamp, request: Request) -> Outcome
 }
 
 /// Answers a request under whose number the store keeps this row, and caches the row. If there is no memory to cache
-/// it, the reply is the same: another version or mark is refused as such, and only a Finished takes memory to be read.
+/// it, the reply is the same: another version or mark is refused as such, and only a Finished, the kind 132, takes
+/// memory to be read.
 fn answer_kept(service: &mut Service, stamp: Stamp, row: Entry) -> Reply
     requires found { reply_for stamp.client stamp.number service.old.holdings.store ≡ Some row }
     ensures answers { (request : RequestValue) → IsHandled stamp request service.old service.new result false }
@@ -114,7 +114,8 @@ fn answer_new(service: &mut Service, stamp: Stamp, request: Request) -> Outcome
 }
 
 /// Caches the reply to an accepted command, and forgets the text of the last export, which the command has made out of
-/// date. Does nothing after a query or a refusal. If there is no memory to cache the reply, nothing is reported.
+/// date. Does nothing after a query or a refusal. If there is no memory to cache the reply, nothing is reported. No
+/// clause says that it is cached; `recent.rt` names the tests.
 fn cache_reply(
     recent: &mut RecentReplies,
     last: &mut Option<KeptText>,
@@ -145,22 +146,24 @@ fn cache_reply(
     recent.put_reply(stamp, reply);
 }
 
-/// Returns whether a request is a command, which changes the service if it is accepted. The others are queries.
+/// Returns whether a request is a command, which changes the service if it is accepted: any but Status and Export,
+/// which are queries.
 fn asks_command(request: &Request) -> bool
     ensures { result ≡ is_command request.now }
 {
     !matches!(request, Request::Status { .. } | Request::Export { .. })
 }
 
-/// Returns whether a request is a command that was accepted.
+/// Returns whether a request is a command that was accepted: `commands` says that it is one, and its reply is no
+/// refusal.
 fn is_accepted(commands: bool, reply: &Reply) -> bool
     ensures { result ≡ (commands && not (is_refused reply.now)) }
 {
     commands && !reply.is_refused()
 }
 
-/// Judges a request under a new number, and carries out an accepted command. Keeps the text of an export that leaves
-/// something of it unread.
+/// Judges a request under a new number by its kind, and carries out an accepted command. Keeps the text of an export
+/// that leaves something of it unread in `last`.
 fn apply(
     holdings: &mut Holdings,
     last: &mut Option<KeptText>,

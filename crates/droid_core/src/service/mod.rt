@@ -40,7 +40,10 @@ use std::num::NonZeroUsize;
 mod answers;
 mod recent;
 
-/// How many replies a service caches, if nothing else is said.
+/// How many replies a service caches, if nothing else is said. `ensures cache` of [`Service::new`] has the same number,
+/// and the prover ties them; no reply depends on it. The number stands in `CACHED` of `droid_cmd_serve`
+/// (`journal.rt`), in `tests/program/repeats.py` and `journal/journal_files.py`, and in docs/PROMISES too; nothing ties
+/// those.
 const CACHED: usize = 256;
 
 /// The submission service: it judges requests, carries out the accepted ones, and keeps their replies for good. It
@@ -52,7 +55,8 @@ pub struct Service {
     last: Option<KeptText>,
 }
 
-// Written by hand, so that the crates above do not prove again how each part is dropped.
+// Frees its three fields, as a derived `Drop` would. Written by hand, so that the crates above do not prove again how
+// each part is dropped. No clause says more.
 impl Drop for Service {
     fn drop(self) {
         let Service {
@@ -224,8 +228,10 @@ impl Service {
     }
 
     /// Returns how many bytes of content are kept of the file with this number in this profile, or `None` if it is not
-    /// an unfinished file. They are at most 67,239,936, and at most 16,908,288 if version 1 allows pieces of the file's
-    /// size.
+    /// an unfinished file. They are at most 67,239,936 (two windows of 65,536, and 16 pieces of 4 MiB), and at most
+    /// 16,908,288 (two windows, and 16 pieces of 1 MiB) if version 1 allows pieces of the file's size. The clauses of
+    /// droid_assembly have the same numbers, from which the prover takes these; docs/SERVICE and docs/PROMISES have
+    /// them too.
     pub fn kept_bytes(&self, profile: u32, file: u32) -> Option<u64>
         ensures kept { (setting : Setting) (history : History) → StandsFor setting self.now history
             → result ≡ kept_bytes_of (world_of setting history) profile file }

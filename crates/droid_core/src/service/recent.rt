@@ -1,8 +1,12 @@
 //! The cache of kept replies, in which a service looks before it asks the store.
 //!
-//! Of the words that come with the kit's `lru`, `entries` is what is cached, the most recently used first, `cap` is
-//! how many entries there may be, `promoted` is these entries with one of them moved to the front, and `lru_cache`
-//! is the cache with such entries and such a `cap`.
+//! Of the words that come with the kit's `lru`, `entries` is what is cached, the most recently used first, `cap` is how
+//! many entries there may be, `promoted` is these entries with one of them moved to the front, and `lru_cache` is the
+//! cache with such entries and such a `cap`.
+//!
+//! Clauses say that what is cached is right, not that anything is: without a row the service asks the store, and
+//! replies the same. That rows are cached, and the least recently used one dropped, the tests `requests/cache.rt` of
+//! droid_service_tests hold.
 
 ghost use Rattle.std.specs.Prelude.{◌≡◌, ◌≤◌, [], length, IfOk, IfSome};
 ghost use Rattle.std.specs.NonZero.{non_zero_usize_get};
@@ -41,7 +45,7 @@ impl RecentReplies {
         })
     }
 
-    /// Returns how many rows are cached.
+    /// Returns how many rows are cached, at most the capacity.
     pub fn len(&self) -> usize
         ensures count { result ≡ length self.now.rows.entries }
         ensures bound { result ≤ self.now.rows.cap }
@@ -72,7 +76,8 @@ impl RecentReplies {
         copy_of(self.alloc, row)
     }
 
-    /// Caches the reply to the request with this stamp.
+    /// Caches the row of the reply to the request with this stamp, as the most recently used. If there is no memory for
+    /// the row, the cache stays as it was.
     pub fn put_reply(&mut self, stamp: Stamp, reply: &Reply)
         requires version { IsVersion stamp.version }
         requires spelled { HasReplySpelling stamp.version reply.now }
@@ -87,7 +92,8 @@ impl RecentReplies {
         self.put(stamp.client, stamp.number, row);
     }
 
-    /// Caches a copy of the row of this client and number.
+    /// Caches a copy of the row of this client and number, as the most recently used. If there is no memory for the
+    /// copy, the cache stays as it was.
     pub fn put_copy(&mut self, client: u32, number: u64, row: &Entry)
         ensures kept { (history : History) → AreKept history self.old.rows.entries
             → IsKeptRow history (client, number) row.now
@@ -100,7 +106,8 @@ impl RecentReplies {
         self.put(client, number, copy);
     }
 
-    /// Caches a row, and drops the one that was used least recently if there is no place left.
+    /// Caches a row, and drops the one that was used least recently if there is no place left. If there is no memory
+    /// for it, nothing is reported.
     fn put(&mut self, client: u32, number: u64, row: Entry)
         ensures kept { (history : History) → AreKept history self.old.rows.entries
             → IsKeptRow history (client, number) row
@@ -111,7 +118,7 @@ impl RecentReplies {
     }
 }
 
-/// Copies a row. Returns `None` if there is no memory.
+/// Copies a row, with its body. Returns `None` if there is no memory; that it does so only then no clause says.
 fn copy_of(alloc: Global, row: &Entry) -> Option<Entry>
     ensures { IfSome result (λ copy. copy ≡ row.now) }
 {

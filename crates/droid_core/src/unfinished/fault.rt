@@ -1,4 +1,4 @@
-//! Why an unfinished file is not identified.
+//! Why an unfinished file is not identified, and the refusal that the client gets for it.
 
 ghost use Rattle.std.specs.Prelude.{◌≡◌};
 
@@ -33,6 +33,7 @@ impl From<AllocError> for IdentifyFault {
 
     ghost from_gives = { λ _ fault. fault ≡ IdentifyFault.Memory };
 
+    /// Reports out of memory as `Memory`.
     fn from(_error: AllocError) -> IdentifyFault {
         IdentifyFault::Memory
     }
@@ -43,7 +44,7 @@ impl From<IdentifyFault> for Refusal {
 
     ghost from_gives = { λ fault refusal. refusal ≡ reported_as fault };
 
-    /// Returns the refusal that the client gets.
+    /// Returns the refusal that the client gets: Incomplete, with the first missing index, or Memory.
     fn from(fault: IdentifyFault) -> Refusal {
         match fault {
             IdentifyFault::Incomplete { missing } => Refusal::Incomplete { missing },

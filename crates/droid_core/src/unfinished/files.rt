@@ -1,4 +1,9 @@
-//! The unfinished files of a service.
+//! The unfinished files of a service, as a list. Each call on one of them names its place in the list, which
+//! [`UnfinishedFiles::place_of`] finds, and hands it to the file's assembly in droid_assembly.
+//!
+//! In the clauses 64 is the most unfinished files of a service (`Limits`), 65536 the largest scan limit
+//! (`is_scan_limit`), 16 how far ahead a piece may be (`AHEAD` of droid_assembly), and 2 ^ 20 the most pieces of a file
+//! (`is_too_large`). `Service::kept_bytes` says what 67239936 and 16908288 are made of.
 
 ghost use Rattle.std.specs.Prelude.{◌≡◌, ◌≢◌, ◌+◌, ◌*◌, ◌^◌, ◌<◌, ◌≤◌, ◌↔◌, ◌++◌, ◌∷◌, [], ℕ, List, length, min, Ok};
 ghost use Rattle.std.specs.Prelude.{Err, Some, None, IsTrue, IsOk, IfOk, IfSome, OnOk, OnErr, IsErrOf, IsSome, is_some};
@@ -28,7 +33,8 @@ pub struct UnfinishedFiles {
     limit: u32,
 }
 
-// Written by hand, so that the crates above do not prove again how each part is dropped.
+// Frees its two fields, as a derived `Drop` would. Written by hand, so that the crates above do not prove again how
+// each part is dropped. No clause says more.
 impl Drop for UnfinishedFiles {
     fn drop(self) {
         let UnfinishedFiles {
@@ -66,7 +72,7 @@ impl UnfinishedFiles {
         })
     }
 
-    /// Returns the number of files.
+    /// Returns the number of files, at most the limit and so at most 64.
     pub fn len(&self) -> u32
         ensures count { result ≡ length self.now.files }
         ensures within { result ≤ self.now.limit }
@@ -82,7 +88,7 @@ impl UnfinishedFiles {
         self.files.is_empty()
     }
 
-    /// Returns whether the limit is reached.
+    /// Returns whether the limit is reached, so that no file can be added.
     pub fn is_full(&self) -> bool
         ensures full { IsTrue result ↔ (length self.now.files ≡ self.now.limit) }
         ensures room { OnFalse result (length self.now.files < self.now.limit) }
@@ -90,7 +96,8 @@ impl UnfinishedFiles {
         self.len() == self.limit
     }
 
-    /// Returns the place of the file with this number in this profile, counted from 0.
+    /// Returns the place of the file with this number in this profile, counted from 0, or `None` if it is not in the
+    /// list.
     pub fn place_of(&self, profile: u32, file: u32) -> Option<usize>
         ensures none { (result ≡ None) ↔ (open_at profile file self.now.files ≡ None) }
         ensures place { IfSome result (λ place. slice_get self.now.files place ≡ open_at profile file self.now.files) }
@@ -102,7 +109,8 @@ impl UnfinishedFiles {
             .position(|other| other.profile == profile && other.file == file)
     }
 
-    /// Adds a file at the end. It must not be in the list yet.
+    /// Adds a file at the end, in a place that [`UnfinishedFiles::new`] reserved: takes no memory. It must not be in
+    /// the list yet.
     pub fn add(&mut self, profile: u32, file: u32, assembly: Assembly)
         requires room { length self.old.files < self.old.limit }
         requires fresh { open_at profile file self.old.files ≡ None }
@@ -191,7 +199,7 @@ impl UnfinishedFiles {
         self.files[place].assembly.settle();
     }
 
-    /// Returns the number of settled pieces of the file at this place.
+    /// Returns the number of settled pieces of the file at this place; a pending one is not counted.
     pub fn held(&self, place: usize) -> u32
         requires { place < length self.now.files }
         ensures count { At self.now place (λ file.
@@ -216,7 +224,7 @@ impl UnfinishedFiles {
         self.files[place].assembly.missing()
     }
 
-    /// Returns whether a piece of the file at this place is pending.
+    /// Returns whether a piece of the file at this place is pending: it was put, and is neither settled nor taken back.
     pub fn has_pending(&self, place: usize) -> bool
         requires { place < length self.now.files }
         ensures { At self.now place (λ file. result ≡ is_some file.pending) }

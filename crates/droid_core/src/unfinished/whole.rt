@@ -1,4 +1,7 @@
-//! The identification of one whole file.
+//! The identification of one whole file, behind `UnfinishedFiles::identify`.
+//!
+//! In the clauses 65536 is the largest scan limit (`is_scan_limit`), and 4096 the most identifiers of a Finished
+//! (`PUIDS_LIMIT` of droid_frame): a registry has no more formats.
 
 ghost use Rattle.std.specs.Prelude.{◌≡◌, ◌≤◌, List, length, None, IsTrue, IfOk};
 ghost use Rattle.std.specs.List.{AllByRecursion};
@@ -14,7 +17,9 @@ use droid_assembly::Assembly;
 use droid_pronom::{Found, Registry};
 use std::alloc::{AllocError, Global};
 
-/// Identifies one file by its name and its first and last bytes, where no piece of it is missing.
+/// Identifies one file by its name and its first and last bytes, where no piece of it is missing, and returns its size
+/// and hash too. `match_all`: a format with signatures may be found by its extension. Fails with the first missing
+/// piece, or if memory runs out.
 pub(crate) fn identify_whole(
     alloc: Global,
     file: &mut Assembly,
@@ -33,7 +38,8 @@ pub(crate) fn identify_whole(
     Ok(Finding { sealed, found })
 }
 
-/// Returns the formats that the registry finds in a file of which no piece is missing.
+/// Returns the formats that the registry finds in a file of which no piece is missing. `size` is the whole file's, in
+/// bytes. Fails only if there is no memory.
 fn find_in(
     alloc: Global,
     file: &mut Assembly,

@@ -1,4 +1,5 @@
-//! A list that is being read.
+//! A list that is being read record by record, as `csv` gives them, and whether a row repeats the one before it. After
+//! a fault nothing is promised of what was read: `read_profile` drops it.
 
 ghost use Rattle.std.specs.Prelude.{◌≡◌, [], Some, IfOk, OnOk};
 ghost use Rattle.std.specs.Option.{option_copied, option_map};
@@ -23,9 +24,12 @@ use std::mem;
 /// What was read so far.
 #[derive(Drop)]
 pub(crate) struct Draft {
+    // The header, once it was read.
     header: Option<Header>,
+    // How many records were read, the header among them.
     records: u64,
     rows: Rows,
+    // The row before the next one, with all columns.
     last: Option<ByteRecord>,
     formats: RowFormats,
 }
@@ -61,7 +65,7 @@ impl Draft {
         }
     }
 
-    /// Takes the first record, which has to be the header.
+    /// Takes the first record, which has to be the header; the fault is `Header` if it is not, or `Missing`.
     fn take_header(&mut self, alloc: Global, row: &ByteRecord) -> Result<(), ListFault>
         ensures draft { Leaves result (draft_of self.new)
             (profiles.with_header self.old.formats.kept (header_of (fields_of row.now))) }
@@ -73,7 +77,8 @@ impl Draft {
         }
     }
 
-    /// Begins the rows behind a header, if it has the columns that are needed.
+    /// Begins the rows behind a header, if it has the columns that are needed; otherwise the fault is `Missing`, with
+    /// the first one that it lacks.
     fn begin(&mut self, alloc: Global, header: Header) -> Result<(), ListFault>
         ensures draft { Leaves result (draft_of self.new)
             (profiles.with_header self.old.formats.kept (Some header)) }
@@ -111,7 +116,8 @@ impl Draft {
         self.take_row(alloc, header.hash, &mut wide)
     }
 
-    /// Takes a row: the first of an item, or one more of the item before.
+    /// Takes a row with all columns: the first of an item, or one more of the item before. `digest` is the kind of the
+    /// list's hashes.
     fn take_row(
         &mut self,
         alloc: Global,
@@ -140,7 +146,8 @@ impl Draft {
         }
     }
 
-    /// Returns what the records say.
+    /// Returns what all records say, after the last. The fault is `Header` if there was none, or that of
+    /// [`Rows::judge`].
     pub(crate) fn finish(self, alloc: Global) -> Result<Profile, ListFault>
         ensures items { Gives (items_in result)
             (finished (draft_of self).stage (draft_of self).records (draft_of self).rows) }
@@ -166,7 +173,7 @@ impl Draft {
     }
 }
 
-/// The columns that a list is read by. The last one only where the formats of its files are asked for.
+/// The columns that a list is read by. The tenth and last one only where the formats of its files are asked for.
 const NEEDED: [Column; 10] = [
     Column::Id,
     Column::ParentId,
@@ -180,14 +187,14 @@ const NEEDED: [Column; 10] = [
     Column::Puid,
 ];
 
-/// Returns the columns that a list is read by.
+/// Returns the columns that a list is read by; `formats` asks for the formats of its files.
 fn needed(formats: bool) -> &'static [Column]
     ensures { result.now ≡ profiles.needed formats }
 {
     if formats { &NEEDED } else { &NEEDED[..9] }
 }
 
-/// Keeps a row as the last one. Its place gets the last one before it, so that no row takes new memory.
+/// Keeps a row as the last one. `row` gets the one before it, to be read into again, so that no row takes new memory.
 fn keep_last(alloc: Global, last: &mut Option<ByteRecord>, row: &mut ByteRecord)
     ensures { option_map fields_of last.new ≡ Some (fields_of row.old) }
 {
@@ -219,7 +226,7 @@ fn are_same<R: Row>(last: &R, row: &R) -> bool
         .all(|column| has_same(last, row, *column))
 }
 
-/// Returns whether two rows have the same bytes in a column.
+/// Returns whether two rows have the same bytes in the column at a place.
 fn has_same<R: Row>(last: &R, row: &R, column: usize) -> bool
     ensures { result ≡ profiles.same_column (R.fields last.now) (R.fields row.now) column }
 {

@@ -1,4 +1,4 @@
-//! Why a list cannot be read.
+//! Why a list, or a row of it, cannot be read.
 
 ghost use Rattle.std.specs.Prelude.{◌≡◌};
 ghost use Rattle.droid_export.specs.Profiles.{fault_at};
@@ -61,7 +61,8 @@ pub(crate) enum RowFault {
     Column(Column),
 }
 
-/// Returns the fault of a list with these hashes whose record of this number has such a row.
+/// Returns the fault of a list whose record of this number has such a row. `hash` is the kind of the list's hashes,
+/// which a message needs to name their column.
 pub(crate) fn fault_at(number: u64, hash: HashKind, fault: RowFault) -> ListFault
     ensures { result ≡ fault_at number hash fault }
 {

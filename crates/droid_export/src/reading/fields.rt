@@ -1,4 +1,5 @@
-//! The fields of a row.
+//! Reads the fields of a row by which it becomes an item: where the item is, what it is, and its hash. `None` is a
+//! malformed field, which makes its column the row's fault; where a field may be empty, that is a value of its own.
 
 ghost use Rattle.std.specs.Prelude.{◌≡◌, ◌∷◌, IsTrue, Ok, Some, bytes_eq, length};
 ghost use Rattle.hex.specs.Hex.{decode_sized};
@@ -20,7 +21,7 @@ pub(crate) fn id_of(text: &[u8]) -> Option<u32>
     }
 }
 
-/// Returns the ID, if the number is one.
+/// Returns the ID, if the number is from 1 to 2^32 - 1.
 fn id_by(number: u64) -> Option<u32>
     ensures { result ≡ fields.id_by (Some number) }
 {
@@ -41,14 +42,14 @@ pub(crate) fn parent_of(text: &[u8]) -> Option<u32>
     id_of(text)
 }
 
-/// Reads the path of a folder or file.
+/// Reads the path of a folder or file: `/` and names, none of which is empty, `.` or `..`.
 pub(crate) fn path_of(text: &[u8]) -> Option<&[u8]>
     ensures { option_map (λ path. path.now) result ≡ fields.path_of text.now }
 {
     if is_file_path(text) { Some(text) } else { None }
 }
 
-/// Returns the path above, if a path ends in `/` and this name.
+/// Returns the path above, if a path ends in `/` and this name, and the name has no slash. It is empty at the top.
 pub(crate) fn above_of<'a>(path: &'a [u8], name: &[u8]) -> Option<&'a [u8]>
     ensures { option_map (λ above. above.now) result ≡ fields.above_of path.now name.now }
 {
@@ -57,7 +58,7 @@ pub(crate) fn above_of<'a>(path: &'a [u8], name: &[u8]) -> Option<&'a [u8]>
     if ends { Some(above) } else { None }
 }
 
-/// Returns whether a text is `/` and this name.
+/// Returns whether a text is `/` and this name. `droid_lists` asks it too.
 pub fn is_last(text: &[u8], name: &[u8]) -> bool
     ensures { result ≡ bytes_eq text.now (47 ∷ name.now) }
 {
@@ -67,14 +68,14 @@ pub fn is_last(text: &[u8], name: &[u8]) -> bool
     }
 }
 
-/// Returns whether a name has no slash.
+/// Returns whether a name has no slash, as one step of a path. `droid_lists` asks it too.
 pub fn has_no_slash(name: &[u8]) -> bool
     ensures { result ≡ fields.has_no_slash name.now }
 {
     name.iter().all(|byte| *byte != b'/')
 }
 
-/// Reads the length of an item: a number of bytes for a file, nothing for a folder.
+/// Reads SIZE: a number of bytes for a file; an empty field for a folder, which is `Some(None)`.
 pub(crate) fn length_of(kind: NodeKind, text: &[u8]) -> Option<Option<u64>>
     ensures { result ≡ fields.length_of kind text.now }
 {
@@ -87,7 +88,7 @@ pub(crate) fn length_of(kind: NodeKind, text: &[u8]) -> Option<Option<u64>>
     }
 }
 
-/// Reads a moment, or nothing.
+/// Reads LAST_MODIFIED: a moment of 19 bytes, or an empty field, which is `Some(None)`.
 pub(crate) fn moment_of(text: &[u8]) -> Option<Option<[u8; 19]>>
     ensures { result ≡ fields.moment_of text.now }
 {
@@ -106,7 +107,8 @@ pub(crate) fn moment_of(text: &[u8]) -> Option<Option<[u8; 19]>>
     }
 }
 
-/// Reads how many rows an item has: for a file one for each format, or one; nothing stands for the one of a folder.
+/// Reads FORMAT_COUNT as how many rows an item has: a file one for each format, and one if it has none; an empty field
+/// stands for the one row of a folder.
 pub(crate) fn rows_of(kind: NodeKind, text: &[u8]) -> Option<u64>
     ensures { result ≡ fields.rows_of kind text.now }
 {
@@ -119,7 +121,8 @@ pub(crate) fn rows_of(kind: NodeKind, text: &[u8]) -> Option<u64>
     }
 }
 
-/// Reads a hash of this kind: its hexadecimal digits, or nothing. A folder has none.
+/// Reads a hash of the list's kind (`digest`): its hexadecimal digits, or an empty field, which is
+/// `HashValue::Nothing`. A folder has none.
 pub(crate) fn hash_of(digest: HashKind, kind: NodeKind, text: &[u8]) -> Option<HashValue>
     ensures { result ≡ fields.hash_of digest kind text.now }
 {
@@ -132,7 +135,7 @@ pub(crate) fn hash_of(digest: HashKind, kind: NodeKind, text: &[u8]) -> Option<H
     }
 }
 
-/// Reads the hexadecimal digits of a hash of this kind.
+/// Reads the hexadecimal digits of a hash of this kind, in either case of letters. A list without hashes has no digits.
 fn digest_of(digest: HashKind, text: &[u8]) -> Option<HashValue>
     ensures { result ≡ fields.digest_of digest text.now }
 {
@@ -176,7 +179,7 @@ fn sha256_of(text: &[u8]) -> Option<HashValue>
 
 /// Fills `bytes` from hexadecimal digits; returns whether there were exactly enough digits. Unlike `hex` it looks at no
 /// digit before it goes on: which digits a hash has cannot be predicted, and each wrong guess of the processor costs as
-/// much as ten.
+/// much as ten. After `false` nothing is promised of `bytes`: `hex` is asked.
 fn is_decoded(text: &[u8], bytes: &mut [u8]) -> bool
     ensures { IsTrue result → decode_sized text.now (length bytes.old) ≡ Ok bytes.new }
 {
@@ -193,7 +196,7 @@ fn is_decoded(text: &[u8], bytes: &mut [u8]) -> bool
     most < 16
 }
 
-/// Returns the value of a hexadecimal digit, and 16 for another byte.
+/// Returns the value of a hexadecimal digit of either case, 0 to 15, and 16 for another byte.
 fn digit_of(c: u8) -> u8
     ensures { result ≡ fields.digit_of c }
 {

@@ -1,4 +1,5 @@
-//! Whether the rows of a list agree on the numbers of folders.
+//! Whether the rows of a list agree on the numbers (IDs) of folders. After a contradiction or an error nothing is
+//! promised of what was noted: `contradiction` ends.
 
 ghost use Rattle.std.specs.Prelude.{◌≡◌, ℕ, List, IfOk, take};
 ghost use Rattle.droid_export.specs.FolderMaps.{AllNoted, HasIds, Holds, Noted, RowNoted};
@@ -12,14 +13,15 @@ use droid_frame::{Item, NodeKind};
 use std::alloc::{AllocError, Global};
 use std::collections::{BTreeMap, BTreeSet};
 
-/// The numbers of folders that rows have said so far, both ways.
+/// The numbers of folders that rows have said so far, both ways: the path of each number, and the number of each path.
 #[derive(Drop)]
 pub(crate) struct Folders<'a> {
     numbers: BTreeMap<u32, &'a [u8]>,
     paths: BTreeMap<&'a [u8], u32>,
 }
 
-/// Returns the first row that contradicts rows before it.
+/// Returns the fault of the first row that contradicts rows before it, or `None`. `tags` has the tag of each item, at
+/// its place; its end ends the search. Fails only if memory runs out.
 pub(crate) fn contradiction(
     alloc: Global,
     items: &[Item],
@@ -49,7 +51,8 @@ pub(crate) fn contradiction(
     Ok(None)
 }
 
-/// Returns the first column by which a row contradicts the rows before it, and otherwise notes what it says.
+/// Returns the first column by which a row contradicts the rows before it: ID, where another row or folder has its
+/// number, or PARENT_ID. Otherwise notes what it says.
 fn column_against<'a>(
     ids: &mut BTreeSet<u32>,
     folders: &mut Folders<'a>,
@@ -75,7 +78,8 @@ fn column_against<'a>(
     Ok(None)
 }
 
-/// Notes what the row of a folder says of its own number. Returns whether this agrees with all that was noted.
+/// Notes what the row of a folder says of its own number. Returns whether this agrees with all that was noted. The row
+/// of a file says nothing of folders.
 fn note_own<'a>(folders: &mut Folders<'a>, item: &'a Item, tag: Tag) -> Result<bool, AllocError>
     ensures { IfOk result (λ agrees.
         (said : List Saying) → Holds folders.old said → AllNoted agrees folders.new said (own_sayings item.now tag)) }
@@ -89,7 +93,8 @@ fn note_own<'a>(folders: &mut Folders<'a>, item: &'a Item, tag: Tag) -> Result<b
     }
 }
 
-/// Notes what a row says of the number of the folder above. Returns whether this agrees with all that was noted.
+/// Notes what a row says of the number of the folder above. Returns whether this agrees with all that was noted. A row
+/// at the top says nothing.
 fn note_above<'a>(folders: &mut Folders<'a>, item: &'a Item, tag: Tag) -> Result<bool, AllocError>
     ensures { IfOk result (λ agrees.
         (said : List Saying) → Holds folders.old said → AllNoted agrees folders.new said (above_sayings item.now tag)) }
@@ -101,7 +106,7 @@ fn note_above<'a>(folders: &mut Folders<'a>, item: &'a Item, tag: Tag) -> Result
     Ok(agrees)
 }
 
-/// Returns the first bytes of a path.
+/// Returns the first `length` bytes of a path, or all of a shorter one.
 fn front(path: &[u8], length: usize) -> &[u8]
     ensures { result.now ≡ take length path.now }
 {

@@ -1,4 +1,4 @@
-//! The rows of a profile's CSV, as the formats of files.
+//! The formats that the rows of a profile's CSV give files, where they are asked for.
 
 ghost use Rattle.std.specs.Prelude.{◌≡◌, ◌++◌, [], OnOk};
 ghost use Rattle.droid_export.specs.FormatRows as formats;
@@ -27,7 +27,8 @@ pub(crate) struct RowFormats {
 }
 
 impl RowFormats {
-    /// Makes one for the time before the first row. Takes no memory.
+    /// Makes an empty list. `kept` says whether formats are asked for; without it the list stays empty. Takes no
+    /// memory.
     pub(crate) fn new(alloc: Global, kept: bool) -> RowFormats
         ensures kept { result.kept ≡ kept }
         ensures rows { result.rows.items ≡ [] }
@@ -38,7 +39,8 @@ impl RowFormats {
         }
     }
 
-    /// Adds the format of a row, if it is that of a file, and formats are kept.
+    /// Adds the format of a row with all columns, if it is that of a file, and formats are kept. Fails only if memory
+    /// runs out, and then nothing is promised of the rows: the readers drop them.
     pub(crate) fn add<R: Row>(&mut self, alloc: Global, row: &R) -> Result<(), AllocError>
         ensures kept { self.new.kept ≡ self.old.kept }
         ensures rows { OnOk result (self.new.rows.items
@@ -51,7 +53,7 @@ impl RowFormats {
     }
 }
 
-/// Appends the format of a row, if it is that of a file.
+/// Appends the path and the PUID of a row, if it is that of a file; an empty PUID too.
 fn add_row<R: Row>(alloc: Global, rows: &mut Vec<FormatRow>, row: &R) -> Result<(), AllocError>
     ensures { OnOk result (rows.new.items ≡ rows.old.items ++ formats.rows_of (R.fields row.now)) }
 {
@@ -63,7 +65,7 @@ fn add_row<R: Row>(alloc: Global, rows: &mut Vec<FormatRow>, row: &R) -> Result<
     Ok(())
 }
 
-/// Returns whether a row is that of a file.
+/// Returns whether TYPE says that a row is that of a file.
 fn is_file<R: Row>(row: &R) -> bool
     ensures { result ≡ formats.is_file (R.fields row.now) }
 {

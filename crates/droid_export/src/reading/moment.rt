@@ -1,4 +1,4 @@
-//! Moments as text.
+//! Whether a text is a moment, that is has the one form in which `src/moment.rt` writes moments.
 
 ghost use Rattle.std.specs.Prelude.{◌≡◌, ◌≤◌, pos};
 ghost use Rattle.jiff_core.specs.Calendar.{days_in_month, is_leap_year};
@@ -18,14 +18,14 @@ pub fn is_moment(text: &[u8; 19]) -> bool
     has_marks(text) && is_date(year, month, day) && is_time(hour, minute, second)
 }
 
-/// Returns whether the marks between the numbers stand in their places.
+/// Returns whether `-`, `T` and `:` stand in their places between the numbers.
 fn has_marks(text: &[u8; 19]) -> bool
     ensures { result ≡ moments.has_marks text.now }
 {
     text[4] == b'-' && text[7] == b'-' && text[10] == b'T' && text[13] == b':' && text[16] == b':'
 }
 
-/// Returns the number that two decimal digits stand for, and 10,000 for other bytes.
+/// Returns the number that two decimal digits stand for, and 10,000 for other bytes, which no part of a moment reaches.
 fn two_of(a: u8, b: u8) -> u32
     ensures value { result ≡ moments.two_of a b }
     ensures small { result ≤ 10000 }
@@ -49,7 +49,7 @@ fn is_date(year: u32, month: u32, day: u32) -> bool
         && day <= days_in_month(year, month)
 }
 
-/// Returns the number of days of a month.
+/// Returns the number of days of a month, from 1 to 12; 31 for another number, which `is_date` refuses before.
 fn days_in_month(year: u32, month: u32) -> u32
     ensures { result ≡ days_in_month (pos year) month }
 {
@@ -62,14 +62,14 @@ fn days_in_month(year: u32, month: u32) -> u32
     }
 }
 
-/// Returns whether a year has 366 days.
+/// Returns whether a year has 366 days, in the calendar of ISO 8601.
 fn is_leap_year(year: u32) -> bool
     ensures { result ≡ is_leap_year (pos year) }
 {
     year % 4 == 0 && (year % 100 != 0 || year % 400 == 0)
 }
 
-/// Returns whether a day has this time.
+/// Returns whether a day has this time; no minute has a second 60.
 fn is_time(hour: u32, minute: u32, second: u32) -> bool
     ensures { result ≡ moments.is_time hour minute second }
 {

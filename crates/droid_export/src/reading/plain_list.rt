@@ -1,4 +1,5 @@
-//! Lists whose rows are all plain.
+//! Reads lists whose rows are all plain, the fast way: `read_profile` tries it before `csv`. `None` is always allowed,
+//! and costs time alone, since `csv` then reads the list.
 
 ghost use Rattle.std.specs.Prelude.{◌≡◌, ℕ, List, None, IfOk, IfSome};
 ghost use Rattle.csv.specs.Reading.{AreRecords, default_config, strip_bom};
@@ -42,7 +43,8 @@ pub(crate) fn plain_profile(
     }
 }
 
-/// Reads the rows after the header.
+/// Reads the rows after the header, which are `text`. `digest` is the kind of hash that the header says, `formats` asks
+/// for the formats of the files. Returns `None` at the first row that is not plain, or is at fault.
 fn profile_of_rows(
     alloc: Global,
     digest: HashKind,

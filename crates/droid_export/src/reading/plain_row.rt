@@ -1,4 +1,5 @@
-//! Rows whose fields all stand between double quotes and have none in them.
+//! Plain rows: 18 fields that all stand between double quotes and have none in them. `None` is always allowed: `csv`
+//! then reads the list.
 
 ghost use Rattle.std.specs.Prelude.{◌≡◌, ◌<◌, [], IfSome, Some, length};
 ghost use Rattle.csv.specs.Machine.{next_record};
@@ -34,7 +35,8 @@ impl Row for PlainRow<'_> {
 }
 
 impl<'a> PlainRow<'a> {
-    /// Returns the row in front of a text, and what comes after its line feed, if the row is such.
+    /// Returns the row in front of a text, and what comes after its line feed; `None` if the row is not plain, or has
+    /// more or fewer fields than 18.
     pub(crate) fn first(text: &'a [u8]) -> Option<(PlainRow<'a>, &'a [u8])>
         ensures read { IfSome result (λ found.
             next_record default_config st.StartRecord [] [] text.now
@@ -56,7 +58,7 @@ impl<'a> PlainRow<'a> {
 }
 
 /// Returns the field between double quotes in front of a text, if it has none in it, and what comes after the mark
-/// behind it. `None` says nothing: `csv` then reads the list.
+/// behind it: a comma, or a line feed behind the last field. `None` says nothing: `csv` then reads the list.
 fn quoted(text: &[u8], mark: u8) -> Option<(&[u8], &[u8])>
     ensures { IfSome result (λ parts. IsQuoted mark text.now parts.0.now parts.1.now) }
 {
@@ -75,7 +77,7 @@ fn quoted(text: &[u8], mark: u8) -> Option<(&[u8], &[u8])>
     }
 }
 
-/// Returns the place of the first double quote.
+/// Returns the place of the first double quote, or `None` if there is none.
 fn first_quote(text: &[u8]) -> Option<usize>
     ensures { result ≡ position is_quote text.now }
 {

@@ -1,4 +1,4 @@
-//! The CSV of a profile.
+//! Reads the CSV of a profile: the fast way if its rows are plain, otherwise record by record.
 
 ghost use Rattle.std.specs.Prelude.{ℕ, List};
 ghost use Rattle.csv.specs.Reading.{AreRecords, default_config, strip_bom};

@@ -1,4 +1,4 @@
-//! What a row of a profile says.
+//! Reads a row with all columns, as an item and its place among others.
 
 ghost use Rattle.std.specs.Prelude.{◌≡◌, IfOk};
 ghost use Rattle.droid_export.specs.Profiles as profiles;
@@ -46,7 +46,8 @@ pub(crate) struct Entry {
     pub(crate) rows: u64,
 }
 
-/// Reads a row.
+/// Reads a row of a list with hashes of the kind `digest`. The inner result is what the row says, or what is wrong with
+/// it: the number of its fields, or its first wrong column. The outer one fails only if memory runs out.
 pub(crate) fn entry_of<R: Row>(
     alloc: Global,
     digest: HashKind,
@@ -98,7 +99,7 @@ fn parts_of<R: Row>(digest: HashKind, row: &R) -> Result<Parts, Column>
     })
 }
 
-/// Reads where a row says that its item is.
+/// Reads where a row says that its item is: ID, PARENT_ID, FILE_PATH and NAME. Returns the first wrong column.
 #[tactic(auto, unfolding(crate::specs::Profiles::spot_of))]
 fn spot_of<R: Row>(row: &R) -> Result<Spot, Column>
     ensures { result ≡ profiles.spot_of (R.fields row.now) }
@@ -110,7 +111,8 @@ fn spot_of<R: Row>(row: &R) -> Result<Spot, Column>
     spot_by(id, parent, above)
 }
 
-/// Returns the spot of an item. At the top it has no folder above it, and elsewhere it has one.
+/// Returns the spot of an item, from its ID, that of the folder above it (0 for none) and the path above its own (empty
+/// at the top). PARENT_ID is wrong if only one of the two says that the item is at the top.
 fn spot_by(id: u32, parent: u32, above: &[u8]) -> Result<Spot, Column>
     ensures { result ≡ profiles.spot_by id parent above.now }
 {

@@ -1,4 +1,5 @@
-//! The rows of a list.
+//! The rows of a list that were read so far: their items, and how many rows the last item still has to have. After a
+//! fault nothing is promised of them: the readers drop them.
 
 ghost use Rattle.std.specs.Prelude.{◌≡◌, ◌∷◌, ◌++◌, [], OnOk};
 ghost use Rattle.droid_export.specs.Profiles as profiles;
@@ -15,7 +16,9 @@ use std::alloc::{AllocError, Global};
 #[derive(Drop)]
 pub(crate) struct Rows {
     items: Vec<Item>,
+    // The tag of each item, at its place.
     tags: Vec<Tag>,
+    // How many rows of the last item are still to come.
     left: u64,
 }
 
@@ -24,7 +27,7 @@ impl Rows {
     ghost use Rattle.droid_export.specs.ReadingCalls.{Gives, Leaves, rows_of};
     ghost use Rattle.droid_export.specs.declared.reading.row.Entry.{Entry};
 
-    /// Makes rows before the first. Takes no memory.
+    /// Makes a list of no rows. Takes no memory.
     pub(crate) fn new(alloc: Global) -> Rows
         ensures { rows_of result ≡ profiles.no_rows }
     {
@@ -51,7 +54,7 @@ impl Rows {
         }
     }
 
-    /// Takes a row that repeats the one before it, if its item has one more row.
+    /// Takes a row that repeats the one before it, if its item has one more row; otherwise it contradicts FORMAT_COUNT.
     fn repeat(&mut self, number: u64) -> Result<(), ListFault>
         ensures { (entry : Entry)
             → Leaves result (rows_of self.new) (profiles.with_entry number (rows_of self.old) entry true) }
@@ -66,7 +69,8 @@ impl Rows {
         Ok(())
     }
 
-    /// Takes the first row of an item, if the item before has all its rows.
+    /// Takes the first row of an item, if the item before has all its rows; otherwise the record before contradicts
+    /// FORMAT_COUNT.
     fn begin(&mut self, number: u64, entry: Entry) -> Result<(), ListFault>
         ensures { Leaves result (rows_of self.new) (profiles.with_entry number (rows_of self.old) entry false) }
     {
@@ -88,7 +92,8 @@ impl Rows {
         Ok(())
     }
 
-    /// Returns the items of all rows, unless rows are missing at the end, or contradict each other.
+    /// Returns the items of all rows, unless rows are missing at the end, or contradict each other. `records` is the
+    /// number of all records, the header among them, and so that of the last one.
     pub(crate) fn judge(self, alloc: Global, records: u64) -> Result<Vec<Item>, ListFault>
         ensures { Gives result (profiles.judged records (rows_of self)) }
     {
@@ -106,7 +111,7 @@ impl Rows {
     }
 }
 
-/// Adds an item and its tag.
+/// Adds an item and its tag. Fails only if memory runs out, and then nothing is promised of both lists.
 fn add(items: &mut Vec<Item>, tags: &mut Vec<Tag>, item: Item, tag: Tag) -> Result<(), AllocError>
     ensures added { OnOk result (items.new.items ≡ items.old.items ++ item ∷ []) }
     ensures tagged { OnOk result (tags.new.items ≡ tags.old.items ++ tag ∷ []) }

@@ -1,4 +1,4 @@
-//! What a row says of its place among others.
+//! What is kept of a row to compare it with other rows.
 
 /// What the first row of an item says beside the item, to be compared with the other rows.
 #[derive(Clone, Copy)]

@@ -1,4 +1,5 @@
-//! The line of a file in a list of checksums.
+//! Writes the line of a file in a list of checksums: the digest in lower-case digits, two spaces, the path, a line
+//! feed.
 
 ghost use Rattle.std.specs.Prelude.{◌≡◌, ◌++◌, ◌∷◌, [], OnErr, OnOk};
 ghost use Rattle.std.specs.List.{list_any};
@@ -29,7 +30,7 @@ pub fn add_line(text: &mut Vec<u8>, hash: HashValue, path: &str) -> Result<(), A
     }
 }
 
-/// Returns a path without the slash in front, as lists have it.
+/// Returns a path without the one slash in front, if it has one, as lists have it.
 fn without_slash(path: &[u8]) -> &[u8]
     ensures { result.now ≡ writing.without_slash path.now }
 {
@@ -39,7 +40,8 @@ fn without_slash(path: &[u8]) -> &[u8]
     }
 }
 
-/// Returns the path as it is written: `md5sum -c` would read standard input for `-` alone.
+/// Returns the path as it is written: `-` as `./-`, because `md5sum -c` would read standard input for `-` alone; any
+/// other as it is.
 fn shown(path: &[u8]) -> &[u8]
     ensures { result.now ≡ writing.shown path.now }
 {
@@ -49,7 +51,8 @@ fn shown(path: &[u8]) -> &[u8]
     path
 }
 
-/// Appends the line of a file below the folder.
+/// Appends the line of a file whose path below the folder is written as `path`; nothing for a file without a hash.
+/// After an error `text` may end in part of a line: `add_line` cuts that off.
 fn add_line_below(text: &mut Vec<u8>, hash: HashValue, path: &[u8]) -> Result<(), AllocError>
     ensures added { OnOk result (text.new.items ≡ text.old.items ++ writing.line_below hash path.now) }
     ensures front { KeepsFront text.old.items text.new.items }
@@ -61,7 +64,8 @@ fn add_line_below(text: &mut Vec<u8>, hash: HashValue, path: &[u8]) -> Result<()
     }
 }
 
-/// Returns the 32 digits of an MD5. There is room for two digits of each byte, which is all that the encoder asks.
+/// Returns the 32 lower-case digits of an MD5. The encoder fails only where the buffer has not two digits for each
+/// byte, so never here.
 fn md5_digits(digest: [u8; 16]) -> [u8; 32]
     ensures { result ≡ encode_lower digest }
 {
@@ -72,7 +76,8 @@ fn md5_digits(digest: [u8; 16]) -> [u8; 32]
     }
 }
 
-/// Returns the 64 digits of a SHA-256, in the same way.
+/// Returns the 64 lower-case digits of a SHA-256. The encoder fails only where the buffer has not two digits for each
+/// byte, so never here.
 fn sha256_digits(digest: [u8; 32]) -> [u8; 64]
     ensures { result ≡ encode_lower digest }
 {
@@ -83,7 +88,7 @@ fn sha256_digits(digest: [u8; 32]) -> [u8; 64]
     }
 }
 
-/// Appends the line with these digits.
+/// Appends the line with these digits: an escaped one if the path has a byte that asks for it.
 fn add_line_by(text: &mut Vec<u8>, digits: &[u8], path: &[u8]) -> Result<(), AllocError>
     ensures added { OnOk result (text.new.items ≡ text.old.items ++ writing.line_by digits.now path.now) }
     ensures front { KeepsFront text.old.items text.new.items }
@@ -95,21 +100,21 @@ fn add_line_by(text: &mut Vec<u8>, digits: &[u8], path: &[u8]) -> Result<(), All
     }
 }
 
-/// Returns whether a path has a byte that is escaped.
+/// Returns whether a path has a byte that is escaped: then its whole line is written in the escaped form.
 fn has_escaped(path: &[u8]) -> bool
     ensures { result ≡ list_any spellings.is_escaped path.now }
 {
     path.iter().any(|byte| is_escaped(*byte))
 }
 
-/// Returns whether a byte of a path is written with a backslash.
+/// Returns whether a byte of a path is written with a backslash: a backslash, a line feed or a carriage return.
 fn is_escaped(byte: u8) -> bool
     ensures { result ≡ spellings.is_escaped byte }
 {
     byte == b'\\' || byte == b'\n' || byte == b'\r'
 }
 
-/// Appends the line of a file whose path has nothing to escape.
+/// Appends the line of a file whose path has nothing to escape. After an error `text` may end in part of it.
 fn add_plain_line(text: &mut Vec<u8>, digits: &[u8], path: &[u8]) -> Result<(), AllocError>
     ensures added { OnOk result (text.new.items ≡ text.old.items ++ writing.plain_line digits.now path.now) }
     ensures front { KeepsFront text.old.items text.new.items }
@@ -120,7 +125,8 @@ fn add_plain_line(text: &mut Vec<u8>, digits: &[u8], path: &[u8]) -> Result<(), 
     Ok(())
 }
 
-/// Appends the line of a file whose path is escaped, with a backslash in front.
+/// Appends the line of a file whose path is escaped, with a backslash in front of the digits. After an error `text` may
+/// end in part of it.
 fn add_escaped_line(text: &mut Vec<u8>, digits: &[u8], path: &[u8]) -> Result<(), AllocError>
     ensures added { OnOk result
         (text.new.items ≡ text.old.items ++ 92 ∷ writing.plain_line digits.now (spellings.escaped path.now)) }
@@ -133,7 +139,7 @@ fn add_escaped_line(text: &mut Vec<u8>, digits: &[u8], path: &[u8]) -> Result<()
     Ok(())
 }
 
-/// Appends the digits and two spaces.
+/// Appends the digits and the two spaces that stand before the path.
 fn add_digits(text: &mut Vec<u8>, digits: &[u8]) -> Result<(), AllocError>
     ensures added { OnOk result (text.new.items ≡ text.old.items ++ (digits.now ++ 32 ∷ 32 ∷ [])) }
     ensures front { KeepsFront text.old.items text.new.items }
@@ -143,7 +149,7 @@ fn add_digits(text: &mut Vec<u8>, digits: &[u8]) -> Result<(), AllocError>
     Ok(())
 }
 
-/// Appends a path with its bytes escaped.
+/// Appends a path, its backslashes, line feeds and carriage returns as `\\`, `\n` and `\r`.
 fn add_escaped(text: &mut Vec<u8>, path: &[u8]) -> Result<(), AllocError>
     ensures added { OnOk result (text.new.items ≡ text.old.items ++ spellings.escaped path.now) }
     ensures front { KeepsFront text.old.items text.new.items }
@@ -154,7 +160,8 @@ fn add_escaped(text: &mut Vec<u8>, path: &[u8]) -> Result<(), AllocError>
     Ok(())
 }
 
-/// Appends a byte of a path, escaped where it has to be.
+/// Appends a byte of a path: two characters if it is escaped, otherwise itself. The three cases are those of
+/// `is_escaped`.
 fn add_escaped_byte(text: &mut Vec<u8>, byte: u8) -> Result<(), AllocError>
     ensures added { OnOk result (text.new.items ≡ text.old.items ++ spellings.escaped_byte byte) }
     ensures front { KeepsFront text.old.items text.new.items }

@@ -1,4 +1,4 @@
-//! The digests of a list.
+//! Reads a digest in hexadecimal digits.
 
 ghost use Rattle.std.specs.Prelude.{◌≡◌};
 ghost use Rattle.droid_fixity.specs.Digests as digests;
@@ -6,7 +6,8 @@ ghost use Rattle.droid_fixity.specs.Digests as digests;
 use droid_frame::HashValue;
 use hex::FromHex;
 
-/// Returns the hash that hexadecimal digits of either case stand for: 32 digits are an MD5, 64 a SHA-256.
+/// Returns the hash that hexadecimal digits of either case stand for: 32 digits are an MD5, 64 a SHA-256. `None` for
+/// another number of bytes, or if one is no digit.
 pub(crate) fn hash_of(digits: &[u8]) -> Option<HashValue>
     ensures { result ≡ digests.hash_of digits.now }
 {
@@ -19,7 +20,7 @@ pub(crate) fn hash_of(digits: &[u8]) -> Option<HashValue>
     None
 }
 
-/// Reads an MD5 from 32 hexadecimal digits.
+/// Reads an MD5 from exactly 32 hexadecimal digits of either case, or returns `None`.
 pub(crate) fn md5_of(digits: &[u8]) -> Option<HashValue>
     ensures { result ≡ digests.md5_of digits.now }
 {
@@ -29,7 +30,7 @@ pub(crate) fn md5_of(digits: &[u8]) -> Option<HashValue>
     }
 }
 
-/// Reads a SHA-256 from 64 hexadecimal digits.
+/// Reads a SHA-256 from exactly 64 hexadecimal digits of either case, or returns `None`.
 pub(crate) fn sha256_of(digits: &[u8]) -> Option<HashValue>
     ensures { result ≡ digests.sha256_of digits.now }
 {

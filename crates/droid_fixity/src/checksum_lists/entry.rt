@@ -1,4 +1,4 @@
-//! The parts of a line that names a file.
+//! Splits a line that names a file into its parts: the hash, how the path is spelled, and the spelling.
 
 ghost use Rattle.std.specs.Prelude.{◌≡◌};
 ghost use Rattle.std.specs.List.{position};
@@ -10,7 +10,8 @@ use crate::checksum_lists::form::{Escapes, ManifestForm};
 use crate::checksum_lists::path::behind;
 use droid_frame::HashValue;
 
-/// Splits a line into the hash, how the path is spelled, and the spelling.
+/// Splits a line without its end into the hash, how the path is spelled, and the spelling. `None` if a list of this
+/// form has no such line; whether the path is right is seen later.
 pub(crate) fn entry_of(form: ManifestForm, line: &[u8]) -> Option<(HashValue, Escapes, &[u8])>
     ensures { option_map (λ entry. (entry.0, entry.1, entry.2.now)) result ≡ lines.entry_of form line.now }
 {
@@ -20,7 +21,8 @@ pub(crate) fn entry_of(form: ManifestForm, line: &[u8]) -> Option<(HashValue, Es
     }
 }
 
-/// Splits a line of `md5sum`, also one of `md5sum --tag`.
+/// Splits a line of `md5sum` or `sha256sum`, also one of `--tag`. No line is of both kinds: a tag begins with no
+/// digits.
 fn checksum_entry(line: &[u8]) -> Option<(HashValue, Escapes, &[u8])>
     ensures { option_map (λ entry. (entry.0, entry.1, entry.2.now)) result ≡ lines.checksum_entry line.now }
 {
@@ -30,7 +32,8 @@ fn checksum_entry(line: &[u8]) -> Option<(HashValue, Escapes, &[u8])>
     }
 }
 
-/// Reads a line of `md5sum`: digest, two spaces (or a space and `*`), path.
+/// Splits a line of `md5sum` or `sha256sum`: digest, two spaces (or a space and `*`), path. A backslash may stand in
+/// front.
 #[tactic(auto, unfolding(crate::specs::Lines::plain_entry))]
 fn plain_entry(line: &[u8]) -> Option<(HashValue, Escapes, &[u8])>
     ensures { option_map (λ entry. (entry.0, entry.1, entry.2.now)) result ≡ lines.plain_entry line.now }
@@ -41,7 +44,7 @@ fn plain_entry(line: &[u8]) -> Option<(HashValue, Escapes, &[u8])>
     Some((hash, escapes_of(line), text))
 }
 
-/// Reads a line of `md5sum --tag` or `sha256sum --tag`.
+/// Splits a line of `md5sum --tag` or `sha256sum --tag`. A backslash may stand in front.
 fn tag_entry(line: &[u8]) -> Option<(HashValue, Escapes, &[u8])>
     ensures { option_map (λ entry. (entry.0, entry.1, entry.2.now)) result ≡ lines.tag_entry line.now }
 {
@@ -49,7 +52,7 @@ fn tag_entry(line: &[u8]) -> Option<(HashValue, Escapes, &[u8])>
     Some((hash, escapes_of(line), text))
 }
 
-/// Splits a line of `md5sum --tag` or `sha256sum --tag` into the hash and the spelling of the path.
+/// Splits a line of `--tag`, without a backslash in front, into the hash and the spelling of the path.
 fn tag_parts(line: &[u8]) -> Option<(HashValue, &[u8])>
     ensures { option_map (λ parts. (parts.0, parts.1.now)) result ≡ lines.tag_parts line.now }
 {
@@ -59,7 +62,7 @@ fn tag_parts(line: &[u8]) -> Option<(HashValue, &[u8])>
     }
 }
 
-/// Reads a line `MD5 (PATH) = DIGEST`.
+/// Splits a line `MD5 (PATH) = DIGEST`. The digest is the last 32 bytes, so a path may have `) = ` in it.
 #[tactic(auto, unfolding(crate::specs::Lines::md5_tag, crate::specs::Lines::tagged))]
 fn md5_tag(line: &[u8]) -> Option<(HashValue, &[u8])>
     ensures { option_map (λ parts. (parts.0, parts.1.now)) result ≡ lines.md5_tag line.now }
@@ -71,7 +74,7 @@ fn md5_tag(line: &[u8]) -> Option<(HashValue, &[u8])>
     Some((hash, path))
 }
 
-/// Reads a line `SHA256 (PATH) = DIGEST`.
+/// Splits a line `SHA256 (PATH) = DIGEST`. The digest is the last 64 bytes, so a path may have `) = ` in it.
 #[tactic(auto, unfolding(crate::specs::Lines::sha256_tag, crate::specs::Lines::tagged))]
 fn sha256_tag(line: &[u8]) -> Option<(HashValue, &[u8])>
     ensures { option_map (λ parts. (parts.0, parts.1.now)) result ≡ lines.sha256_tag line.now }
@@ -83,7 +86,7 @@ fn sha256_tag(line: &[u8]) -> Option<(HashValue, &[u8])>
     Some((hash, path))
 }
 
-/// Splits a text before its last bytes, if it has so many.
+/// Splits a text before its last `count` bytes, or returns `None` if it has fewer.
 fn cut_last(count: usize, text: &[u8]) -> Option<(&[u8], &[u8])>
     ensures { option_map (λ parts. (parts.0.now, parts.1.now)) result ≡ lines.cut_last count text.now }
 {
@@ -94,7 +97,7 @@ fn cut_last(count: usize, text: &[u8]) -> Option<(&[u8], &[u8])>
     }
 }
 
-/// Returns what stands before a text, if that stands at the end.
+/// Returns what stands before the text `end`, or `None` if `text` does not end with it.
 fn before<'a>(end: &[u8], text: &'a [u8]) -> Option<&'a [u8]>
     ensures { option_map (λ front. front.now) result ≡ lines.before end.now text.now }
 {
@@ -104,7 +107,8 @@ fn before<'a>(end: &[u8], text: &'a [u8]) -> Option<&'a [u8]>
     }
 }
 
-/// Reads a line of a bag's manifest: digest, spaces or tabs, perhaps `*`, path.
+/// Splits a line of a bag's manifest: digest, spaces or tabs, perhaps `*`, path. Its path is always read with percent
+/// signs.
 #[tactic(auto, unfolding(crate::specs::Lines::bag_entry))]
 fn bag_entry(line: &[u8]) -> Option<(HashValue, Escapes, &[u8])>
     ensures { option_map (λ entry. (entry.0, entry.1, entry.2.now)) result ≡ lines.bag_entry line.now }
@@ -141,7 +145,7 @@ fn without_backslash(line: &[u8]) -> &[u8]
     }
 }
 
-/// Splits a line before its first space or tab.
+/// Splits a line before its first space or tab, which stays in the second part. `None` if it has neither.
 fn cut_at_gap(line: &[u8]) -> Option<(&[u8], &[u8])>
     ensures { option_map (λ parts. (parts.0.now, parts.1.now)) result ≡ lines.cut_at_gap line.now }
 {
@@ -151,14 +155,14 @@ fn cut_at_gap(line: &[u8]) -> Option<(&[u8], &[u8])>
     }
 }
 
-/// Returns the place of the first space or tab.
+/// Returns the place of the first space or tab, counted from 0.
 fn first_gap(line: &[u8]) -> Option<usize>
     ensures { result ≡ position lines.is_gap line.now }
 {
     line.iter().position(|byte| is_gap(*byte))
 }
 
-/// Returns the place of the first byte that is neither space nor tab.
+/// Returns the place of the first byte that is neither space nor tab, counted from 0.
 fn first_no_gap(line: &[u8]) -> Option<usize>
     ensures { result ≡ position lines.is_no_gap line.now }
 {
@@ -172,7 +176,7 @@ fn is_gap(byte: u8) -> bool
     byte == b' ' || byte == b'\t'
 }
 
-/// Returns what stands behind two spaces, or behind a space and `*`.
+/// Returns what stands behind two spaces, or behind a space and `*`, or `None` if `text` begins with neither.
 fn behind_mark(text: &[u8]) -> Option<&[u8]>
     ensures { option_map (λ rest. rest.now) result ≡ lines.behind_mark text.now }
 {
@@ -185,7 +189,7 @@ fn behind_mark(text: &[u8]) -> Option<&[u8]>
     }
 }
 
-/// Returns what stands behind spaces and tabs, without a `*` in front.
+/// Returns what stands behind the spaces and tabs in front, without a `*` before it. `None` if there is nothing else.
 fn behind_gaps(text: &[u8]) -> Option<&[u8]>
     ensures { option_map (λ rest. rest.now) result ≡ lines.behind_gaps text.now }
 {

@@ -1,4 +1,4 @@
-//! What a line says.
+//! Reads what a line says: the hash of a file, nothing, or that the line is at fault.
 
 ghost use Rattle.std.specs.Prelude.{◌≡◌, ◌∷◌, IfOk};
 ghost use Rattle.droid_fixity.specs.Lines as lines;
@@ -24,7 +24,8 @@ pub(crate) enum Meaning {
     Misplaced,
 }
 
-/// Reads a line.
+/// Reads a line without its end. A line that says nothing useful is a `Meaning`, not an error: it fails only if out of
+/// memory.
 pub(crate) fn meaning_of(
     alloc: Global,
     form: ManifestForm,
@@ -47,7 +48,8 @@ pub(crate) fn meaning_of(
     }
 }
 
-/// Returns what a line says that gives this hash to the file whose path is spelled so.
+/// Returns what a line says whose hash is this one and whose path below the folder is spelled as `text`. The item's
+/// path has a `/` in front, as those of a profile have.
 fn file_at(
     alloc: Global,
     hash: HashValue,
@@ -64,7 +66,8 @@ fn file_at(
     Ok(meaning_of_path(hash, path))
 }
 
-/// Returns what a line says that gives this hash to the file with this path.
+/// Returns what a line says whose hash is this one and whose path, with `/` in front, is this: the file, or `Misplaced`
+/// if it is no path of a file below the folder.
 fn meaning_of_path(hash: HashValue, path: Vec<u8>) -> Meaning
     ensures { result ≡ lines.meaning_by_path hash path.items }
 {
@@ -87,7 +90,7 @@ fn file_item(hash: HashValue, path: Blob) -> Item
     }
 }
 
-/// Returns whether a line says nothing: an empty one, or a comment.
+/// Returns whether a line says nothing: an empty one, or one that begins with `#`.
 fn is_blank(line: &[u8]) -> bool
     ensures { result ≡ lines.is_blank line.now }
 {

@@ -1,4 +1,4 @@
-//! Lists of checksums.
+//! Reads a list of checksums, line by line.
 
 ghost use Rattle.std.specs.Prelude.{◌≡◌, ◌++◌, ◌∷◌, [], Ok, OnOk};
 ghost use Rattle.std.specs.List.{slice_split};
@@ -17,8 +17,8 @@ use std::alloc::{AllocError, Global};
 /// Reads a list of checksums. Each line that names a file gives an item with its path and its hash.
 ///
 /// Paths begin with `/`, as those of a profile do; those of a bag's manifest are paths below the folder `data`. A path
-/// may stand twice. An error names the first line at fault, or says that the list names no file. docs/CHECKSUMS.md says
-/// which lines are accepted.
+/// may stand twice: `Inventory::of` refuses that. An error names the first line at fault, or says that the list names
+/// no file. docs/CHECKSUMS.md says which lines are accepted.
 pub fn read_manifest(
     alloc: Global,
     form: ManifestForm,
@@ -32,7 +32,7 @@ pub fn read_manifest(
     }
 }
 
-/// Returns the items, if there is one.
+/// Returns the items, or the fault `Empty` if there is none.
 fn if_some(items: Vec<Item>) -> Result<Vec<Item>, ManifestFault>
     ensures { Gives result (lists.some_items (Ok items.items)) }
 {
@@ -42,7 +42,8 @@ fn if_some(items: Vec<Item>) -> Result<Vec<Item>, ManifestFault>
     Ok(items)
 }
 
-/// Reads a text without a byte order mark. Only a bag's text with carriage returns is copied.
+/// Reads a text without a byte order mark. Only a bag's text with carriage returns is copied first, so that one byte
+/// ends each line.
 fn items_by(alloc: Global, form: ManifestForm, text: &[u8]) -> Result<Vec<Item>, ManifestFault>
     ensures { Gives result
         (lists.items_from form 1 [] (slice_split (texts.ends_line form) (texts.unpaired form text.now))) }
@@ -58,7 +59,8 @@ fn items_by(alloc: Global, form: ManifestForm, text: &[u8]) -> Result<Vec<Item>,
     }
 }
 
-/// Reads a text in which one byte ends each line.
+/// Reads a text in which one byte ends each line. Lines are numbered from 1, and the first one at fault ends the
+/// reading.
 fn items_in(alloc: Global, form: ManifestForm, text: &[u8]) -> Result<Vec<Item>, ManifestFault>
     ensures { Gives result (lists.items_from form 1 [] (slice_split (texts.ends_line form) text.now)) }
 {
@@ -74,7 +76,7 @@ fn items_in(alloc: Global, form: ManifestForm, text: &[u8]) -> Result<Vec<Item>,
     Ok(items)
 }
 
-/// Adds what a line says.
+/// Adds what the line `number` says to `items`. After a fault nothing is promised of `items`: `items_in` drops them.
 fn take(items: &mut Vec<Item>, number: u64, meaning: Meaning) -> Result<(), ManifestFault>
     ensures { lists.Leaves result items.new.items (lists.taken number items.old.items meaning) }
 {
@@ -86,7 +88,7 @@ fn take(items: &mut Vec<Item>, number: u64, meaning: Meaning) -> Result<(), Mani
     }
 }
 
-/// Adds the item of a line, if its hash is of the kind of those before it.
+/// Adds the item of the line `number`, or fails with `Digest` if its hash is of another kind than those before it.
 fn take_file(items: &mut Vec<Item>, number: u64, item: Item) -> Result<(), ManifestFault>
     ensures { lists.Leaves result items.new.items (lists.taken_file number items.old.items item) }
 {
@@ -97,7 +99,7 @@ fn take_file(items: &mut Vec<Item>, number: u64, item: Item) -> Result<(), Manif
     Ok(())
 }
 
-/// Appends an item.
+/// Appends an item. Fails only if out of memory, which `take_file` makes the fault `Memory`.
 fn add_item(items: &mut Vec<Item>, item: Item) -> Result<(), AllocError>
     ensures { OnOk result (items.new.items ≡ items.old.items ++ item ∷ []) }
 {
@@ -105,7 +107,7 @@ fn add_item(items: &mut Vec<Item>, item: Item) -> Result<(), AllocError>
     Ok(())
 }
 
-/// Returns whether a hash is of the kind of those before it, which are of one kind.
+/// Returns whether a hash is of the kind of the first item's, and so of all before it; true if it is the first.
 fn is_alike(items: &[Item], hash: HashValue) -> bool
     ensures { result ≡ lists.is_alike items.now hash }
 {
@@ -115,7 +117,7 @@ fn is_alike(items: &[Item], hash: HashValue) -> bool
     }
 }
 
-/// Returns a line without a carriage return at its end.
+/// Returns a line without the one carriage return at its end, if it has one. In a bag's text none is left.
 fn without_return(line: &[u8]) -> &[u8]
     ensures { result.now ≡ lines.without_return line.now }
 {

@@ -28,6 +28,7 @@ pub enum ManifestFault {
     },
 }
 
+// A call that runs out of memory ends the reading with `Memory`, by `?` alone.
 impl From<AllocError> for ManifestFault {
     ghost use Rattle.droid_fixity.specs.declared.checksum_lists.list_fault.ManifestFault.TheVariants.{Memory};
 

@@ -1,4 +1,4 @@
-//! How the bytes of a path are spelled.
+//! Reads the spelling of a path: the bytes that backslashes and percent signs stand for.
 
 ghost use Rattle.std.specs.Prelude.{◌≡◌, ◌++◌, Some, None, IfOk, OnOk, take, if◌then◌else◌};
 ghost use Rattle.std.specs.Option.{option_map};
@@ -7,7 +7,8 @@ ghost use Rattle.droid_fixity.specs.Spellings as spellings;
 use crate::checksum_lists::form::Escapes;
 use std::alloc::AllocError;
 
-/// Appends the bytes that a text spells. Returns false if it spells none.
+/// Appends the bytes that a text spells to `path`. Returns false if it spells none, which only `Backslash` can be;
+/// nothing is promised of `path` then, nor after an error.
 pub(crate) fn add_spelled(
     path: &mut Vec<u8>,
     escapes: Escapes,
@@ -33,7 +34,8 @@ pub(crate) fn add_spelled(
     }
 }
 
-/// Appends the bytes that a text with backslashes spells. Returns false if it spells none.
+/// Appends the bytes that a text with backslashes spells. Returns false if a backslash stands at the end, or before a
+/// letter that stands for nothing.
 fn add_unescaped(path: &mut Vec<u8>, text: &[u8]) -> Result<bool, AllocError>
     ensures { IfOk result (λ spells.
         (if spells then Some path.new.items else None)
@@ -56,7 +58,8 @@ fn add_unescaped(path: &mut Vec<u8>, text: &[u8]) -> Result<bool, AllocError>
     Ok(!opened)
 }
 
-/// Returns the byte that a letter behind a backslash stands for.
+/// Returns the byte that a letter behind a backslash stands for: `\\` a backslash, `n` a line feed, `r` a carriage
+/// return. `None` for any other letter.
 fn byte_behind_backslash(letter: u8) -> Option<u8>
     ensures { result ≡ spellings.byte_behind_backslash letter }
 {
@@ -71,7 +74,8 @@ fn byte_behind_backslash(letter: u8) -> Option<u8>
     }
 }
 
-/// Appends the bytes that a text with percent signs spells.
+/// Appends the bytes that a text with percent signs spells. Each text spells some: a sign that encodes nothing stands
+/// for itself.
 fn add_decoded(path: &mut Vec<u8>, text: &[u8]) -> Result<(), AllocError>
     ensures { OnOk result (path.new.items ≡ path.old.items ++ spellings.decoded text.now) }
 {
@@ -105,7 +109,8 @@ fn add_behind_percent(path: &mut Vec<u8>, text: &[u8]) -> Result<(), AllocError>
     Ok(())
 }
 
-/// Returns the byte that the first two digits behind a percent sign stand for.
+/// Returns the byte that the first two bytes behind a percent sign stand for, or `None` if they encode nothing or there
+/// are fewer.
 fn byte_in_front(text: &[u8]) -> Option<u8>
     ensures { result ≡ spellings.byte_behind_percent (take 2 text.now) }
 {
@@ -115,7 +120,8 @@ fn byte_in_front(text: &[u8]) -> Option<u8>
     }
 }
 
-/// Returns the byte that two digits behind a `%` stand for: a line feed, a carriage return or a percent sign.
+/// Returns the byte that two digits behind a `%` stand for: a line feed, a carriage return or a percent sign. `None`
+/// for all else, as RFC 8493 encodes nothing else.
 fn byte_behind_percent(digits: &[u8]) -> Option<u8>
     ensures { result ≡ spellings.byte_behind_percent digits.now }
 {

@@ -1,4 +1,4 @@
-//! The lines of a text.
+//! Finds where the lines of a list end: takes off its byte order mark, and leaves one byte at the end of each line.
 
 ghost use Rattle.std.specs.Prelude.{◌≡◌, ◌==◌, ◌&&◌, ◌++◌, ◌∷◌, [], IfOk, OnOk, false, not, if◌then◌else◌};
 ghost use Rattle.std.specs.List.{list_any};
@@ -8,7 +8,7 @@ use crate::checksum_lists::form::ManifestForm;
 use crate::checksum_lists::path::behind;
 use std::alloc::{AllocError, Global};
 
-/// Returns a text without a byte order mark in front.
+/// Returns a text without the UTF-8 byte order mark (EF BB BF) in front, if it has one.
 pub fn without_mark(text: &[u8]) -> &[u8]
     ensures { result.now ≡ texts.without_mark text.now }
 {
@@ -18,7 +18,7 @@ pub fn without_mark(text: &[u8]) -> &[u8]
     }
 }
 
-/// Returns whether a byte ends a line: in a bag a carriage return does, too.
+/// Returns whether a byte ends a line: a line feed does, and in a bag a carriage return, too.
 pub(crate) fn ends_line(form: ManifestForm, byte: u8) -> bool
     ensures { result ≡ texts.ends_line form byte }
 {
@@ -28,7 +28,8 @@ pub(crate) fn ends_line(form: ManifestForm, byte: u8) -> bool
     }
 }
 
-/// Returns whether a carriage return and a line feed may end one line of this text: so it is in a bag's manifest.
+/// Returns whether a carriage return and a line feed may end one line of this text, so that it has to be copied by
+/// `unpaired`: so it is in a bag's manifest that has a carriage return.
 pub(crate) fn has_returns(form: ManifestForm, text: &[u8]) -> bool
     ensures { result ≡ texts.has_returns form text.now }
 {
@@ -59,21 +60,23 @@ pub(crate) fn unpaired(alloc: Global, text: &[u8]) -> Result<Vec<u8>, AllocError
     Ok(copy)
 }
 
-/// Returns whether a byte is the second that ends a line; `after` says that a carriage return stands in front.
+/// Returns whether a byte is the second that ends a line: a line feed. `after` says that a carriage return stands right
+/// in front of it.
 fn is_second(after: bool, byte: u8) -> bool
     ensures { result ≡ (after && (byte == 10)) }
 {
     after && byte == b'\n'
 }
 
-/// Returns whether another byte may end the same line: only a line feed behind a carriage return does.
+/// Returns whether the next byte may be the second that ends a line, because this one is a carriage return. `second`
+/// says that this byte is itself a second, which no carriage return is.
 fn may_be_first(second: bool, byte: u8) -> bool
     ensures { result ≡ (not second && (byte == 13)) }
 {
     !second && byte == b'\r'
 }
 
-/// Adds a byte, unless it is the second that ends a line.
+/// Adds a byte to the copy, unless it is the second that ends a line.
 fn add_unless(copy: &mut Vec<u8>, second: bool, byte: u8) -> Result<(), AllocError>
     ensures { OnOk result (copy.new.items ≡ copy.old.items ++ (if second then [] else byte ∷ [])) }
 {

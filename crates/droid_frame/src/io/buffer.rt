@@ -1,4 +1,4 @@
-//! Reading into a buffer.
+//! Reading into a buffer: once, or until it is full.
 
 ghost use Rattle.std.specs.Prelude.{◌≡◌, ◌<◌, ◌≤◌, ℕ, IfOk, OnErr, length, take};
 ghost use Rattle.std.specs.Io.{ReadsAtMost};
@@ -10,7 +10,11 @@ use crate::io::retries::Retries;
 use crate::io::steady::SteadyRead;
 use crate::io::stream_fault::ReadFault;
 
-/// Reads once, as many bytes as the reader returns. An interrupted read is tried again.
+/// Reads once, as many bytes as the reader returns, to the front of the buffer, and returns how many. 0 means that the
+/// input has ended, or that the buffer is empty. An interrupted read is tried again.
+///
+/// `retries` counts these over all calls for one frame, file or text. A fault: the reader failed, or was interrupted
+/// for the 65th time. After it no byte was consumed.
 pub fn read_some<R: SteadyRead>(
     reader: &mut R,
     buffer: &mut [u8],
@@ -33,7 +37,11 @@ pub fn read_some<R: SteadyRead>(
     }
 }
 
-/// Fills the buffer, or less of it where the input ends, and returns how many bytes came. Allocates nothing.
+/// Fills the buffer, or less of it where the input ends, and returns how many bytes came: fewer than its length mean
+/// the end. Allocates nothing.
+///
+/// `retries` counts as in [`read_some`]. After a fault the bytes that came before it are lost: `err` says that they are
+/// fewer than the buffer's length, and nothing more.
 pub fn fill<R: SteadyRead>(
     reader: &mut R,
     buffer: &mut [u8],

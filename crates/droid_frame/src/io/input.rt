@@ -1,4 +1,4 @@
-//! Reading an input to its end.
+//! Reading an input of a limited length to its end.
 
 ghost use Rattle.std.specs.Prelude.{◌≡◌, ◌+◌, ◌<◌, ◌≤◌, ◌^◌, IfOk, OnOk, IfErr, IfSome, IsErrOf, length};
 ghost use Rattle.std.specs.Io.KnownBytes.{IsAtEnd};
@@ -11,11 +11,13 @@ use crate::io::steady::SteadyRead;
 use crate::io::stream_fault::InputFault;
 use std::alloc::Global;
 
-/// The most bytes that one read asks for.
+/// The most bytes that one read asks for. The contract holds for any other number above 0 too: it sets the room on the
+/// stack, and the number of reads.
 const CHUNK: usize = 8_192;
 
 /// Reads an input of at most `limit` bytes to its end. An interrupted read is tried again, up to 64 times over the
-/// whole input. Of a longer input only one byte past the limit is read.
+/// whole input. Of a longer input only one byte past the limit is read. After a fault all bytes that were read are
+/// dropped.
 pub fn read_to_end<R: SteadyRead>(
     alloc: Global,
     reader: &mut R,

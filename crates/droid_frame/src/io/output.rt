@@ -30,7 +30,7 @@ impl WriteState {
         }
     }
 
-    /// Returns the fault of a writer that stopped here.
+    /// Makes the fault of a writer that stopped here. The fault counts the bytes written so far.
     fn stopped(&self) -> WriteFault
         ensures { result.written ≡ self.now.written }
     {
@@ -40,8 +40,12 @@ impl WriteState {
     }
 }
 
-/// Writes some of the bytes and returns how many, or `None` where the writer stops. An interrupted write is tried
+/// Writes some of the bytes, the first ones, and returns how many; or `None` where the writer stops: it failed, took no
+/// byte, or was interrupted for the 65th time. Then none of these bytes was written. An interrupted write is tried
 /// again.
+///
+/// `bytes` has one at least, since a write of none would be taken for a writer that stops. `retries` counts over all
+/// calls for one frame or text.
 fn write_some<W: SteadyWrite>(writer: &mut W, bytes: &[u8], retries: &mut Retries) -> Option<usize>
     requires { 0 < length bytes.now }
     ensures bound { IfSome result (λ count. (0 < count) × (count ≤ length bytes.now)) }
@@ -68,8 +72,8 @@ fn write_some<W: SteadyWrite>(writer: &mut W, bytes: &[u8], retries: &mut Retrie
 
 /// Writes all of these bytes. Allocates nothing.
 ///
-/// After a fault only the first of the bytes were written. The fault counts them on top of those that earlier calls
-/// wrote.
+/// `progress` goes on over several calls for one frame or text, as for a frame's header and then its body. After a
+/// fault only the first of the bytes were written. The fault counts them on top of those that earlier calls wrote.
 pub fn write_all<W: SteadyWrite>(
     writer: &mut W,
     bytes: &[u8],

@@ -1,4 +1,7 @@
-//! Any stream of std, with a record of what it did.
+//! `Noted`: any stream of std, with a record of what it did.
+//!
+//! What is noted is held by the contracts of [`SteadyRead`] and [`SteadyWrite`]. The methods of std's `Read` and
+//! `Write` have the contracts of std, which say nothing of a record.
 
 ghost use Rattle.std.specs.Prelude.{◌≡◌, None};
 ghost use Rattle.droid_frame.specs.Seen.{fresh};
@@ -18,7 +21,7 @@ pub struct Noted<S> {
 }
 
 impl<S> Noted<S> {
-    /// Starts the record of a stream.
+    /// Starts the record of a stream: not used yet. What the stream did before is not in the record.
     pub fn new(stream: S) -> Noted<S>
         ensures stream { result.stream ≡ stream }
         ensures seen { result.seen ≡ fresh }
@@ -33,6 +36,7 @@ impl<S> Noted<S> {
 impl<R: Read> Read for Noted<R> {
     ghost remaining = { λ reader. R.remaining reader.stream };
 
+    /// Reads as [`SteadyRead::read_on`] does. That the read is noted no clause holds here.
     fn read(&mut self, buf: &mut [u8]) -> io::Result<usize> {
         self.read_on(buf)
     }
@@ -41,6 +45,7 @@ impl<R: Read> Read for Noted<R> {
 impl<R: Read> SteadyRead for Noted<R> {
     ghost seen = { λ reader. reader.seen };
 
+    /// Reads once from the stream, and notes whether that succeeded, was interrupted or failed.
     fn read_on(&mut self, buffer: &mut [u8]) -> io::Result<usize> {
         match self.stream.read(buffer) {
             Ok(count) => {
@@ -55,10 +60,12 @@ impl<R: Read> SteadyRead for Noted<R> {
 impl<W: Write> Write for Noted<W> {
     ghost contents = { λ writer. W.contents writer.stream };
 
+    /// Writes as [`SteadyWrite::write_on`] does. That the write is noted no clause holds here.
     fn write(&mut self, buf: &[u8]) -> io::Result<usize> {
         self.write_on(buf)
     }
 
+    /// Flushes the stream. A flush is neither a read nor a write, so it is not noted, whatever comes of it.
     fn flush(&mut self) -> io::Result<()> {
         self.stream.flush()
     }
@@ -69,6 +76,8 @@ impl<W: Write> SteadyWrite for Noted<W> {
 
     ghost room = { λ _. None };
 
+    /// Writes once to the stream, and notes whether that succeeded, was interrupted or failed. To take none of some
+    /// bytes is a failure.
     fn write_on(&mut self, bytes: &[u8]) -> io::Result<usize> {
         match self.stream.write(bytes) {
             Ok(0) if !bytes.is_empty() => {

@@ -7,7 +7,8 @@ ghost use Rattle.droid_frame.specs.Seen.{AddsError, Counts, GivesUp};
 use std::io::{Error, ErrorKind};
 use std::marker::Model;
 
-/// The most interrupted reads or writes that are tried again within one frame, file or text.
+/// The most interrupted reads or writes that are tried again within one frame, file or text. It goes with the 64 of the
+/// clauses in this file, and with the 64 and 65 in `specs/Seen.antt`: the prover refuses one without the other.
 pub const RETRY_LIMIT: u32 = 64;
 
 /// Counts the interruptions that were tried again so far, over all calls for one frame, file or text. Contracts see the
@@ -33,7 +34,9 @@ impl Retries {
         Retries { count: 0 }
     }
 
-    /// Returns whether the call that returned this error is tried again. If so, counts the interruption.
+    /// Returns whether the call that returned this error is to be tried again: it was an interruption, and fewer than
+    /// [`RETRY_LIMIT`] were counted. If so, counts it. `start` in the contract is the number of interruptions of the
+    /// stream when this frame, file or text began.
     pub(crate) fn allow(&mut self, error: &Error) -> bool
         ensures bound { self.new ≤ 64 }
         ensures one { IsTrue result → self.new ≡ self.old + 1 }

@@ -1,4 +1,5 @@
-//! Streams whose contracts record what they did.
+//! The traits by which this project reads and writes, [`SteadyRead`] and [`SteadyWrite`]: their contracts record what a
+//! stream did. Slices and std's sink have them here; `Noted` gives them to any other stream.
 //!
 //! A stream fails if it returns an error other than an interruption, or takes no byte of a write. The traits of std say
 //! nothing of failures, so this project reads and writes through these traits.
@@ -48,6 +49,8 @@ pub trait SteadyWrite: Write {
 impl SteadyRead for &[u8] {
     ghost seen = { λ _. fresh };
 
+    /// Reads from the slice's front. A slice is never interrupted and never fails, so its record stays that of a fresh
+    /// stream.
     fn read_on(&mut self, buffer: &mut [u8]) -> io::Result<usize> {
         self.read(buffer)
     }
@@ -58,6 +61,8 @@ impl SteadyWrite for &mut [u8] {
 
     ghost room = { λ bytes. Some (length bytes.now) };
 
+    /// Writes to the slice's front, as many bytes as it has room for. A full slice takes none, which is no failure: its
+    /// room is 0.
     fn write_on(&mut self, bytes: &[u8]) -> io::Result<usize> {
         self.write(bytes)
     }
@@ -68,6 +73,7 @@ impl SteadyWrite for io::Sink {
 
     ghost room = { λ _. None };
 
+    /// Takes all of the bytes and keeps none. Its room has no end.
     fn write_on(&mut self, bytes: &[u8]) -> io::Result<usize> {
         Ok(bytes.len())
     }

@@ -25,6 +25,7 @@ impl From<ReadFault> for InputFault {
 
     ghost from_gives = { λ _ fault. fault ≡ Read };
 
+    /// Reports that the reader failed, or was interrupted too often, as `Read`.
     fn from(_fault: ReadFault) -> InputFault {
         InputFault::Read
     }
@@ -35,6 +36,7 @@ impl From<AllocError> for InputFault {
 
     ghost from_gives = { λ _ fault. fault ≡ Memory };
 
+    /// Reports out of memory as `Memory`.
     fn from(_error: AllocError) -> InputFault {
         InputFault::Memory
     }

@@ -1,4 +1,4 @@
-//! The record of what a stream did so far.
+//! The record of what a stream did so far: how often it was interrupted, and whether it failed. `Noted` keeps one.
 
 ghost use Rattle.std.specs.Prelude.{◌≡◌};
 ghost use Rattle.droid_frame.specs.Seen.{AddsError, IsSound, after_failure, fresh};
@@ -36,7 +36,8 @@ impl Seen {
         }
     }
 
-    /// Notes a call that succeeded.
+    /// Notes a call that succeeded. Of a stream that hasn't failed that changes nothing; one that failed was used
+    /// since.
     pub(crate) fn note_success(&mut self)
         ensures sound { IsSound self.old → self.new ≡ self.old }
         ensures used { (IsSound self.old → ⊥) → self.new.condition ≡ Condition.UsedSince }
@@ -46,7 +47,7 @@ impl Seen {
         }
     }
 
-    /// Notes a call that failed.
+    /// Notes a call that failed: the stream's failure, or one more use of a stream that had failed before.
     pub(crate) fn note_failure(&mut self)
         ensures sound { IsSound self.old → self.new ≡ after_failure self.old }
         ensures used { (IsSound self.old → ⊥) → self.new.condition ≡ Condition.UsedSince }
@@ -58,8 +59,10 @@ impl Seen {
         };
     }
 
-    /// Notes an error and returns it. After 2^64 - 1 interruptions no further one can be counted: it is noted and
-    /// returned as a failure.
+    /// Notes an error and returns it: an interruption is counted, any other error is a failure. After 2^64 - 1
+    /// interruptions no further one can be counted: it is noted and returned as a failure.
+    ///
+    /// Of a stream that had failed before, only that it was used since is promised, not its count.
     pub(crate) fn note_error(&mut self, error: Error) -> Error
         ensures sound { IsSound self.old → AddsError self.old self.new result }
         ensures used { (IsSound self.old → ⊥) → self.new.condition ≡ Condition.UsedSince }

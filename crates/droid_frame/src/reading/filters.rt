@@ -1,4 +1,9 @@
-//! Readers of filters.
+//! Readers of filters, from the front of the bytes.
+//!
+//! The functions `after_..` check bytes and skip them, and allocate nothing. Those that make lists allocate as they
+//! read; only [`filter_of`] is called from outside, and it checks all bytes first. The prover ties the two ways to one
+//! definition, and the tags 1 to 7 of the criteria to `criterion_bytes` of `specs/Filters.antt`, which
+//! `append_criterion` writes.
 
 ghost use Rattle.std.specs.Prelude.{◌≡◌, is_some};
 ghost use Rattle.std.specs.Option.{option_map};
@@ -17,7 +22,8 @@ use crate::reading::fields::{bool_at, method_at, u8_at, u64_at};
 use crate::texts::Texts;
 use std::alloc::Global;
 
-/// Reads the filter that the bytes spell, with none left over. Checks all of them before it allocates.
+/// Reads the filter that the bytes spell, with none left over. Checks all of them before it allocates: `Malformed` if
+/// they spell none, `Memory` if memory runs out for one.
 #[tactic(auto, unfolding(crate::specs::FilterValues::filter_value, crate::specs::Reading::whole))]
 pub(crate) fn filter_of(alloc: Global, bytes: &[u8]) -> Result<Filter, BodyFault>
     ensures { IsAnswer result (filter_value bytes.now) }
@@ -40,7 +46,7 @@ fn is_filter(bytes: &[u8]) -> bool
     }
 }
 
-/// Skips a filter, and returns the bytes after it. Allocates nothing.
+/// Skips a filter, and returns the bytes after it, or `None` if there is none at the front. Allocates nothing.
 #[tactic(auto, unfolding(crate::specs::FilterValues::filter_at, crate::specs::SequenceFields::counted_at))]
 fn after_filter(bytes: &[u8]) -> Option<&[u8]>
     ensures { option_map (λ rest. rest.now) result ≡ option_map (λ x. x.1) (filter_at bytes.now) }
@@ -50,7 +56,8 @@ fn after_filter(bytes: &[u8]) -> Option<&[u8]>
     after_criteria(usize::from(count), rest)
 }
 
-/// Returns the bytes behind this many criteria, or `None` if they are malformed.
+/// Skips this many criteria, and returns the bytes after them, or `None` if one is missing or malformed. Allocates
+/// nothing.
 fn after_criteria(count: usize, bytes: &[u8]) -> Option<&[u8]>
     ensures { option_map (λ rest. rest.now) result ≡ option_map (λ x. x.1) (sequence_at criterion_at count bytes.now) }
 {
@@ -61,7 +68,8 @@ fn after_criteria(count: usize, bytes: &[u8]) -> Option<&[u8]>
     Some(rest)
 }
 
-/// Returns the bytes behind a criterion, or `None` if it is malformed.
+/// Skips a criterion, and returns the bytes after it, or `None` if it is missing or malformed, or its tag is unknown.
+/// Allocates nothing.
 #[tactic(auto, unfolding(crate::specs::FilterValues::criterion_at, crate::specs::FilterValues::tagged_at))]
 fn after_criterion(bytes: &[u8]) -> Option<&[u8]>
     ensures { option_map (λ rest. rest.now) result ≡ option_map (λ x. x.1) (criterion_at bytes.now) }
@@ -77,7 +85,8 @@ fn after_criterion(bytes: &[u8]) -> Option<&[u8]>
     }
 }
 
-/// Returns the bytes behind a list of texts, or `None` if it is malformed.
+/// Skips a list of texts: its count in one byte, and texts of 0 to 255 bytes. Returns the bytes after it, or `None` if
+/// it is malformed. Allocates nothing.
 #[tactic(auto, unfolding(crate::specs::FilterValues::list_at, crate::specs::SequenceFields::counted_at))]
 fn after_list(bytes: &[u8]) -> Option<&[u8]>
     ensures { option_map (λ rest. rest.now) result ≡ option_map (λ x. x.1) (list_at bytes.now) }
@@ -98,7 +107,8 @@ fn filter_at(alloc: Global, bytes: &[u8]) -> Result<(Filter, &[u8]), BodyFault>
     Ok((Filter { all, criteria }, rest))
 }
 
-/// Reads this many criteria.
+/// Reads this many criteria, and returns them and the bytes after them. `Malformed` if one is missing or malformed.
+/// Callers have checked the bytes.
 fn criteria_at(alloc: Global, count: usize, bytes: &[u8]) -> Result<(Criteria, &[u8]), BodyFault>
     ensures { Gives (λ x. (x.0, x.1.now)) result (sequence_at criterion_at count bytes.now) }
 {
@@ -112,7 +122,8 @@ fn criteria_at(alloc: Global, count: usize, bytes: &[u8]) -> Result<(Criteria, &
     Ok((criteria, rest))
 }
 
-/// Reads a criterion: its tag, and what the tag says that follows.
+/// Reads a criterion: its tag, and what the tag says that follows. `Malformed` if it is missing or malformed, or its
+/// tag is unknown.
 #[tactic(auto, unfolding(crate::specs::FilterValues::criterion_at))]
 fn criterion_at(alloc: Global, bytes: &[u8]) -> Result<(Criterion, &[u8]), BodyFault>
     ensures { Gives (λ x. (x.0, x.1.now)) result (criterion_at bytes.now) }
@@ -121,7 +132,7 @@ fn criterion_at(alloc: Global, bytes: &[u8]) -> Result<(Criterion, &[u8]), BodyF
     tagged_at(alloc, tag, rest)
 }
 
-/// Reads what stands behind this tag of a criterion.
+/// Reads what stands behind this tag of a criterion: a list of texts behind 2 and 3, otherwise what [`plain_at`] reads.
 #[tactic(auto, unfolding(crate::specs::FilterValues::tagged_at, crate::specs::FilterValues::puid_in_at, crate::specs::FilterValues::ext_in_at))]
 fn tagged_at(alloc: Global, tag: u8, bytes: &[u8]) -> Result<(Criterion, &[u8]), BodyFault>
     ensures { Gives (λ x. (x.0, x.1.now)) result (tagged_at tag bytes.now) }
@@ -139,7 +150,7 @@ fn tagged_at(alloc: Global, tag: u8, bytes: &[u8]) -> Result<(Criterion, &[u8]),
     }
 }
 
-/// Reads a list of texts.
+/// Reads a list of texts: its count in one byte, and texts of 0 to 255 bytes.
 #[tactic(auto, unfolding(crate::specs::FilterValues::list_at, crate::specs::SequenceFields::counted_at))]
 fn list_at(alloc: Global, bytes: &[u8]) -> Result<(Texts, &[u8]), BodyFault>
     ensures { Gives (λ x. (x.0, x.1.now)) result (list_at bytes.now) }
@@ -148,7 +159,8 @@ fn list_at(alloc: Global, bytes: &[u8]) -> Result<(Texts, &[u8]), BodyFault>
     texts_at(alloc, usize::from(count), 0, 255, rest)
 }
 
-/// Reads the value of a criterion that has no list, given its tag. Allocates nothing.
+/// Reads the value of a criterion that has no list, given its tag. `None` if it is malformed, or if the tag is 2, 3 or
+/// unknown. Allocates nothing.
 #[tactic(auto, unfolding(crate::specs::FilterValues::plain_at, crate::specs::FilterValues::method_is_at, crate::specs::FilterValues::mismatch_is_at, crate::specs::FilterValues::size_at_least_at, crate::specs::FilterValues::size_at_most_at, crate::specs::FilterValues::kind_is_at))]
 fn plain_at(tag: u8, bytes: &[u8]) -> Option<(Criterion, &[u8])>
     ensures { option_map (λ x. (x.0, x.1.now)) result ≡ plain_at tag bytes.now }
@@ -178,7 +190,8 @@ fn plain_at(tag: u8, bytes: &[u8]) -> Option<(Criterion, &[u8])>
     }
 }
 
-/// Reads whether a node is a folder or a file, from its number.
+/// Reads whether a node is a folder or a file, from its number: 0 is a file, 1 a folder. `None` for any other byte.
+/// `NodeKind::number` has the same numbers; the prover ties both to `node_kind_number`.
 #[tactic(auto, unfolding(crate::specs::FilterValues::node_kind_at))]
 fn node_kind_at(bytes: &[u8]) -> Option<(NodeKind, &[u8])>
     ensures { option_map (λ x. (x.0, x.1.now)) result ≡ node_kind_at bytes.now }

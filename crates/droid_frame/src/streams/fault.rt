@@ -31,6 +31,7 @@ impl From<AllocError> for FrameFault {
 
     ghost from_gives = { λ _ fault. fault ≡ Memory };
 
+    /// Reports out of memory as `Memory`.
     fn from(_error: AllocError) -> FrameFault {
         FrameFault::Memory
     }
@@ -41,6 +42,7 @@ impl From<ReadFault> for FrameFault {
 
     ghost from_gives = { λ _ fault. fault ≡ Read };
 
+    /// Reports that the reader failed, or was interrupted too often, as `Read`.
     fn from(_fault: ReadFault) -> FrameFault {
         FrameFault::Read
     }

@@ -1,4 +1,4 @@
-//! The reader of frames.
+//! The reader of frames: `read_frame`, and its two steps, the header and the body.
 
 ghost use Rattle.std.specs.Prelude.{◌≡◌, ◌++◌, ℕ, List, Some, Err, IfOk, IfErr, OnErr, IfSome, IsErrOf};
 ghost use Rattle.droid_frame.specs.Frames.{frame_bytes};
@@ -44,7 +44,8 @@ pub fn read_frame<R: SteadyRead>(alloc: Global, reader: &mut R) -> Result<Arriva
     next_arrival(alloc, reader, &mut retries)
 }
 
-/// Does the work of `read_frame`, with the retries of this frame so far.
+/// Does the work of [`read_frame`]. `retries` counts the interruptions that were tried again in this frame; its caller
+/// starts it at 0.
 fn next_arrival<R: SteadyRead>(
     alloc: Global,
     reader: &mut R,
@@ -68,7 +69,8 @@ fn next_arrival<R: SteadyRead>(
     }))
 }
 
-/// Reads a header, or `None` at the end of the input.
+/// Reads a header, or `None` if no byte is left. `Truncated` if the input ends within it; `Read` if the reader fails.
+/// Its version and length are not checked here.
 fn read_header<R: SteadyRead>(
     reader: &mut R,
     retries: &mut Retries,
@@ -85,7 +87,9 @@ fn read_header<R: SteadyRead>(
     }
 }
 
-/// Reads a body of this length. Allocates once, and not at all for an empty body.
+/// Reads a body of this length in bytes, which the header announced. Allocates once, and not at all for an empty body.
+/// `Memory` if that fails, before a byte is read; `Truncated` if the input ends within the body; `Read` if the reader
+/// fails.
 fn read_body<R: SteadyRead>(
     alloc: Global,
     reader: &mut R,

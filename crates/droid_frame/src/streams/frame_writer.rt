@@ -16,7 +16,7 @@ use crate::io::stream_fault::WriteFault;
 
 /// Writes a frame. It allocates nothing, and retries interrupted writes, up to 64 in one frame.
 ///
-/// The body must be no longer than the limit of version 2.
+/// The body must be no longer than the limit of version 2. Its version, kind, client and number may have any values.
 pub fn write_frame<W: SteadyWrite>(frame: &Frame, writer: &mut W) -> Result<(), WriteFault>
     requires { length frame.now.body ≤ body_limit 2 }
     // On success exactly the bytes of the frame were written.

@@ -1,4 +1,4 @@
-//! Headers of frames.
+//! Headers of frames: the 18 bytes before a body, as a value and back.
 
 ghost use Rattle.std.specs.Prelude.{◌≡◌, IsErrOf};
 ghost use Rattle.droid_frame.specs.Headers.{header_bytes};
@@ -7,7 +7,8 @@ ghost use Rattle.droid_frame.specs.StreamReads.{IsHeader, judged};
 use super::fault::FrameFault;
 use crate::versions::{body_limit, is_version};
 
-/// The length in bytes of a frame's header, which is everything before the body.
+/// The length in bytes of a frame's header, which is everything before the body. It is the sum of the fields below: 1,
+/// 1, 4, 8 and 4. `header_size` of `specs/Streams.antt` is the same; the prover refuses another number here.
 pub const HEADER_LENGTH: usize = 18;
 
 /// The fields of a header, in their order on a stream.
@@ -26,7 +27,7 @@ pub struct Header {
 }
 
 impl Header {
-    /// Returns the bytes of the header.
+    /// Returns the bytes of the header: its fields in their order, numbers big-endian.
     pub(crate) fn to_bytes(&self) -> [u8; HEADER_LENGTH]
         ensures { result ≡ header_bytes self.now }
     {
@@ -55,7 +56,7 @@ impl Header {
         ]
     }
 
-    /// Returns the header that these bytes spell.
+    /// Returns the header that these bytes spell. Any 18 bytes spell one: nothing is checked here.
     pub fn from_bytes(bytes: &[u8; HEADER_LENGTH]) -> Header
         ensures spelled { header_bytes result ≡ bytes.now }
         ensures fits { IsHeader result }
@@ -89,7 +90,8 @@ impl Header {
         }
     }
 
-    /// Checks the version and the length, in this order, and returns the length of the body.
+    /// Checks the version and the length, in this order, and returns the length of the body in bytes. `BadVersion` if
+    /// the version is neither 1 nor 2; `TooLong` if the length is above [`body_limit`] of the version.
     #[tactic(auto, unfolding(crate::specs::StreamReads::judged))]
     pub fn body_length(self) -> Result<usize, FrameFault>
         ensures judged { result ≡ judged self }

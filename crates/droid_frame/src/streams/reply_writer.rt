@@ -1,4 +1,5 @@
-//! The writer of replies.
+//! The writer of replies: the frame of a reply on a stream, without a body in memory. It writes the header, the front
+//! of the body (its fields before a list or bytes), and the rest.
 
 ghost use Rattle.std.specs.Prelude.{◌≡◌, ◌+◌, ◌<◌, ◌≤◌, ◌^◌, ◌-◌, ℕ, IsErr, OnOk, IfErr, length};
 ghost use Rattle.std.specs.Io.KnownBytes.{Appends};
@@ -66,7 +67,8 @@ pub fn write_reply<W: SteadyWrite>(
     write_rest(writer, reply, &mut progress)
 }
 
-/// Writes the list or bytes after a reply's front.
+/// Writes what stands behind a reply's front: the list of a Finished or the bytes of a Part. Other replies have nothing
+/// there. `progress` goes on from the header and the front.
 fn write_rest<W: SteadyWrite>(
     writer: &mut W,
     reply: &Reply,
@@ -91,7 +93,7 @@ fn write_rest<W: SteadyWrite>(
     }
 }
 
-/// Writes the format identifiers, each after its length.
+/// Writes the format identifiers of a Finished, each after its length in one byte.
 fn write_puids<W: SteadyWrite>(
     writer: &mut W,
     puids: &Texts,
@@ -115,7 +117,7 @@ fn write_puids<W: SteadyWrite>(
     Ok(())
 }
 
-/// Makes the bytes of a format identifier after its length.
+/// Makes the bytes of a format identifier after its length: at most 33, so they fit in [`SmallBytes`].
 fn sized_puid(puid: &Text) -> SmallBytes
     requires { IsPuidText puid.now }
     ensures { result ≡ sized_bytes puid.now }

@@ -1,4 +1,5 @@
-//! Writers of texts, each after its length in one byte.
+//! Writers of texts, each after its length in one byte: the lists of a filter, and the identifiers of a Finished. After
+//! an error, which is out of memory, `out` may have some of the bytes; the callers drop it.
 
 ghost use Rattle.std.specs.Prelude.{◌≡◌, ◌≤◌, ◌++◌, OnOk, length};
 ghost use Rattle.std.specs.List.{AllByRecursion};
@@ -21,7 +22,7 @@ pub(crate) fn append_texts(out: &mut Vec<u8>, texts: &Texts) -> Result<(), Alloc
     Ok(())
 }
 
-/// Appends a text behind its length in one byte.
+/// Appends a text behind its length in one byte, so it has at most 255 bytes.
 fn append_text(out: &mut Vec<u8>, text: &Text) -> Result<(), AllocError>
     requires { length text.now ≤ 255 }
     ensures added { OnOk result (out.new.items ≡ out.old.items ++ sized_bytes text.now) }

@@ -7,7 +7,8 @@ ghost use Rattle.droid_journal.specs.Saved.{EndsWith};
 use crate::disk::drive::{Drive, DriveError};
 use crate::log_file::{FileError, LogFile};
 
-/// The bytes that are saved at once of an end that is cut off.
+/// The bytes that are saved at once of an end that is cut off. Clauses have it as 65536, and the prover ties them to
+/// it.
 const SAVED: usize = 65_536;
 
 /// A file of a journal. An append writes all of its bytes or fails. What is cut off is saved first.
@@ -38,7 +39,8 @@ fn read_full<D: Drive>(drive: &D, at: u64, buffer: &mut [u8]) -> Result<usize, F
     Ok(count)
 }
 
-/// Reads once, into the rest of the buffer.
+/// Reads once from a place on, into the buffer behind its first `count` bytes. Returns how many bytes were read: 0 only
+/// where the file ends.
 fn read_more<D: Drive>(
     drive: &D,
     at: u64,
@@ -56,7 +58,8 @@ fn read_more<D: Drive>(
     drive.read_some(at, &mut buffer[count..])
 }
 
-/// Reads once from a place on, saves what was read, and returns how many bytes it is.
+/// Saves up to 65,536 bytes of the file from a place on, and returns how many: fewer only where it ends. After an error
+/// nothing is promised of what was saved, and `cut` cuts nothing off.
 fn save_some<D: Drive>(drive: &mut D, at: u64) -> Result<usize, FileError>
     ensures size { (s : List ℕ) → D.has drive.old s → IfOk result (λ count. count ≡ length (take 65536 (drop at s))) }
     ensures saved { (s : List ℕ) → D.has drive.old s
@@ -77,7 +80,7 @@ fn save_some<D: Drive>(drive: &mut D, at: u64) -> Result<usize, FileError>
     }
 }
 
-/// Saves the end of the file, from a place on.
+/// Saves the end of the file, from a place on. The file stays as it is, after an error too.
 fn save_end<D: Drive>(drive: &mut D, from: u64) -> Result<(), FileError>
     ensures saved { (s : List ℕ) → D.has drive.old s → OnOk result (EndsWith (D.saved drive.new) (drop from s)) }
     ensures same { (s : List ℕ) → D.has drive.old s → D.has drive.new s }
@@ -103,7 +106,8 @@ fn save_end<D: Drive>(drive: &mut D, from: u64) -> Result<(), FileError>
     Err(FileError)
 }
 
-/// Writes all of these bytes. After an error the first of them may have been written.
+/// Writes all of these bytes, in as many calls as it takes. After an error the first of them may have been written. A
+/// call that writes no byte is an error.
 fn write_all<D: Drive>(drive: &mut D, bytes: &[u8]) -> Result<(), FileError>
     ensures written { (s : List ℕ) → D.has drive.old s → OnOk result (D.has drive.new (s ++ bytes.now)) }
     ensures part { (s : List ℕ) → D.has drive.old s

@@ -16,7 +16,7 @@ use std::{fs, io};
 /// Progress is printed each time that this many more bytes were read.
 const REPORTED: u64 = 1_073_741_824;
 
-/// How often a call is tried that signals interrupt.
+/// How often a read or a write is tried that signals interrupt.
 const TRIES: usize = 64;
 
 /// The mode of a file that is made here: only its owner may read and write it. It has the bytes of files that clients
@@ -93,7 +93,7 @@ fn open_for_appending<R: Files<File = File>>(runtime: &R, path: &str) -> io::Res
         .open(runtime, path)
 }
 
-/// Takes the lock of a file.
+/// Takes the system's lock of an open file, without waiting. Fails as in use if another process has it.
 fn lock(file: &File) -> Result<(), DiskFault> {
     match file.try_lock() {
         Ok(()) => Ok(()),
@@ -102,7 +102,8 @@ fn lock(file: &File) -> Result<(), DiskFault> {
     }
 }
 
-/// Checks that a path still leads to an open file.
+/// Checks that a path still leads to an open file. Fails as in use if it leads to another one, which another process
+/// put in its place.
 fn see_named<R: Files>(runtime: &R, path: &str, file: &File) -> Result<(), DiskFault> {
     let named = match fs::symlink_metadata(runtime, path) {
         Ok(named) => named,
@@ -119,12 +120,13 @@ fn see_named<R: Files>(runtime: &R, path: &str, file: &File) -> Result<(), DiskF
     }
 }
 
-/// Returns whether both describe the same file.
+/// Returns whether both describe the same file, by its device and inode.
 fn is_same_file(first: &Metadata, second: &Metadata) -> bool {
     first.dev() == second.dev() && first.ino() == second.ino()
 }
 
-/// Syncs the folder that has a file's name, so that the name is on the disk too.
+/// Syncs the folder that has the name of the file with this path, so that the name is on the disk too. A path without a
+/// `/` is one in the working folder.
 pub fn sync_folder<R: Files<File = File>>(runtime: &R, path: &str) -> io::Result<()> {
     let folder = match path.rfind('/') {
         Some(0) => "/",
@@ -135,7 +137,7 @@ pub fn sync_folder<R: Files<File = File>>(runtime: &R, path: &str) -> io::Result
     folder.sync_all()
 }
 
-/// Reads once. An interrupted read is tried again.
+/// Reads once from a place on, and returns how many bytes. An interrupted read is tried again, up to 64 times in all.
 fn read_once(file: &File, at: u64, buffer: &mut [u8]) -> io::Result<usize>
     ensures bound { IfOk result (λ count. count ≤ length buffer.new) }
 {
@@ -152,7 +154,7 @@ fn read_once(file: &File, at: u64, buffer: &mut [u8]) -> io::Result<usize>
     Err(io::Error::from(ErrorKind::Interrupted))
 }
 
-/// Writes once. An interrupted write is tried again.
+/// Writes once, and returns how many bytes. An interrupted write is tried again, up to 64 times in all.
 fn write_once(file: &mut File, bytes: &[u8]) -> io::Result<usize>
     ensures bound { IfOk result (λ count. count ≤ length bytes.now) }
 {
@@ -170,7 +172,8 @@ fn write_once(file: &mut File, bytes: &[u8]) -> io::Result<usize>
 }
 
 impl<'a, R: Files<File = File> + Eprint + AllocGlobal> FileDrive<'a, R> {
-    /// Opens the file for bytes that are cut off.
+    /// Opens the file for bytes that are cut off (`.torn`) for appending, and makes it with mode 0600 if there is none.
+    /// Its name is then on the disk too.
     fn open_torn(&self) -> io::Result<File> {
         let name = format!(in self.runtime.alloc(); "{}.torn", self.path)?;
         let torn = OpenOptions::new()
@@ -182,7 +185,8 @@ impl<'a, R: Files<File = File> + Eprint + AllocGlobal> FileDrive<'a, R> {
         Ok(torn)
     }
 
-    /// Appends to the file for bytes that are cut off, and syncs it.
+    /// Appends to the file for bytes that are cut off, and syncs it. After an error that file is closed, and the next
+    /// call opens it again.
     fn save_all(&mut self, bytes: &[u8]) -> io::Result<()>
         ensures { self.new.failed ≡ self.old.failed }
     {
@@ -197,7 +201,8 @@ impl<'a, R: Files<File = File> + Eprint + AllocGlobal> FileDrive<'a, R> {
         Ok(())
     }
 
-    /// Truncates the file, and prints how many bytes were saved.
+    /// Truncates the file to `len` bytes, and prints how many bytes were saved, if any. A print that fails is passed
+    /// over.
     fn cut(&self, len: u64) -> io::Result<()> {
         if self.saved > 0 {
             let _ = eprintln!(self.runtime;
@@ -208,7 +213,7 @@ impl<'a, R: Files<File = File> + Eprint + AllocGlobal> FileDrive<'a, R> {
         self.file.set_len(len)
     }
 
-    /// Prints how much was read, each time that 1 GiB more was.
+    /// Prints how much was read, each time that 1 GiB (`REPORTED`) more was: `count` bytes from `at` on were read last.
     fn report(&self, at: u64, count: usize) {
         let to = at.saturating_add(count as u64);
         if at / REPORTED != to / REPORTED {
@@ -217,7 +222,7 @@ impl<'a, R: Files<File = File> + Eprint + AllocGlobal> FileDrive<'a, R> {
     }
 }
 
-/// Drops the system's reason of a failed call.
+/// Drops the system's reason of a failed call: the journal's faults do not name it.
 fn drive_result<T: Drop>(answer: io::Result<T>) -> Result<T, DriveError> {
     match answer {
         Ok(value) => Ok(value),
@@ -240,6 +245,7 @@ impl<'a, R: Files<File = File> + Eprint + AllocGlobal> Drive for FileDrive<'a, R
 
     ghost kept_is_there = { λ drive bytes none. absurd none };
 
+    /// Prints each GiB that was read, since reading a long journal takes a while.
     fn read_some(&self, at: u64, buffer: &mut [u8]) -> Result<usize, DriveError> {
         match read_once(&self.file, at, buffer) {
             Ok(count) => {

@@ -1,4 +1,4 @@
-//! Making a header for a file.
+//! Making the header that a file has, or gets: a text that its caller knows, and random bytes.
 
 ghost use Rattle.std.specs.Prelude.{◌≡◌, ◌⊎◌, ◌+◌, ◌<◌, ◌≤◌, ◌++◌, ℕ, List, drop, length, take, IfErr, IfOk};
 ghost use Rattle.droid_journal.specs.Opening.{HasHeader, IsBegun};
@@ -62,7 +62,7 @@ fn random_of<F: LogFile>(file: &F, at: u64, fresh: &[u8; 16]) -> Result<[u8; 16]
     Ok(begun_by(&found[..count], fresh))
 }
 
-/// Returns 16 bytes, of which the first are others.
+/// Returns `bytes` with its first ones replaced by those of `first`.
 fn begun_by(first: &[u8], bytes: &[u8; 16]) -> [u8; 16]
     requires { length first.now ≤ 16 }
     ensures { result ≡ first.now ++ drop (length first.now) bytes.now }

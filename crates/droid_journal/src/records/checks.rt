@@ -12,13 +12,14 @@ use crate::records::place::Place;
 use droid_frame::HEADER_LENGTH;
 use md5::{Digest, Md5};
 
-/// The bytes of a check value of version 3 in front of its seal.
+/// The bytes of a check value of version 3 in front of its seal, which has the other four of its 16.
 const SEALED: usize = 12;
 
-/// The bytes of the beginning of a turn in version 4: a byte 1 and its mark.
+/// The bytes of the beginning of a turn in version 4: a byte 1 and its mark of 16 bytes. Clauses have it as 17, and the
+/// prover ties them to it.
 pub const MARK: usize = 17;
 
-/// Computes the mark at an offset of a journal.
+/// Computes the mark at an offset of a journal: the MD5 of the start value and the offset.
 #[tactic(auto, unfolding(crate::specs::Records::mark_at))]
 pub(crate) fn mark_of(key: Key, at: u64) -> [u8; 16]
     ensures { result ≡ mark_at key at }
@@ -40,7 +41,8 @@ pub fn turn_mark(key: Key, at: u64) -> [u8; 17]
     bytes
 }
 
-/// Spells where a record stands: its offset, and how many records stand before it.
+/// Spells where a record stands, for its check value: its offset, and how many records stand before it, in eight bytes
+/// each.
 fn bytes_of(place: Place) -> [u8; 16]
     ensures { result ≡ to_be_bytes w64 place.at ++ to_be_bytes w64 place.records }
 {
@@ -50,7 +52,7 @@ fn bytes_of(place: Place) -> [u8; 16]
     bytes
 }
 
-/// Returns these bytes in version 4, none in version 3.
+/// Returns these bytes in version 4, none in version 3: what only a check value of version 4 depends on.
 fn of_form(form: Form, bytes: &[u8]) -> &[u8]
     ensures { result.now ≡ by_form form [] bytes.now }
 {
@@ -60,8 +62,8 @@ fn of_form(form: Form, bytes: &[u8]) -> &[u8]
     }
 }
 
-/// Computes the MD5 of a record at a place. Of the request only its header and its checksum are hashed, as its body was
-/// hashed for that.
+/// Computes the MD5 of a record at a place, from which its check value is made. Of the request only its header and its
+/// checksum (`sum`) are hashed, as its body was hashed for that. `first` says whether the record begins a turn.
 #[tactic(auto, unfolding(crate::specs::Records::digest))]
 fn digest_of(
     key: Key,
@@ -114,7 +116,8 @@ fn sealed_by(start: &[u8; 16], digest: &[u8; 16]) -> [u8; 16]
     with_seal(digest, &seal)
 }
 
-/// Computes the check value of a record at a place from the checksum of its request.
+/// Computes the check value of a record at a place from the checksum of its request (`sum`): its MD5, sealed in version
+/// 3.
 #[tactic(auto, unfolding(crate::specs::Records::next_check))]
 pub(crate) fn check_of(
     key: Key,

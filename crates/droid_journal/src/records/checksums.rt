@@ -1,4 +1,4 @@
-//! Checksums of requests.
+//! The checksum of a request, as its record has it.
 
 ghost use Rattle.std.specs.Prelude.{◌≡◌, ◌≤◌, length};
 ghost use Rattle.droid_journal.specs.Records.{checksum};

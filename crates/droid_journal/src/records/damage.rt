@@ -9,7 +9,7 @@ use crate::records::key::{Form, Key};
 use crate::records::place::Place;
 use crate::records::record_reader::record_of;
 
-/// How many bytes a check value has.
+/// How many bytes a check value has, in version 3 as in 4.
 const CHECK: usize = 16;
 
 /// Returns whether these bytes, which begin at this offset of a file, have, anywhere, the beginning of a later turn. If
@@ -30,7 +30,8 @@ pub fn has_later(key: Key, at: u64, bytes: &[u8]) -> bool
     false
 }
 
-/// Returns whether the beginning of a later turn is at the front of bytes, which begin at this offset.
+/// Returns whether the beginning of a later turn is at the front of bytes, which begin at this offset: by the form of
+/// the journal, a mark or a sealed check value with a record.
 fn is_later(key: Key, at: u64, bytes: &[u8]) -> bool
     ensures { IsTrue result ↔ StandsLater key at bytes.now }
 {

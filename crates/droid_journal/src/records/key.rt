@@ -1,4 +1,5 @@
-//! What all check values of a journal depend on.
+//! What follows from the header of a journal: its form, its start value and the place of its first record; and the
+//! check value of the header itself.
 
 ghost use Rattle.std.specs.Prelude.{◌≡◌, ◌++◌, IfOk};
 ghost use Rattle.droid_journal.specs.Chains as chains;
@@ -11,7 +12,7 @@ use std::alloc::AllocError;
 /// The first line of a journal of version 3.
 const FIRST_LINE_BEFORE: [u8; 21] = *b"droid_desk journal 3\n";
 
-/// How many bytes the first line has.
+/// How many bytes the first line has: those of `FIRST_LINE_BEFORE`, as its type says.
 const LINE: usize = 21;
 
 /// The form of a journal.
@@ -32,7 +33,7 @@ pub struct Key {
     pub start: [u8; 16],
 }
 
-/// Computes the MD5 of a header.
+/// Computes the MD5 of a header: the start value of the journal, and the check value before its first record.
 fn start_of(header: &[u8]) -> [u8; 16]
     ensures { result ≡ chains.first_check header.now }
 {
@@ -41,7 +42,8 @@ fn start_of(header: &[u8]) -> [u8; 16]
     hasher.finalize()
 }
 
-/// Returns the form of a journal with this header.
+/// Returns the form of a journal with this header: version 3 if it begins with the first line of that, otherwise 4,
+/// also for a header that is shorter than the line.
 fn form_of(header: &[u8]) -> Form
     ensures { result ≡ chains.form_of header.now }
 {
@@ -77,7 +79,7 @@ pub fn first_place(header: &[u8]) -> Place
     }
 }
 
-/// Appends their check value to the bytes of a header.
+/// Appends to the bytes of a header of version 4 their check value, the MD5 of them all. Fails only if memory runs out.
 pub fn checked(header: Vec<u8>) -> Result<Vec<u8>, AllocError>
     ensures { IfOk result (λ x. x.items ≡ chains.checked header.items) }
 {

@@ -1,4 +1,4 @@
-//! A place of a journal.
+//! A place between two records of a journal, and the next one.
 
 ghost use Rattle.std.specs.Prelude.{◌≡◌, ◌≤◌, ◌+◌, ◌⊎◌, IfNone, IfSome};
 

@@ -1,4 +1,5 @@
-//! Reading a record from the front of bytes.
+//! Reading a record from the front of bytes: its beginning, its two frames and its check value, part by part. Functions
+//! that return the bytes behind what they read have `None` where too few bytes are there.
 
 ghost use Rattle.std.specs.Prelude.{◌≡◌, ◌+◌, ◌<◌, ◌≤◌, ℕ, List, Some, IfNone, IfSome, length};
 ghost use Rattle.droid_journal.specs.Chains.{BeginsNoRecord, BeginsWith};
@@ -12,13 +13,14 @@ use crate::records::key::{Form, Key};
 use crate::records::place::Place;
 use droid_frame::HEADER_LENGTH;
 
-/// How many bytes a check value or a mark has.
+/// How many bytes a check value has, and a mark: `MARK` has the byte 1 in front of it too.
 const CHECK: usize = 16;
 
-/// The most bytes of a record beside its frames.
+/// The most bytes of a record beside its frames: `MARK`, two lengths of four bytes, and a check value. `room.rt` has it
+/// as `AROUND`.
 const OVERHEAD: usize = 41;
 
-/// The most bytes of a record.
+/// The most bytes of a record, 8 MiB. `STEP` of `file_records.rt` goes by it.
 const LIMIT: usize = 8_388_608;
 
 /// A record at the front of bytes.
@@ -143,7 +145,8 @@ fn read_record<'a>(
     })
 }
 
-/// Returns the request of the record at the front, without a look at its mark and its check value.
+/// Returns the request of the record at the front, without a look at its mark and its check value. `None` if no whole
+/// request is there.
 pub fn request_of(form: Form, bytes: &[u8]) -> Option<&[u8]>
     ensures { Gives (λ x. x.now) result (request_in form bytes.now) }
 {
@@ -152,8 +155,8 @@ pub fn request_of(form: Form, bytes: &[u8]) -> Option<&[u8]>
     Some(request)
 }
 
-/// Returns whether a record can have this request and this reply: the request has the header of a frame, and the record
-/// at most 8 MiB.
+/// Returns whether a record can have this request and this reply: the request has at least the header of a frame, and
+/// the record at most 8 MiB.
 fn fits(request: &[u8], reply: &[u8]) -> bool
     ensures { result ≡ fits request.now reply.now }
 {
@@ -167,7 +170,8 @@ fn fits(request: &[u8], reply: &[u8]) -> bool
         <= LIMIT
 }
 
-/// Returns the bytes behind the mark of a turn's first record, behind its first byte.
+/// Takes the bytes behind the byte 1 with which a turn's first record begins, and returns those behind its mark. In
+/// version 4 a mark has 16 bytes; `None` if they are fewer. Version 3 has no marks: all bytes are returned.
 #[tactic(auto, unfolding(crate::specs::Reading::behind_mark))]
 fn behind_mark_of(form: Form, bytes: &[u8]) -> Option<&[u8]>
     ensures { Gives (λ x. x.now) result (behind_mark form bytes.now) }
@@ -184,6 +188,7 @@ fn behind_mark_of(form: Form, bytes: &[u8]) -> Option<&[u8]>
 }
 
 /// Returns whether a record is the first of a turn, and the bytes behind its beginning, without a look at the mark.
+/// `None` too if its first byte is neither 0 nor 1.
 fn front_of(form: Form, bytes: &[u8]) -> Option<(bool, &[u8])>
     ensures { Gives (λ x. (x.0, x.1.now)) result (front_at form bytes.now) }
 {
@@ -200,7 +205,8 @@ fn front_of(form: Form, bytes: &[u8]) -> Option<(bool, &[u8])>
     None
 }
 
-/// Returns whether a record that begins these bytes, at this offset, has the right mark, if it is to have one.
+/// Returns whether a record that begins these bytes, at this offset, has the right mark, if it is to have one: only the
+/// first of a turn (`first`) in version 4 does.
 #[tactic(auto, unfolding(crate::specs::Reading::is_right))]
 fn has_right_mark(key: Key, at: u64, first: bool, bytes: &[u8]) -> bool
     ensures { result ≡ is_right key.form (mark_at key at) first bytes.now }
@@ -221,7 +227,7 @@ fn has_right_mark(key: Key, at: u64, first: bool, bytes: &[u8]) -> bool
     front == wanted.as_slice()
 }
 
-/// Reads a big-endian number of four bytes from the front.
+/// Reads a big-endian number of four bytes from the front. Returns it, and the bytes behind it.
 fn number_of(bytes: &[u8]) -> Option<(u32, &[u8])>
     ensures { Gives (λ x. (x.0, x.1.now)) result (number_at bytes.now) }
 {
@@ -235,7 +241,7 @@ fn number_of(bytes: &[u8]) -> Option<(u32, &[u8])>
     ))
 }
 
-/// Reads as many bytes as a number before them says from the front.
+/// Reads a length of four bytes from the front, and that many bytes. Returns these, and the bytes behind them.
 #[tactic(auto, unfolding(crate::specs::Reading::string_at))]
 fn string_of(bytes: &[u8]) -> Option<(&[u8], &[u8])>
     ensures { Gives (λ x. (x.0.now, x.1.now)) result (string_at bytes.now) }
@@ -248,7 +254,7 @@ fn string_of(bytes: &[u8]) -> Option<(&[u8], &[u8])>
     Some(rest.split_at(length))
 }
 
-/// Returns the bytes behind this check value, if they begin with it.
+/// Returns the bytes behind a check value at their front, if it is the one that is wanted; otherwise `None`.
 #[tactic(auto, unfolding(crate::specs::Reading::check_at))]
 fn behind_check<'a>(wanted: &[u8; 16], bytes: &'a [u8]) -> Option<&'a [u8]>
     ensures { Gives (λ x. x.now) result (check_at wanted.now bytes.now) }

@@ -1,4 +1,4 @@
-//! Writing a record.
+//! Writing a record into room that was taken before.
 
 ghost use Rattle.std.specs.Prelude.{◌≡◌, ◌+◌, ◌<◌, ◌≤◌, ◌++◌, length, vec_capacity, vec_len};
 ghost use Rattle.droid_journal.specs.Records.{checksum, front_bytes, made, next_check, record_bytes, string};
@@ -7,7 +7,7 @@ use crate::records::checks::{check_of, turn_mark};
 use crate::records::key::{Form, Key};
 use crate::records::place::Place;
 
-/// Appends bytes for which there is room.
+/// Appends bytes for which there is room: nothing is allocated, and the `unwrap` never fails.
 fn put(out: &mut Vec<u8>, bytes: &[u8])
     requires { vec_len out.old + length bytes.now ≤ vec_capacity out.old }
     ensures items { out.new.items ≡ out.old.items ++ bytes.now }
@@ -29,7 +29,8 @@ fn put_string(out: &mut Vec<u8>, bytes: &[u8])
     put(out, bytes)
 }
 
-/// Appends the beginning of a record, for which there is room.
+/// Appends the beginning of a record, for which there is room: a byte 0, or if it is the first of a turn a byte 1 and,
+/// in version 4, its mark.
 fn put_front(out: &mut Vec<u8>, key: Key, place: Place, first: bool)
     requires room { vec_len out.old + 17 ≤ vec_capacity out.old }
     ensures items { out.new.items ≡ out.old.items ++ front_bytes key place first }
@@ -46,7 +47,8 @@ fn put_front(out: &mut Vec<u8>, key: Key, place: Place, first: bool)
 }
 
 /// Appends a record to bytes that have room for it, and returns its check value. It takes no memory. `place` is where
-/// the record is to stand, `sum` the checksum of the request.
+/// the record is to stand, `first` whether it begins a turn, `sum` the checksum of the request. `request`
+/// and `reply` are frames as bytes.
 #[tactic(auto, unfolding(crate::specs::Records::record_bytes))]
 pub fn put_record(
     out: &mut Vec<u8>,

@@ -1,4 +1,4 @@
-//! The formats of a file that was found.
+//! The formats that were found of a file: copies of their identifiers (PUIDs).
 
 ghost use Rattle.std.specs.Prelude.{◌≡◌, ◌++◌, [], ◌∷◌, IfOk, OnOk};
 ghost use Rattle.droid_lists.specs.Formats.{file_of, or_none};
@@ -22,7 +22,7 @@ impl Model for Puids {
 }
 
 impl Puids {
-    /// Copies identifiers. If there are none, there is an empty one.
+    /// Copies identifiers. If there are none, there is an empty one, as the row of a file without a format has it.
     pub fn or_none(alloc: Global, puids: &Texts) -> Result<Puids, AllocError>
         ensures { IfOk result (λ copies. copies ≡ or_none puids.now) }
     {
@@ -30,7 +30,7 @@ impl Puids {
         Ok(Puids { items })
     }
 
-    /// Returns the identifiers.
+    /// Returns the identifiers; of a file without a format, an empty one.
     pub fn as_slice(&self) -> &[Blob]
         ensures { result.now ≡ self.now }
     {
@@ -48,7 +48,7 @@ pub struct FileFormats {
 }
 
 impl FileFormats {
-    /// Copies the path of a file and the identifiers of its formats.
+    /// Copies the path of a file and the identifiers of its formats. Fails only if out of memory.
     pub fn of(alloc: Global, path: &str, puids: &Texts) -> Result<FileFormats, AllocError>
         ensures { IfOk result (λ file. file ≡ file_of path.now puids.now) }
     {
@@ -58,7 +58,7 @@ impl FileFormats {
     }
 }
 
-/// Copies identifiers. If there are none, returns an empty one.
+/// Copies identifiers. If there are none, returns one empty one.
 fn copies_or_none(alloc: Global, puids: &[Text]) -> Result<Vec<Blob>, AllocError>
     ensures { IfOk result (λ copies. copies.items ≡ or_none puids.now) }
 {
@@ -79,7 +79,7 @@ fn one_empty(alloc: Global) -> Result<Vec<Blob>, AllocError>
     Ok(copies)
 }
 
-/// Copies PUIDs.
+/// Copies identifiers, in their order.
 fn copies_of(alloc: Global, puids: &[Text]) -> Result<Vec<Blob>, AllocError>
     ensures { IfOk result (λ copies. copies.items ≡ puids.now) }
 {
@@ -90,7 +90,7 @@ fn copies_of(alloc: Global, puids: &[Text]) -> Result<Vec<Blob>, AllocError>
     Ok(copies)
 }
 
-/// Appends a copy of an identifier.
+/// Appends a copy of an identifier. After an error nothing is promised of `copies`: callers drop them.
 pub(crate) fn add_copy(alloc: Global, copies: &mut Vec<Blob>, puid: &[u8]) -> Result<(), AllocError>
     ensures { OnOk result (copies.new.items ≡ copies.old.items ++ puid.now ∷ []) }
 {

@@ -1,4 +1,4 @@
-//! Files whose formats differ from those of their rows.
+//! Finds the files whose formats differ from those of their rows.
 
 ghost use Rattle.std.specs.Prelude.{◌≡◌, ◌++◌, ◌∷◌, IfOk, OnOk};
 ghost use Rattle.std.specs.Str.{bytes_eq};
@@ -23,7 +23,8 @@ pub struct FormatChange {
     pub found: Blob,
 }
 
-/// Returns the files that have rows, but not with exactly the formats that were found, in the order of the files.
+/// Returns the files that have rows, but not with exactly the formats that were found, in the order of `files`. `rows`
+/// are those of a profile's list. The order of formats does not count. Fails only if out of memory.
 pub fn format_changes(
     alloc: Global,
     rows: &[FormatRow],
@@ -36,7 +37,7 @@ pub fn format_changes(
     Ok(changes)
 }
 
-/// Returns these files, by the formats of rows that were gathered.
+/// Returns the changes of these files, in their order, by the formats of rows that were gathered.
 fn changes_by(
     alloc: Global,
     listed: &ListedFormats<'_>,
@@ -51,7 +52,7 @@ fn changes_by(
     Ok(changes)
 }
 
-/// Appends a file, if its formats differ.
+/// Appends the change of a file, if its formats differ from those of its rows.
 fn add_change(
     alloc: Global,
     changes: &mut Vec<FormatChange>,
@@ -70,7 +71,7 @@ fn add_change(
     Ok(())
 }
 
-/// Makes the change of a file, with the formats of both sides.
+/// Makes the change of the file at this path, with the formats of its rows and those that were found.
 fn change_of(
     alloc: Global,
     path: &[u8],
@@ -89,7 +90,7 @@ fn change_of(
     })
 }
 
-/// Returns whether there are rows, and one side has a format that the other lacks.
+/// Returns whether there are rows, and one side has a format that the other lacks. A file without rows has no change.
 fn differ(listed: &[Blob], found: &[Blob]) -> bool
     ensures { result ≡ formats.differ listed.now found.now }
 {
@@ -103,21 +104,21 @@ fn has_all(puids: &[Blob], others: &[Blob]) -> bool
     others.iter().all(|other| is_among(puids, other))
 }
 
-/// Returns whether a PUID is among others.
+/// Returns whether `puid` is among `puids`.
 fn is_among(puids: &[Blob], puid: &Blob) -> bool
     ensures { result ≡ formats.is_among puids.now puid.now }
 {
     puids.iter().any(|one| is_same(one, puid))
 }
 
-/// Returns whether two PUIDs are the same bytes.
+/// Returns whether two identifiers are the same bytes.
 fn is_same(one: &Blob, other: &Blob) -> bool
     ensures { result ≡ bytes_eq one.now other.now }
 {
     one.as_slice() == other.as_slice()
 }
 
-/// Joins identifiers, with a space between two.
+/// Joins identifiers, with a space between two. Of none, and of an empty one, the text is empty.
 fn joined(alloc: Global, puids: &[Blob]) -> Result<Blob, AllocError>
     ensures { IfOk result (λ text. text ≡ formats.joined puids.now) }
 {
@@ -130,7 +131,7 @@ fn joined(alloc: Global, puids: &[Blob]) -> Result<Blob, AllocError>
     Ok(Blob::from(text))
 }
 
-/// Appends each identifier after a space.
+/// Appends each identifier after a space, as they stand behind the first.
 fn append_after_spaces(text: &mut Vec<u8>, puids: &[Blob]) -> Result<(), AllocError>
     ensures { OnOk result (text.new.items ≡ text.old.items ++ flat_map (λ puid. 32 ∷ puid) puids.now) }
 {
@@ -140,7 +141,7 @@ fn append_after_spaces(text: &mut Vec<u8>, puids: &[Blob]) -> Result<(), AllocEr
     Ok(())
 }
 
-/// Appends a PUID behind a space.
+/// Appends a space and an identifier.
 fn append_after_space(text: &mut Vec<u8>, puid: &Blob) -> Result<(), AllocError>
     ensures { OnOk result (text.new.items ≡ text.old.items ++ 32 ∷ puid.now) }
 {

@@ -1,4 +1,4 @@
-//! The formats of rows, by path.
+//! Gathers the formats of a profile's rows by path.
 
 ghost use Rattle.std.specs.Prelude.{◌≡◌, ◌++◌, ℕ, List, [], ◌∷◌, false, IfOk, OnOk};
 ghost use Rattle.std.specs.Str.{bytes_eq};
@@ -14,7 +14,7 @@ use std::collections::BTreeMap;
 /// For each path, the formats of its rows.
 pub(crate) type ListedFormats<'a> = BTreeMap<&'a [u8], Vec<Blob>>;
 
-/// Gathers the formats of rows by path.
+/// Gathers the formats of rows by path, those of one path in the order of its rows. Fails only if out of memory.
 pub(crate) fn gathered<'a>(
     alloc: Global,
     rows: &'a [FormatRow],
@@ -28,7 +28,7 @@ pub(crate) fn gathered<'a>(
     Ok(listed)
 }
 
-/// Adds the format of a row.
+/// Adds the format of a row behind those of its path. After an error those may be lost: `gathered` drops all.
 fn add_format<'a>(
     alloc: Global,
     listed: &mut ListedFormats<'a>,
@@ -44,7 +44,7 @@ fn add_format<'a>(
     Ok(())
 }
 
-/// Removes the formats of a path and returns them.
+/// Removes the formats of a path and returns them, or none if it has no row yet.
 fn taken(alloc: Global, listed: &mut ListedFormats<'_>, path: &[u8]) -> Vec<Blob>
     ensures value { result.items ≡ formats_in listed.old path.now }
     ensures others { (other : List ℕ) → bytes_eq path.now other ≡ false
@@ -53,7 +53,7 @@ fn taken(alloc: Global, listed: &mut ListedFormats<'_>, path: &[u8]) -> Vec<Blob
     listed.remove(path).unwrap_or(Vec::new(alloc))
 }
 
-/// Returns the formats of a path.
+/// Returns the formats of the rows of a path; none if it has no row.
 pub(crate) fn formats_in<'a>(listed: &'a ListedFormats<'_>, path: &[u8]) -> &'a [Blob]
     ensures { result.now ≡ formats_in listed.now path.now }
 {

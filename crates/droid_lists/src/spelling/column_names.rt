@@ -9,7 +9,8 @@ use csv::ByteRecord;
 use droid_export::Column;
 use droid_frame::HashKind;
 
-/// Names a column, counted from 0. Past the last there is no name.
+/// Returns the name of a column, counted from 0; that of the hash's column is by its kind. From 18 on the name is
+/// empty.
 pub fn column_name(hash: HashKind, column: u8) -> &'static str
     ensures { result.now ≡ name_of hash column }
 {
@@ -19,7 +20,7 @@ pub fn column_name(hash: HashKind, column: u8) -> &'static str
     }
 }
 
-/// Returns the first column of a row that has another name.
+/// Returns the first of the 18 columns that has another name in this row, or `None` if the row is that of the names.
 pub(crate) fn other_name(hash: HashKind, row: &ByteRecord) -> Option<u8>
     ensures { result ≡ other_name hash (fields_of row.now) }
 {

@@ -1,4 +1,4 @@
-//! The PUIDs of the rows of one record.
+//! The PUIDs of the rows of one record, so that none comes twice, and their digest.
 
 ghost use Rattle.std.specs.Prelude.{◌≡◌, [], List, IfOk, OnOk};
 ghost use Rattle.droid_hash.specs.Findings.{puids_digest};
@@ -19,7 +19,7 @@ pub(crate) struct OwnPuids {
 }
 
 impl OwnPuids {
-    /// Makes one for the time before the first row. Takes no memory.
+    /// Makes the empty one, before the first row of a record. Takes no memory.
     pub(crate) fn new(alloc: Global) -> OwnPuids
         ensures { HasOwn result [] }
     {
@@ -29,14 +29,14 @@ impl OwnPuids {
         }
     }
 
-    /// Returns whether a row has this PUID.
+    /// Returns whether a row of the record so far has this PUID.
     pub(crate) fn has(&self, puid: &str) -> bool
         ensures { result ≡ own_has self.now puid.now }
     {
         self.puids.contains(puid)
     }
 
-    /// Adds the PUID of a row.
+    /// Adds the PUID of a row, also to the digest. After an error nothing is promised: the reading ends.
     pub(crate) fn add(&mut self, alloc: Global, puid: &str) -> Result<(), AllocError>
         ensures { OnOk result (AddsOwn self.old self.new puid.now) }
     {
@@ -46,7 +46,7 @@ impl OwnPuids {
         Ok(())
     }
 
-    /// Returns the digest of the PUIDs.
+    /// Returns the digest of the PUIDs, in the order in which they were added. It is compared with that of a reply.
     pub(crate) fn finish(self) -> HashValue
         ensures { (rows : List Row) → HasOwn self rows → result ≡ puids_digest (puids_by rows) }
     {

@@ -1,4 +1,4 @@
-//! Reads the text of a profile in its one spelling.
+//! Reads a whole text of a profile: the names of the columns, and then one record after the other.
 
 ghost use Rattle.std.specs.Prelude.{◌≡◌, ◌<◌, ◌^◌, IfErr, IfOk, length};
 ghost use Rattle.csv.specs.Records.{fields_of};
@@ -13,7 +13,8 @@ use csv::ByteRecord;
 use droid_frame::HashKind;
 use std::alloc::{AllocError, Global};
 
-/// Reads the records of a profile's text.
+/// Reads the records of a profile's text, whose hashes are of this kind. Fails at the first column that no profile can
+/// have there.
 pub(crate) fn read_text(alloc: Global, hash: HashKind, text: &[u8]) -> Result<Entries, TextFault>
     ensures read { IfOk result (λ entries. ReadsText hash text.now entries) }
     ensures wrong { IfErr result (λ fault. IsFaultOf hash text.now fault) }
@@ -25,7 +26,7 @@ pub(crate) fn read_text(alloc: Global, hash: HashKind, text: &[u8]) -> Result<En
     }
 }
 
-/// Reads the names of the columns. Returns the text behind them, or the first column that is wrong.
+/// Reads the names of the columns, the first row. Returns the text behind them, or the first column that is wrong.
 fn read_names(alloc: Global, hash: HashKind, text: &[u8]) -> Result<Result<&[u8], u8>, AllocError>
     ensures { IfOk result (λ read. NamesComes read hash text.now) }
 {
@@ -41,7 +42,8 @@ fn read_names(alloc: Global, hash: HashKind, text: &[u8]) -> Result<Result<&[u8]
     }
 }
 
-/// Reads the records behind the names of the columns. Each has at least one byte, so that there are turns enough.
+/// Reads the records behind the names of the columns, to the end of the text. Each has at least one byte, so that there
+/// are turns enough. A wrong row is counted from 1, which is that of the names.
 fn read_entries(alloc: Global, hash: HashKind, text: &[u8]) -> Result<Entries, TextFault>
     ensures read { IfOk result (λ entries. ReadsAll hash text.now entries) }
     ensures wrong { IfErr result (λ fault. IsFaultBehind hash text.now fault) }

@@ -1,4 +1,4 @@
-//! Reads the records of a profile's text.
+//! Reads one record of a profile's text, with all its rows, behind those before it.
 
 ghost use Rattle.std.specs.Prelude.{[], IfOk};
 ghost use Rattle.csv.specs.Records.{fields_of};
@@ -30,7 +30,7 @@ pub(crate) struct Reading {
 }
 
 impl Reading {
-    /// Makes one for the time before the first record. Takes no memory.
+    /// Makes the empty one, before the first record. Takes no memory.
     pub(crate) fn new(alloc: Global) -> Reading
         ensures { StandsForAll result [] }
     {
@@ -40,7 +40,8 @@ impl Reading {
         }
     }
 
-    /// Reads the record in front of a text. Returns the text behind it, or where it is wrong first.
+    /// Reads the record in front of a text, with as many rows as it has formats, or one. Returns the text behind it, or
+    /// where it is wrong first. After that, or after an error, nothing is promised of what was read: the reading ends.
     pub(crate) fn take<'a>(
         &mut self,
         alloc: Global,
@@ -84,7 +85,8 @@ impl Reading {
     }
 }
 
-/// Returns the first wrong column of a row that begins a record; if there is none, notes its format.
+/// Returns the first wrong column of a row that begins a record: of its place, of its content, of its format, in this
+/// order. If there is none, notes its format in `formats` and `own`.
 #[tactic(auto, unfolding(crate::specs::ProfileRows::wrong_first))]
 fn wrong_first(
     entries: &Entries,
@@ -110,7 +112,7 @@ fn wrong_first(
     Ok(wrong)
 }
 
-/// Reads the rows of a record behind its first.
+/// Reads the rows of a record behind its first. Returns the text behind them, or which is wrong, and in which column.
 fn take_more<'a>(
     formats: &mut Formats,
     alloc: Global,
@@ -138,7 +140,8 @@ fn take_more<'a>(
     Ok(Ok(rest))
 }
 
-/// Reads one more row of a record. Returns the text behind it, or its first wrong column.
+/// Reads one more row of a record into `row`, in place of what it had. Returns the text behind it, or its first wrong
+/// column.
 fn take_row<'a>(
     formats: &mut Formats,
     alloc: Global,
@@ -162,7 +165,8 @@ fn take_row<'a>(
     }
 }
 
-/// Reads one more row of a file with several formats. Returns its first wrong column, or else notes its format.
+/// Returns the first wrong column of one more row of a file with several formats: one in which it differs from the
+/// first row, or one of its format. If there is none, notes its format.
 #[tactic(auto, unfolding(crate::specs::ProfileRows::wrong_more))]
 fn wrong_more(
     formats: &mut Formats,

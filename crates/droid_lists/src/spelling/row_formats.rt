@@ -31,7 +31,7 @@ pub(crate) struct Formats {
 }
 
 impl Formats {
-    /// Makes one for the time before the first row. Takes no memory.
+    /// Makes the empty one, before the first row of a text. Takes no memory.
     pub(crate) fn new(alloc: Global) -> Formats
         ensures known { (puid : List ℕ) → known_at result puid ≡ None }
         ensures count { known_count result ≡ 0 }
@@ -41,8 +41,8 @@ impl Formats {
         }
     }
 
-    /// Returns the first wrong column of a row's format, whose record has so many and these PUIDs already; if there is
-    /// none, notes what the row says.
+    /// Returns the first wrong column of a row's format. Its record has `count` formats in all, and the PUIDs in `own`
+    /// so far. If none is wrong, notes what the row says.
     pub(crate) fn take(
         &mut self,
         alloc: Global,
@@ -69,7 +69,7 @@ impl Formats {
         }
     }
 
-    /// Returns the first wrong column of a row's format.
+    /// Returns the first wrong column of a row's format, whose record has `count` formats in all. Changes nothing.
     fn wrong(&self, own: &OwnPuids, count: u64, row: &ByteRecord) -> Option<u8>
         ensures { result
             ≡ tests.first_wrong
@@ -93,7 +93,8 @@ impl Formats {
     }
 
     /// Returns whether a row's PUID is one, is not that of a row of the same record, and finds place: a registry has at
-    /// most 4,096 formats.
+    /// most 4,096 formats, `FORMATS_LIMIT` of `droid_pronom`. The definitions have the number too, and the prover
+    /// compares them.
     fn is_new(&self, own: &OwnPuids, puid: &str) -> bool
         ensures { result
             ≡ tests.is_right_puid (is_some (known_at self.now puid.now) || nat_lt (known_count self.now) 4096)
@@ -104,7 +105,7 @@ impl Formats {
             && (self.texts.contains_key(puid) || self.texts.len() < 4096)
     }
 
-    /// Notes what a row says of its PUID, unless an earlier one did.
+    /// Notes what a row says of its PUID, unless an earlier one did: all rows with one PUID say the same.
     fn add(&mut self, alloc: Global, puid: &str, row: &ByteRecord) -> Result<(), AllocError>
         ensures { OnOk result (AddsKnown self.old self.new puid.now (tests.texts_in (fields_of row.now))) }
     {
@@ -118,7 +119,7 @@ impl Formats {
     }
 }
 
-/// Copies what a row says behind the PUID.
+/// Copies what a row says behind the PUID: the columns 15 to 17.
 fn texts_in(alloc: Global, row: &ByteRecord) -> Result<Texts, AllocError>
     ensures { IfOk result (λ texts. texts ≡ tests.texts_in (fields_of row.now)) }
 {
@@ -132,7 +133,7 @@ fn texts_in(alloc: Global, row: &ByteRecord) -> Result<Texts, AllocError>
     })
 }
 
-/// Returns the first column that is not empty in a row without a format.
+/// Returns the first column of the format that is not empty, in a row without a format.
 fn wrong_none(row: &ByteRecord) -> Option<u8>
     ensures { result
         ≡ tests.first_wrong (tests.are_none (tests.at (fields_of row.now) 14) (tests.texts_in (fields_of row.now))) }
@@ -152,7 +153,7 @@ fn wrong_none(row: &ByteRecord) -> Option<u8>
     None
 }
 
-/// Returns the first wrong column behind a PUID that no row before had.
+/// Returns the first wrong column behind a PUID that no row before had: each is a note, and FORMAT_NAME is not empty.
 fn wrong_new(row: &ByteRecord) -> Option<u8>
     ensures { result ≡ tests.first_wrong (tests.are_first (tests.texts_in (fields_of row.now))) }
 {
@@ -168,7 +169,7 @@ fn wrong_new(row: &ByteRecord) -> Option<u8>
     None
 }
 
-/// Returns whether a text has at most 255 bytes, and is UTF-8.
+/// Returns whether a text has at most 255 bytes, as texts of a registry have, and is UTF-8.
 fn is_note(text: &[u8]) -> bool
     ensures { result ≡ tests.is_note text.now }
 {

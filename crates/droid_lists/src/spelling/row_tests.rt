@@ -1,4 +1,5 @@
-//! What the columns of a row may say. Columns are counted from 0, in the order of `COLUMNS` in `droid_export`.
+//! Reads single columns of a row, and tests what they may say. Columns are counted from 0, in the order of `COLUMNS` in
+//! `droid_export`.
 
 ghost use Rattle.std.specs.Prelude.{◌≡◌, codes, if◌then◌else◌};
 ghost use Rattle.std.specs.List.{list_all};
@@ -12,7 +13,7 @@ use csv::ByteRecord;
 use droid_export::is_moment;
 use droid_frame::{HashKind, NodeKind};
 
-/// Returns whether a row is that of a file.
+/// Returns whether TYPE, column 8, is `File`.
 pub(crate) fn is_file(row: &ByteRecord) -> bool
     ensures { result ≡ tests.is_file (fields_of row.now) }
 {
@@ -20,7 +21,7 @@ pub(crate) fn is_file(row: &ByteRecord) -> bool
     field(row, 8) == file
 }
 
-/// Returns whether a row is that of a file or a folder.
+/// Returns whether TYPE, column 8, is `File` or `Folder`.
 pub(crate) fn is_kind(row: &ByteRecord) -> bool
     ensures { result ≡ tests.is_kind (fields_of row.now) }
 {
@@ -28,7 +29,7 @@ pub(crate) fn is_kind(row: &ByteRecord) -> bool
     is_file(row) || field(row, 8) == folder
 }
 
-/// Returns the kind of a row that is that of a file or a folder.
+/// Returns what TYPE says: a file, or otherwise a folder. `is_kind` sees whether it is one.
 pub(crate) fn kind_in(row: &ByteRecord) -> NodeKind
     ensures { result ≡ tests.kind_in (fields_of row.now) }
 {
@@ -39,7 +40,8 @@ pub(crate) fn kind_in(row: &ByteRecord) -> NodeKind
     }
 }
 
-/// Returns how many formats a row's record has.
+/// Returns how many formats a row's record has, by FORMAT_COUNT, column 13: 0 if that is no number, as in a folder's
+/// row.
 pub(crate) fn formats_in(row: &ByteRecord) -> u64
     ensures { result ≡ tests.formats_in (fields_of row.now) }
 {
@@ -49,14 +51,14 @@ pub(crate) fn formats_in(row: &ByteRecord) -> u64
     }
 }
 
-/// Returns how many rows a row's record has.
+/// Returns how many rows a row's record has: one for each format, or one without a format.
 pub(crate) fn rows_in(row: &ByteRecord) -> u64
     ensures { result ≡ tests.rows_in (fields_of row.now) }
 {
     formats_in(row).max(1)
 }
 
-/// Returns the ID of a row, or 0.
+/// Returns ID, column 0, of a row, or 0 if that is no number.
 pub(crate) fn id_in(row: &ByteRecord) -> u64
     ensures { result ≡ tests.number_at (fields_of row.now) 0 }
 {
@@ -66,7 +68,8 @@ pub(crate) fn id_in(row: &ByteRecord) -> u64
     }
 }
 
-/// Returns the first wrong column among those that say what an entry is.
+/// Returns the first wrong column among those that say what an entry is. FORMAT_COUNT is tested before METHOD and
+/// EXTENSION_MISMATCH, which depend on it. `None` if all are as they may be.
 pub(crate) fn wrong_content(hash: HashKind, row: &ByteRecord) -> Option<u8>
     ensures { result ≡ tests.first_wrong (tests.content_tests hash (fields_of row.now)) }
 {
@@ -97,7 +100,7 @@ pub(crate) fn wrong_content(hash: HashKind, row: &ByteRecord) -> Option<u8>
     None
 }
 
-/// Returns whether STATUS is `Done`.
+/// Returns whether STATUS, column 6, is `Done`: a profile has no other.
 fn is_done(row: &ByteRecord) -> bool
     ensures { result ≡ tests.is_done (fields_of row.now) }
 {
@@ -105,7 +108,7 @@ fn is_done(row: &ByteRecord) -> bool
     field(row, 6) == done
 }
 
-/// Returns whether SIZE is a number for a file, and empty for a folder.
+/// Returns whether SIZE, column 7, is a number up to 2^40 for a file, and empty for a folder.
 fn has_size(row: &ByteRecord) -> bool
     ensures { result ≡ tests.has_size (fields_of row.now) }
 {
@@ -116,7 +119,7 @@ fn has_size(row: &ByteRecord) -> bool
     }
 }
 
-/// Returns whether the hash's column is a digest of this kind for a file, and empty for a folder.
+/// Returns whether the hash's column, 12, is a digest of this kind for a file, and empty for a folder.
 fn has_digest(hash: HashKind, row: &ByteRecord) -> bool
     ensures { result ≡ tests.has_digest hash (fields_of row.now) }
 {
@@ -127,7 +130,7 @@ fn has_digest(hash: HashKind, row: &ByteRecord) -> bool
     }
 }
 
-/// Returns whether FORMAT_COUNT is a number for a file, and empty for a folder.
+/// Returns whether FORMAT_COUNT, column 13, is a number up to 4,096 for a file, and empty for a folder.
 fn has_count(row: &ByteRecord) -> bool
     ensures { result ≡ tests.has_count (fields_of row.now) }
 {
@@ -138,7 +141,7 @@ fn has_count(row: &ByteRecord) -> bool
     }
 }
 
-/// Returns whether EXT is the extension of NAME, and empty for a folder.
+/// Returns whether EXT, column 9, is the extension of NAME, column 4, for a file, and empty for a folder.
 fn is_extension(row: &ByteRecord) -> bool
     ensures { result ≡ tests.is_extension (fields_of row.now) }
 {
@@ -149,7 +152,7 @@ fn is_extension(row: &ByteRecord) -> bool
     }
 }
 
-/// Returns whether a text is what stands after the last dot of a name.
+/// Returns whether a text is what stands after the last dot of a name; no text is, if the name is not UTF-8.
 fn is_extension_of(name: &[u8], text: &[u8]) -> bool
     ensures { result ≡ tests.is_extension_of name.now text.now }
 {
@@ -159,7 +162,7 @@ fn is_extension_of(name: &[u8], text: &[u8]) -> bool
     }
 }
 
-/// Returns whether a text is a moment as the export writes it.
+/// Returns whether a text is a moment as the export writes it, in 19 bytes.
 fn is_moment_text(text: &[u8]) -> bool
     ensures { result ≡ tests.is_moment_text text.now }
 {
@@ -169,14 +172,14 @@ fn is_moment_text(text: &[u8]) -> bool
     }
 }
 
-/// Returns whether a text is a digest of this kind in lower-case digits.
+/// Returns whether a text is a digest of this kind in lower-case digits; the empty text is that of no hash.
 fn is_digest(hash: HashKind, text: &[u8]) -> bool
     ensures { result ≡ tests.is_digest hash text.now }
 {
     text.len() == digest_length(hash) && are_digest_bytes(text)
 }
 
-/// Returns how many digits a digest of this kind has.
+/// Returns how many digits a digest of this kind has: two for each byte.
 fn digest_length(hash: HashKind) -> usize
     ensures { result ≡ tests.digest_length hash }
 {
@@ -195,7 +198,7 @@ fn are_digest_bytes(text: &[u8]) -> bool
         .all(|c| c.is_ascii_digit() || b'a' <= *c && *c <= b'f')
 }
 
-/// Returns whether METHOD is `Signature` or `Extension` in a row with a format, and empty in another.
+/// Returns whether METHOD, column 5, is `Signature` or `Extension` in a row with a format, and empty in another.
 fn is_method(row: &ByteRecord) -> bool
     ensures { result ≡ tests.is_method (fields_of row.now) }
 {
@@ -207,7 +210,7 @@ fn is_method(row: &ByteRecord) -> bool
     }
 }
 
-/// Returns whether METHOD is `Signature`.
+/// Returns whether METHOD, column 5, is `Signature`.
 fn is_by_signature(row: &ByteRecord) -> bool
     ensures { result ≡ tests.is_by_signature (fields_of row.now) }
 {
@@ -215,7 +218,8 @@ fn is_by_signature(row: &ByteRecord) -> bool
     field(row, 5) == signature
 }
 
-/// Returns whether EXTENSION_MISMATCH is `true` or `false`, and `true` only by signature and with an extension.
+/// Returns whether EXTENSION_MISMATCH, column 11, is `true` or `false`, and `true` only by signature and with an
+/// extension.
 fn is_mismatch(row: &ByteRecord) -> bool
     ensures { result ≡ tests.is_mismatch (fields_of row.now) }
 {
@@ -225,7 +229,8 @@ fn is_mismatch(row: &ByteRecord) -> bool
         || field(row, 11) == wrong && is_by_signature(row) && !field(row, 9).is_empty()
 }
 
-/// Returns the first of the columns before the format's in which a row differs from the first of its record.
+/// Returns the first of the 14 columns before the format's in which a row differs from the first of its record. The
+/// definition has them as `shared_columns` of `droid_export`.
 pub(crate) fn wrong_shared(first: &ByteRecord, row: &ByteRecord) -> Option<u8>
     ensures { result ≡ tests.first_wrong (tests.shared_tests (fields_of first.now) (fields_of row.now)) }
 {

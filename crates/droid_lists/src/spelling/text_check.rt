@@ -1,4 +1,4 @@
-//! Checks the text of a profile.
+//! Checks the text of a profile against what is known of it.
 
 ghost use Rattle.std.specs.Prelude.{IfErr, IfOk};
 ghost use Rattle.droid_lists.specs.Differences.{Compares};

@@ -16,6 +16,7 @@ pub enum TextFault {
     },
 }
 
+// A call that runs out of memory ends the check with `Memory`, by `?` alone.
 impl From<AllocError> for TextFault {
     ghost use Rattle.std.specs.Prelude.{◌≡◌};
     ghost use Rattle.droid_lists.specs.declared.spelling.text_fault.TextFault.TheVariants.{Memory};

@@ -1,5 +1,5 @@
-//! Fields of a profile's text. Of the kit's record `fields_of` are the whole fields, and `partial_of` is what was
-//! pushed of the next one: always nothing here.
+//! Reads one field of a profile's text, between double quotes, and adds it to a row. Of the kit's record `fields_of`
+//! are the whole fields, and `partial_of` is what was pushed of the next one: always nothing here.
 
 ghost use Rattle.std.specs.Prelude.{◌≡◌, ◌==◌, [], IfOk, IfSome, OnOk, Some, false};
 ghost use Rattle.std.specs.List.{position};
@@ -10,8 +10,8 @@ ghost use Rattle.droid_lists.specs.RowReading as reading;
 use csv::ByteRecord;
 use std::alloc::{AllocError, Global};
 
-/// Adds the field between double quotes in front of a text to a row. Returns the text behind the mark after it, or
-/// `None` if no field stands there.
+/// Adds the field between double quotes in front of a text to a row. `mark` is the byte that has to stand behind it.
+/// Returns the text behind the mark, or `None` if no such field stands there; nothing is added then.
 pub(crate) fn push_field<'a>(
     alloc: Global,
     row: &mut ByteRecord,
@@ -32,7 +32,7 @@ pub(crate) fn push_field<'a>(
     push_inner(alloc, row, inner, mark)
 }
 
-/// Adds the field whose first double quote was read.
+/// Adds the field in front of a text whose first double quote was read.
 fn push_inner<'a>(
     alloc: Global,
     row: &mut ByteRecord,
@@ -51,8 +51,8 @@ fn push_inner<'a>(
     }
 }
 
-/// Adds a field behind whose first double quote another one comes. For speed it is taken as it stands, if it has none
-/// in it; the clause is the same for both ways.
+/// Adds a field whose first double quote was read, and behind which another one comes, at `end`. For speed it is taken
+/// as it stands, if it has none in it; the clause is the same for both ways.
 fn push_closed<'a>(
     alloc: Global,
     row: &mut ByteRecord,
@@ -75,7 +75,7 @@ fn push_closed<'a>(
     }
 }
 
-/// Adds a field that may have double quotes in it.
+/// Adds a field, whose first double quote was read, and which may have double quotes in it.
 fn push_marked<'a>(
     alloc: Global,
     row: &mut ByteRecord,
@@ -96,7 +96,8 @@ fn push_marked<'a>(
     }
 }
 
-/// Reads a field behind its first double quote.
+/// Reads a field behind its first double quote, byte by byte: two double quotes stand for one, and a single one ends
+/// it, if the mark comes behind. Returns the field and the text behind the mark.
 fn marked_field<'a>(
     alloc: Global,
     text: &'a [u8],
@@ -128,7 +129,8 @@ fn marked_field<'a>(
     Ok(None)
 }
 
-/// Returns the field before the first double quote, if the mark comes behind it, and what comes after the mark.
+/// Returns the field before the first double quote, which stands at `end`, if the mark comes behind it, and the text
+/// behind the mark. Only `Some` promises something: `None` costs time.
 fn plain_field(text: &[u8], end: usize, mark: u8) -> Option<(&[u8], &[u8])>
     requires { position (λ b. b == 34) text.now ≡ Some end }
     ensures { IfSome result (λ parts.
@@ -143,7 +145,7 @@ fn plain_field(text: &[u8], end: usize, mark: u8) -> Option<(&[u8], &[u8])>
     Some((field, rest))
 }
 
-/// Returns the place of the first double quote.
+/// Returns the place of the first double quote, counted from 0.
 fn first_quote(text: &[u8]) -> Option<usize>
     ensures { result ≡ position (λ b. b == 34) text.now }
 {

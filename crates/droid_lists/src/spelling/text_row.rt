@@ -1,4 +1,4 @@
-//! Rows of a profile's text.
+//! Reads one row in its one spelling, and returns the field of a column. Columns are counted from 0.
 
 ghost use Rattle.std.specs.Prelude.{◌≡◌, [], IfOk, OnOk};
 ghost use Rattle.csv.specs.Records.{fields_of, partial_of};
@@ -9,8 +9,9 @@ use crate::spelling::text_field::push_field;
 use csv::ByteRecord;
 use std::alloc::{AllocError, Global};
 
-/// Reads the row in front of a text in its one spelling: 18 fields between double quotes, commas between them, and a
-/// line feed. Returns the text behind it, or the first column that is spelled otherwise.
+/// Reads the row in front of a text into `row`, in place of what it had, in its one spelling: 18 fields between double
+/// quotes, commas between them, and a line feed. Returns the text behind it, or the first column that is spelled
+/// otherwise.
 pub(crate) fn read_row<'a>(
     alloc: Global,
     row: &mut ByteRecord,
@@ -30,7 +31,7 @@ pub(crate) fn read_row<'a>(
     Ok(Ok(rest))
 }
 
-/// Returns the field of a column, or no bytes past the last.
+/// Returns the bytes of the field of a column, or no bytes past the last.
 pub(crate) fn field(row: &ByteRecord, column: usize) -> &[u8]
     ensures { result.now ≡ at (fields_of row.now) column }
 {
@@ -40,7 +41,7 @@ pub(crate) fn field(row: &ByteRecord, column: usize) -> &[u8]
     }
 }
 
-/// Returns the mark behind the field of a column.
+/// Returns the mark behind the field of a column: a line feed behind 17, the last of 18, and a comma behind any other.
 fn mark_behind(column: u8) -> u8
     ensures { result ≡ reading.mark_behind column }
 {

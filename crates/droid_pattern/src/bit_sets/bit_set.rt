@@ -1,4 +1,4 @@
-//! The bit set.
+//! A set of places as 64-bit words: the type by which the rest of the crate uses this folder.
 
 ghost use Rattle.std.specs.Prelude.{◌≡◌, ◌↔◌, ◌⊎◌, ◌<◌, ◌≤◌, ◌+◌, ◌^◌, ℕ, OnOk, OnErr, true, false, [], ◌∷◌, ◌++◌};
 ghost use Rattle.std.specs.Prelude.{length};
@@ -46,7 +46,8 @@ impl BitSet {
         self.words.len()
     }
 
-    /// Adds a word at the end.
+    /// Adds a word at the end: its bit i stands for the place 64 × `len` + i, where `len` is the number of words
+    /// before.
     pub fn push(&mut self, word: u64) -> Result<(), AllocError>
         ensures added { OnOk result (self.new ≡ self.old ++ word ∷ []) }
         ensures stays { OnErr result (self.new ≡ self.old) }
@@ -63,7 +64,7 @@ impl BitSet {
         has_none(&self.words)
     }
 
-    /// Replaces the places by those from `low` to `high`.
+    /// Replaces the places by those from `low` to `high`, both included; none if `low` is above `high`.
     pub fn set_range(&mut self, low: usize, high: usize) -> Result<(), AllocError>
         requires { high < 2 ^ 63 }
         ensures { OnOk result ((p : ℕ) → IsPlace self.new p ↔ ((low ≤ p) × (p ≤ high))) }
@@ -71,7 +72,7 @@ impl BitSet {
         push_runs(&mut self.words, low, high)
     }
 
-    /// Copies the other set into this one.
+    /// Replaces the places by those of the other set.
     pub fn set_from(&mut self, other: &BitSet) -> Result<(), AllocError>
         ensures { OnOk result (self.new ≡ other.now) }
     {
@@ -80,7 +81,7 @@ impl BitSet {
         Ok(())
     }
 
-    /// Keeps the places that both sets have.
+    /// Keeps the places that both sets have: their intersection.
     pub fn keep(&mut self, other: &BitSet)
         ensures { (p : ℕ) → IsPlace self.new p ↔ (IsPlace self.old p × IsPlace other.now p) }
     {
@@ -95,7 +96,7 @@ impl BitSet {
         keep_step(&mut self.words, &other.words)
     }
 
-    /// Adds the places of the other set.
+    /// Adds the places of the other set: the union of both.
     pub fn join(&mut self, other: &BitSet) -> Result<(), AllocError>
         ensures { OnOk result ((p : ℕ) → IsPlace self.new p ↔ (IsPlace self.old p ⊎ IsPlace other.now p)) }
     {
@@ -110,7 +111,7 @@ impl BitSet {
     }
 
     /// Replaces the places by all those that lie from `least` to `least + more` above one of them and are at most
-    /// `len`.
+    /// `len`, the number of bytes: a move over a gap.
     pub fn cross(&mut self, least: usize, more: usize, len: usize) -> Result<(), AllocError>
         requires small { (least < 2 ^ 62) × (more < 2 ^ 63) × (len < 2 ^ 63) }
         ensures { OnOk result ((q : ℕ) → IsPlace self.new q

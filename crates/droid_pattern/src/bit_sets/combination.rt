@@ -6,7 +6,7 @@ ghost use Rattle.droid_pattern.specs.Places.{IsPlace};
 use crate::bit_sets::word_count::{grow, trim};
 use std::alloc::AllocError;
 
-/// Keeps the places that both sets have.
+/// Keeps the places that both sets have. Words past the end of the shorter set go.
 pub(crate) fn keep(words: &mut Vec<u64>, others: &[u64])
     ensures { (p : ℕ) → IsPlace words.new.items p ↔ (IsPlace words.old.items p × IsPlace others.now p) }
 {
@@ -15,7 +15,7 @@ pub(crate) fn keep(words: &mut Vec<u64>, others: &[u64])
     trim(words);
 }
 
-/// Adds the places of the other set.
+/// Adds the places of the other set. After an error, which is out of memory, nothing is promised of `words`.
 pub(crate) fn join(words: &mut Vec<u64>, others: &[u64]) -> Result<(), AllocError>
     ensures { OnOk result ((p : ℕ) → IsPlace words.new.items p ↔ (IsPlace words.old.items p ⊎ IsPlace others.now p)) }
 {
@@ -24,7 +24,8 @@ pub(crate) fn join(words: &mut Vec<u64>, others: &[u64]) -> Result<(), AllocErro
     Ok(())
 }
 
-/// Replaces each word by its bitwise AND with the other set's word.
+/// Replaces each word by its bitwise AND with the other set's word at the same index. Further words of the other set
+/// don't matter.
 fn keep_words(words: &mut [u64], others: &[u64])
     requires { length words.old ≤ length others.now }
     ensures len { length words.new ≡ length words.old }
@@ -36,7 +37,7 @@ fn keep_words(words: &mut [u64], others: &[u64])
     }
 }
 
-/// Replaces each word by its bitwise OR with the other set's word, if there is one.
+/// Replaces each word by its bitwise OR with the other set's word at the same index, if there is one.
 fn join_words(words: &mut [u64], others: &[u64])
     requires { length others.now ≤ length words.old }
     ensures len { length words.new ≡ length words.old }

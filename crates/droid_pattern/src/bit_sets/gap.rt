@@ -1,4 +1,4 @@
-//! Moves the places of a bit set over one byte or over a gap.
+//! Moves the places of a bit set over one byte or over a gap, adding or dropping words as the highest place needs it.
 
 ghost use Rattle.std.specs.Prelude.{◌≡◌, ◌↔◌, ◌<◌, ◌≤◌, ◌+◌, ◌/◌, ◌^◌, ℕ, OnOk, length};
 ghost use Rattle.droid_pattern.specs.Places.{IsPlace};
@@ -9,7 +9,7 @@ use crate::bit_sets::shift::{advance, widen};
 use crate::bit_sets::word_count::{clear_past, grow, trim};
 use std::alloc::AllocError;
 
-/// Drops the places above `last`.
+/// Drops the places above `last`, and the words past that of `last`.
 fn drop_above(words: &mut Vec<u64>, last: usize)
     ensures len { length words.new.items ≤ last / 64 + 1 }
     ensures places { (p : ℕ) → IsPlace words.new.items p ↔ (IsPlace words.old.items p × (p ≤ last)) }
@@ -19,7 +19,7 @@ fn drop_above(words: &mut Vec<u64>, last: usize)
     trim(words);
 }
 
-/// Moves each place up by one.
+/// Moves each place up by one. After an error, which is out of memory, nothing is promised of `words`, as with `cross`.
 pub(crate) fn step(words: &mut Vec<u64>) -> Result<(), AllocError>
     ensures { OnOk result ((q : ℕ) → IsPlace words.new.items q ↔ ((p : ℕ) × IsPlace words.old.items p × (q ≡ p + 1))) }
 {
@@ -32,7 +32,8 @@ pub(crate) fn step(words: &mut Vec<u64>) -> Result<(), AllocError>
     Ok(())
 }
 
-/// Replaces the places by all those that lie from `least` to `least + more` above one of them and are at most `len`.
+/// Replaces the places by all those that lie from `least` to `least + more` above one of them and are at most `len`,
+/// the number of bytes. The bounds keep sums within a `usize`.
 pub(crate) fn cross(
     words: &mut Vec<u64>,
     least: usize,

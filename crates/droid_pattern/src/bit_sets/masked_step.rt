@@ -8,7 +8,8 @@ use crate::bit_sets::gap::step;
 use crate::bit_sets::word_count::trim;
 use std::alloc::AllocError;
 
-/// Keeps the places that both sets have, and moves each of them up by one.
+/// Keeps the places that both sets have, and moves each of them up by one. If the other set has more words, one pass
+/// does both. After an error, which is out of memory, nothing is promised of `words`.
 pub(crate) fn keep_step(words: &mut Vec<u64>, others: &[u64]) -> Result<(), AllocError>
     ensures { OnOk result ((q : ℕ)
         → IsPlace words.new.items q ↔ ((p : ℕ) × IsPlace words.old.items p × IsPlace others.now p × (q ≡ p + 1))) }

@@ -1,4 +1,4 @@
-//! Words in which the set bits form one run.
+//! Words in which the set bits form one run, and sets whose places do.
 
 ghost use Rattle.std.specs.Prelude.{◌≡◌, ◌↔◌, ◌<◌, ◌≤◌, ◌-◌, ◌^◌, ℕ, OnOk, length};
 ghost use Rattle.std.specs.Int.{bit_at};
@@ -7,7 +7,8 @@ ghost use Rattle.droid_pattern.specs.Places.{IsPlace};
 use crate::bit_sets::word_count::clear_past;
 use std::alloc::AllocError;
 
-/// Returns the word whose set bits are those from `low` up to, but not including, `high`.
+/// Returns the word whose set bits are those from `low` up to, but not including, `high`. A `high` above 64 counts as
+/// 64.
 pub(crate) fn run_of(low: usize, high: usize) -> u64
     ensures { (i : ℕ) → i < 64 → (bit_at result i ≡ 1) ↔ ((low ≤ i) × (i < high)) }
 {
@@ -18,7 +19,7 @@ pub(crate) fn run_of(low: usize, high: usize) -> u64
     lowest(high) - lowest(low)
 }
 
-/// Returns the word whose set bits are the lowest `count`.
+/// Returns the word whose set bits are the lowest `count`, at most all 64.
 fn lowest(count: usize) -> u64
     requires { count ≤ 64 }
     ensures { result ≡ 2 ^ count - 1 }
@@ -30,7 +31,7 @@ fn lowest(count: usize) -> u64
     }
 }
 
-/// Replaces the words by those that hold the places from `low` to `high`.
+/// Replaces the words by those that hold the places from `low` to `high`, both included; none if `low` is above `high`.
 pub(crate) fn push_runs(words: &mut Vec<u64>, low: usize, high: usize) -> Result<(), AllocError>
     requires { high < 2 ^ 63 }
     ensures { OnOk result ((p : ℕ) → IsPlace words.new.items p ↔ ((low ≤ p) × (p ≤ high))) }
@@ -42,7 +43,7 @@ pub(crate) fn push_runs(words: &mut Vec<u64>, low: usize, high: usize) -> Result
     Ok(())
 }
 
-/// Drops the places below `first`.
+/// Drops the places below `first`; the number of words stays.
 fn clear_before(words: &mut [u64], first: usize)
     ensures len { length words.new ≡ length words.old }
     ensures places { (p : ℕ) → IsPlace words.new p ↔ (IsPlace words.old p × (first ≤ p)) }

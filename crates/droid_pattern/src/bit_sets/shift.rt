@@ -1,10 +1,11 @@
-//! Moves the bits of all words up.
+//! Moves the bits of all words up, within the words that are there: a place that would move past the last one is lost.
 
 ghost use Rattle.std.specs.Prelude.{◌≡◌, ◌↔◌, ◌⊎◌, ◌<◌, ◌≤◌, ◌+◌, ◌*◌, ◌-◌, ℕ, length};
 ghost use Rattle.std.specs.Int.{bit_at};
 ghost use Rattle.droid_pattern.specs.Places.{IsPlace, Moves};
 
-/// Returns the word that stands at `place` after all bits have moved up by `whole` words and `part` bits.
+/// Returns the word that stands at index `place` after all bits have moved up by `whole` words and `part` bits. From
+/// below come bits 0.
 #[inline(always)]
 fn moved(words: &[u64], place: usize, whole: usize, part: u32) -> u64
     requires inside { place < length words.now }
@@ -33,7 +34,8 @@ fn joined(words: &[u64], place: usize, whole: usize, part: u32) -> u64
     (words[place - whole] << part) | (words[place - whole - 1] >> (64 - part))
 }
 
-/// Returns the number of words at the front that don't take bits from two words below them.
+/// Returns the number of words at the front that don't take bits from two words below them: all `len`, if whole words
+/// move. For words from there on, `advance` and `spread` may call `joined`.
 fn edge(len: usize, whole: usize, part: u32) -> usize
     ensures most { result ≤ len }
     ensures rest { result < len → (whole < result) × (0 < part) }

@@ -1,4 +1,4 @@
-//! The words of a bit set: clears the end of the last one, drops those at the end that are 0, adds some.
+//! The end of a bit set's words: clears bits of the last word, drops words that are 0, adds words that are 0.
 
 ghost use Rattle.std.specs.Prelude.{◌≡◌, ◌↔◌, ◌<◌, ◌≤◌, ◌+◌, ◌/◌, ◌*◌, ℕ, OnOk, max, length};
 ghost use Rattle.droid_pattern.specs.Places.{IsPlace};
@@ -7,7 +7,7 @@ use crate::bit_sets::ends::used;
 use crate::bit_sets::run::run_of;
 use std::alloc::AllocError;
 
-/// Drops the places above `last`, where no word lies past the one of `last`.
+/// Drops the places above `last`, where no word lies past the one of `last`; the number of words stays.
 pub(crate) fn clear_past(words: &mut [u64], last: usize)
     requires { length words.old ≤ last / 64 + 1 }
     ensures len { length words.new ≡ length words.old }

@@ -1,4 +1,4 @@
-//! The files that are read next, and the lanes that they are read in.
+//! The files of one batch, and the eight lanes that they are read in.
 
 ghost use Rattle.std.specs.Prelude.{◌≡◌, ◌≤◌, ℕ, [], Some, IfOk, length, slice_get};
 ghost use Rattle.droid_profile.specs.LaneSteps.{IsFor};
@@ -24,7 +24,8 @@ pub struct Batch {
 }
 
 impl Batch {
-    /// Makes an empty batch. Takes all memory for the ends of files.
+    /// Makes an empty batch with eight idle lanes. Takes all memory for the ends of files, twice `options.scan_limit`
+    /// bytes for each lane.
     pub fn new(alloc: Global, options: Options) -> Result<Batch, AllocError>
         requires { options.scan_limit ≤ 65536 }
         ensures empty { IfOk result (λ batch. batch.files.items ≡ []) }
@@ -41,7 +42,8 @@ impl Batch {
     }
 }
 
-/// Makes eight idle lanes that keep this many bytes of each end of a file.
+/// Makes eight idle lanes that keep `limit` bytes of each end of a file. Eight is the number of `HashLanes`, which
+/// hashes as many at a time; `IsFor` of the definitions asks for it.
 fn idle_lanes(alloc: Global, limit: usize) -> Result<Vec<FileLane>, AllocError>
     ensures eight { IfOk result (λ lanes. length lanes.items ≡ 8) }
     ensures limits { IfOk result (λ lanes.

@@ -19,7 +19,8 @@ use droid_frame::HashValue;
 use droid_pronom::{Found, Registry};
 use std::alloc::{AllocError, Global};
 
-/// Ends the file of a lane if all its bytes are hashed.
+/// Ends the file of a lane if all its bytes are hashed: completes its record, and leaves the lane idle. Otherwise does
+/// nothing. After an error nothing is promised of `batch`: the profile ends.
 pub(crate) fn end_file(
     alloc: Global,
     registry: &Registry,
@@ -49,7 +50,7 @@ pub(crate) fn end_file(
     Ok(())
 }
 
-/// Returns whether all bytes of the lane's file are hashed.
+/// Returns whether a file is read in the lane, its last read is done, and all its bytes are hashed.
 fn has_ended(lane: &FileLane) -> bool
     ensures ended { IsTrue result → HasEnded lane.now }
     ensures unfinished { result ≡ false → IsUnfinished lane.now }
@@ -63,7 +64,7 @@ fn has_ended(lane: &FileLane) -> bool
     lane.is_hashed()
 }
 
-/// Identifies the file at this place, which is read in this lane.
+/// Identifies the file at this place of the batch, which was read in this lane to its end.
 fn identify_at(
     alloc: Global,
     registry: &Registry,
@@ -90,7 +91,7 @@ fn identify_at(
     )
 }
 
-/// Identifies a file by its first and last bytes and its name.
+/// Identifies a file by its first and last bytes, which the lane keeps, its name and its size.
 fn identify(
     alloc: Global,
     registry: &Registry,
@@ -110,7 +111,7 @@ fn identify(
     registry.identify(alloc, name, first, last, size, options.match_all)
 }
 
-/// Completes the record of a file.
+/// Completes the record of a file with its hash and its formats. The file is `Whole` then.
 fn complete(row: &mut FileRow, hash: HashValue, found: Found)
     ensures { Completes row.old row.new hash found }
 {

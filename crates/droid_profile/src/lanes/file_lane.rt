@@ -7,7 +7,7 @@ ghost use Rattle.droid_profile.specs.TurnsLeft.{HasRest};
 use droid_hash::EndBytes;
 use std::alloc::{AllocError, Global};
 
-/// How many bytes a lane reads at a time.
+/// How many bytes a lane reads at a time at most: 64 KiB. The clause `most` of `next_wanted` has the number too.
 pub(crate) const ROOM: u32 = 65_536;
 
 /// The file that is read in a lane, and what of it is not hashed yet.
@@ -30,7 +30,8 @@ pub(crate) struct FileLane {
 }
 
 impl FileLane {
-    /// Makes an idle lane that keeps this many bytes of each end of a file.
+    /// Makes an idle lane that keeps `limit` bytes of each end of a file. Takes the memory for these; the buffer gets
+    /// its own at the first read.
     pub(crate) fn new(alloc: Global, limit: usize) -> Result<FileLane, AllocError>
         ensures { IfOk result (λ lane. lane.ends.limit ≡ limit) }
     {
@@ -46,7 +47,7 @@ impl FileLane {
         })
     }
 
-    /// Begins a file of this size.
+    /// Begins the file at this place of the batch, of `size` bytes, whatever was in the lane before.
     pub(crate) fn begin(&mut self, place: usize, size: u64)
         ensures { Begins self.old self.new place size }
     {
@@ -59,7 +60,7 @@ impl FileLane {
         self.ends.begin(size);
     }
 
-    /// Returns the bytes that are not hashed yet.
+    /// Returns the bytes of the last read that are not hashed yet. None are left if `hashed` is past the buffer.
     pub(crate) fn rest(&self) -> &[u8]
         ensures { result.now ≡ drop self.now.hashed self.now.buffer.items }
     {
@@ -69,7 +70,7 @@ impl FileLane {
         &self.buffer.as_slice()[self.hashed..]
     }
 
-    /// Returns whether the lane has read on as far as it can, and all of that is hashed.
+    /// Returns whether all bytes of the last read are hashed. So it is of an idle lane that has read nothing.
     pub(crate) fn is_hashed(&self) -> bool
         ensures all { IsTrue result → drop self.now.hashed self.now.buffer.items ≡ [] }
         ensures rest { result ≡ false → HasRest self.now }
@@ -77,7 +78,7 @@ impl FileLane {
         self.hashed >= self.buffer.len()
     }
 
-    /// Counts this many more bytes as hashed, of those that are there.
+    /// Counts `count` more bytes as hashed, or fewer if not so many are left in the buffer.
     pub(crate) fn pass(&mut self, count: usize)
         ensures { Passes self.old self.new count }
     {

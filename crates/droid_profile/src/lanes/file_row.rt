@@ -1,4 +1,4 @@
-//! A file of a tree that has its number.
+//! A file of a tree that has its number, and how far its reading is.
 
 ghost use Rattle.std.specs.Prelude.{◌≡◌, ◌↔◌, IsTrue};
 ghost use Rattle.droid_profile.specs.FileStates.{HasState};
@@ -31,7 +31,7 @@ pub struct FileRow {
     pub state: FileState,
 }
 
-/// Returns whether there is a file at this place that waits for a lane.
+/// Returns whether there is a file at this place of the batch that waits for a lane.
 pub(crate) fn waits_at(files: &[FileRow], place: usize) -> bool
     ensures { IsTrue result ↔ HasState files.now place Waits }
 {
@@ -41,7 +41,7 @@ pub(crate) fn waits_at(files: &[FileRow], place: usize) -> bool
     }
 }
 
-/// Returns whether there is a file at this place that is read in this lane.
+/// Returns whether there is a file at this place of the batch that is read in this lane.
 pub(crate) fn is_read_in(files: &[FileRow], place: usize, lane: usize) -> bool
     ensures { IsTrue result ↔ HasState files.now place (InLane lane) }
 {

@@ -11,7 +11,8 @@ ghost use Rattle.droid_profile.specs.declared.lanes.file_row.FileRow.{FileRow};
 use crate::lanes::batch::Batch;
 use crate::lanes::file_row::{FileState, waits_at};
 
-/// Begins the next of the files that wait, if the lane is idle.
+/// Takes the last of the files that wait, and begins it in the lane with this number, if that is idle. Does nothing if
+/// it is busy, or if no file waits.
 pub(crate) fn begin_file(batch: &mut Batch, lane: usize)
     requires there { lane < length batch.old.lanes.items }
     requires small { lane < 8 }

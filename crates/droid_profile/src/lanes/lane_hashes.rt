@@ -1,4 +1,4 @@
-//! Hashes the bytes of all lanes.
+//! Hashes the bytes of all lanes together, and sees whether any lane is busy.
 
 ghost use Rattle.std.specs.Prelude.{◌≡◌, ◌<◌, ℕ, List, ◌++◌, length, take, false, IsTrue};
 ghost use Rattle.droid_hash.specs.Scanning.{Scanned, lanes_kind};
@@ -8,7 +8,8 @@ ghost use Rattle.droid_profile.specs.TurnsLeft.{HasBusy};
 use crate::lanes::file_lane::FileLane;
 use droid_hash::HashLanes;
 
-/// Hashes the next bytes of all lanes: as many of each as the lane with the fewest has.
+/// Hashes the next bytes of all lanes: as many of each as the lane with the fewest has left, those that have none left
+/// aside.
 pub(crate) fn advance(lanes: &mut Vec<FileLane>, hashes: &mut HashLanes)
     requires { length lanes.old.items ≡ 8 }
     ensures { Advances lanes.old.items lanes.new.items hashes.old hashes.new }
@@ -17,7 +18,7 @@ pub(crate) fn advance(lanes: &mut Vec<FileLane>, hashes: &mut HashLanes)
     pass_all(lanes, count);
 }
 
-/// Counts this many more bytes of each lane as hashed, of those that are there.
+/// Counts `count` more bytes of each lane as hashed, or fewer if not so many are left there.
 fn pass_all(lanes: &mut Vec<FileLane>, count: usize)
     ensures { AllPass lanes.old.items lanes.new.items count }
 {
@@ -26,7 +27,8 @@ fn pass_all(lanes: &mut Vec<FileLane>, count: usize)
     }
 }
 
-/// Hashes the first bytes of what is left in each lane, and returns how many.
+/// Hashes the first bytes of what is left in each of the eight lanes, and returns how many of each. If bytes are left
+/// in any lane, that is not 0.
 fn take_rests(lanes: &[FileLane], hashes: &mut HashLanes) -> usize
     requires { length lanes.now ≡ 8 }
     ensures kind { lanes_kind hashes.new ≡ lanes_kind hashes.old }
@@ -46,7 +48,7 @@ fn take_rests(lanes: &[FileLane], hashes: &mut HashLanes) -> usize
     ])
 }
 
-/// Returns whether all lanes are idle.
+/// Returns whether no file is read in any lane.
 pub(crate) fn are_idle(lanes: &[FileLane]) -> bool
     ensures idle { IsTrue result → AreIdle lanes.now }
     ensures busy { result ≡ false → HasBusy lanes.now }

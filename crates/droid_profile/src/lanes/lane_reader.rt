@@ -29,7 +29,8 @@ pub(crate) enum Came {
 }
 
 /// Reads on in the file of a lane if all that was read before is hashed and the file has not ended. A file that cannot
-/// be read as its folder lists it is dropped.
+/// be read as its folder lists it is dropped, and the lane is idle then. After an error nothing is promised of `lanes`
+/// and `files`: the profile ends.
 pub(crate) fn read_on<T: Tree, W: Watcher>(
     tree: &mut T,
     watcher: &mut W,
@@ -67,7 +68,7 @@ pub(crate) fn read_on<T: Tree, W: Watcher>(
     }
 }
 
-/// Returns whether the lane has to read on.
+/// Returns whether the lane has to read on: its file has not ended, and all that was read is hashed.
 fn is_due(lane: &FileLane) -> bool
     ensures due { IsTrue result → IsDue lane.now }
     ensures not_due { result ≡ false → IsNotDue lane.now }
@@ -81,7 +82,8 @@ fn is_due(lane: &FileLane) -> bool
     lane.is_hashed()
 }
 
-/// Reads the next bytes of a file into the lane's buffer.
+/// Reads the next bytes of a file into the lane's buffer, in place of those before, and reports how many came to the
+/// watcher. Fails only with `Memory`.
 fn read_piece<T: Tree, W: Watcher>(
     tree: &mut T,
     watcher: &mut W,
@@ -113,8 +115,8 @@ fn read_piece<T: Tree, W: Watcher>(
     }
 }
 
-/// Returns how many bytes the next read asks for: one more than the file has left, if that fits the buffer. So the read
-/// shows whether the file ends where its folder says.
+/// Returns how many bytes the next read asks for: one more than the file has left from offset `from` on, if that fits
+/// the buffer. So the read shows whether the file ends where its folder says.
 fn next_wanted(size: u64, from: u64) -> u32
     ensures most { result ≤ 65536 }
     ensures some { 0 < result }
@@ -126,8 +128,9 @@ fn next_wanted(size: u64, from: u64) -> u32
     }
 }
 
-/// Judges the bytes that came, and keeps them if they are the file's: no more than it has left, and, if fewer came than
-/// were asked for, exactly those.
+/// Judges the bytes that came into the buffer, where `wanted` were asked for, and keeps them if they are the file's: no
+/// more than it has left, and, if fewer came than were asked for, exactly those. `size` is the file's length as its
+/// folder lists it.
 fn take_piece(lane: &mut FileLane, size: u64, wanted: u32) -> Came
     requires hashed { lane.old.hashed ≡ 0 }
     requires wanted { 0 < wanted }

@@ -1,4 +1,4 @@
-//! Reads files, eight at a time.
+//! Reads the files of a batch, turn by turn, until no file is left.
 
 ghost use Rattle.std.specs.Prelude.{◌≡◌, ◌<◌, [], ℕ, IfErr, IfOk, IsTrue, OnErr, OnOk, Contains, false, length, List};
 ghost use Rattle.droid_profile.specs.declared.fault.ProfileFault.TheVariants.{Memory};
@@ -48,7 +48,7 @@ pub fn read_files<T: Tree, W: Watcher>(
     Ok(())
 }
 
-/// Returns whether no file waits and all lanes are idle.
+/// Returns whether no file of the batch waits and all lanes are idle: so all were read, or dropped.
 fn are_read(batch: &Batch) -> bool
     ensures none { IsTrue result → batch.now.waiting.items ≡ [] }
     ensures idle { IsTrue result → AreIdle batch.now.lanes.items }
@@ -61,7 +61,7 @@ fn are_read(batch: &Batch) -> bool
 }
 
 /// Ends the file of each lane that is read, begins the next one there, reads on in each lane, and hashes the next bytes
-/// of all.
+/// of all. After an error nothing is promised of `batch`: the profile ends.
 fn read_turn<T: Tree, W: Watcher>(
     alloc: Global,
     tree: &mut T,
@@ -90,8 +90,8 @@ fn read_turn<T: Tree, W: Watcher>(
     Ok(())
 }
 
-/// Returns the places of the files, those of the longest last, which are read first. That is for speed, so that no long
-/// file is read at the end beside idle lanes: no clause needs the order.
+/// Returns the places of the files of a batch, those of the longest last, which are read first. That is for speed, so
+/// that no long file is read at the end beside idle lanes: no clause needs the order.
 fn places_of(alloc: Global, files: &[FileRow]) -> Result<Vec<usize>, AllocError>
     ensures { IfOk result (λ places. (place : ℕ) → place < length files.now → Contains places.items place) }
 {
@@ -100,7 +100,7 @@ fn places_of(alloc: Global, files: &[FileRow]) -> Result<Vec<usize>, AllocError>
     Ok(places)
 }
 
-/// Returns the places below this one.
+/// Returns the places from 0 up to this count, without it.
 fn places_below(alloc: Global, count: usize) -> Result<Vec<usize>, AllocError>
     ensures { IfOk result (λ places. (place : ℕ) → place < count → Contains places.items place) }
 {
@@ -111,8 +111,8 @@ fn places_below(alloc: Global, count: usize) -> Result<Vec<usize>, AllocError>
     Ok(places)
 }
 
-/// Returns the size of the file at this place, as its folder lists it. Without a contract, since only the order of
-/// reading depends on it.
+/// Returns the size of the file at this place, as its folder lists it, or 0 if there is none. Without a contract, since
+/// only the order of reading depends on it.
 fn size_at(files: &[FileRow], place: usize) -> u64 {
     match files.get(place) {
         Some(row) => row.entry.len,

@@ -1,4 +1,4 @@
-//! Takes one entry of a folder: a folder, a file, or something that is skipped.
+//! Takes one entry of a folder as a row: a folder, a file, or something that is skipped.
 
 ghost use Rattle.std.specs.Prelude.{◌≡◌, ◌+◌, ◌≤◌, ◌++◌, [], ◌∷◌, IfErr, IfOk, OnOk, length};
 ghost use Rattle.droid_tree.specs.Paths.{below};
@@ -22,7 +22,8 @@ use droid_tree::{
 };
 use std::alloc::{AllocError, Global};
 
-/// Takes one entry of the folder that was listed last.
+/// Takes one entry of the folder that was listed last: appends its row to `rows`, and a file to those of the batch,
+/// `files`. After an error nothing is promised of these: `profile` hands out no row of a batch whose taking failed.
 pub(crate) fn take_entry<T: Tree>(
     alloc: Global,
     tree: &mut T,
@@ -66,7 +67,8 @@ pub(crate) fn take_entry<T: Tree>(
     }
 }
 
-/// Takes a file: gives it the next number and a place in the batch.
+/// Takes the file at this path: gives it the next number and a place in the batch, where it waits to be read. Fails
+/// with `Numbers` if no number is left.
 fn take_file(
     alloc: Global,
     scan: &mut Scan,
@@ -109,8 +111,9 @@ fn take_file(
     Ok(())
 }
 
-/// Takes a folder, if it can be listed now: gives it the next number, and lets it wait to be listed. Otherwise it is
-/// skipped, and has no number.
+/// Takes the folder at this path, if it can be listed now: gives it the next number, and lets it wait to be listed.
+/// Otherwise it is skipped, and has no number. Fails with `Numbers` if no number is left, even before it is asked
+/// whether the folder can be listed.
 fn take_folder<T: Tree>(
     alloc: Global,
     tree: &mut T,
@@ -155,7 +158,8 @@ fn take_folder<T: Tree>(
     Ok(())
 }
 
-/// Appends a file to the batch, and its row.
+/// Appends a file to the batch, and its row, which has its place there. After an error there may be a row without its
+/// file: nobody hands it out, since `profile` ends.
 fn push_file(rows: &mut Vec<Row>, files: &mut Vec<FileRow>, file: FileRow) -> Result<(), AllocError>
     ensures rows { OnOk result (rows.new.items ≡ rows.old.items ++ row_forms.File (length files.old.items) ∷ []) }
     ensures files { OnOk result (files.new.items ≡ files.old.items ++ file ∷ []) }
@@ -166,7 +170,7 @@ fn push_file(rows: &mut Vec<Row>, files: &mut Vec<FileRow>, file: FileRow) -> Re
     Ok(())
 }
 
-/// Appends the row of a folder.
+/// Appends the row of a folder, whose record is complete: there is nothing to read.
 fn push_folder(rows: &mut Vec<Row>, shown: Record) -> Result<(), AllocError>
     ensures { OnOk result (rows.new.items ≡ rows.old.items ++ row_forms.Folder shown ∷ []) }
 {
@@ -174,7 +178,7 @@ fn push_folder(rows: &mut Vec<Row>, shown: Record) -> Result<(), AllocError>
     Ok(())
 }
 
-/// Returns the number after this one.
+/// Returns the number after this one, or the fault `Numbers` after 4,294,967,295.
 fn next_number(number: u32) -> Result<u32, ProfileFault>
     ensures next { IfOk result (λ next. next ≡ number + 1) }
     ensures few { OnOk result (number + 1 ≤ 4294967295) }
@@ -186,7 +190,7 @@ fn next_number(number: u32) -> Result<u32, ProfileFault>
     }
 }
 
-/// Appends the row of something that is skipped.
+/// Appends the row of something that is skipped, for the reason `why`. Its path is text.
 pub(crate) fn push_left(
     alloc: Global,
     rows: &mut Vec<Row>,
@@ -200,7 +204,8 @@ pub(crate) fn push_left(
     Ok(())
 }
 
-/// Appends the row of an entry that is skipped. Its name may be invalid UTF-8.
+/// Appends the row of an entry of `folder` that is skipped, for the reason `why`. Its name may be invalid UTF-8, so its
+/// path is put together as bytes.
 pub(crate) fn push_left_below(
     alloc: Global,
     rows: &mut Vec<Row>,

@@ -1,4 +1,4 @@
-//! Takes entries of a tree in order, folder by folder.
+//! Takes the entries of a tree in order, folder by folder, as many as one batch has.
 
 ghost use Rattle.std.specs.Prelude.{◌≡◌, ◌<◌, [], false, true, IfErr, IfOk, OnOk};
 ghost use Rattle.droid_profile.specs.ScanFits.{AddsFew, EndsTaking, Takes};
@@ -13,10 +13,12 @@ use crate::walk::scan::Scan;
 use droid_tree::Tree;
 use std::alloc::Global;
 
-/// How many entries and folders are taken for one batch.
+/// How many entries and folders are taken for one batch. The clauses of `take_rows` and `few_wait` of `EndsEarly` have
+/// the number too, and the prover compares them; docs/DECISIONS.md says why it is this one.
 const TAKEN: usize = 8_192;
 
-/// Takes the next entries of a tree. Returns whether something is left.
+/// Takes the next entries of a tree, and lists folders on the way, up to 8,192 of both: appends their rows, and the
+/// files among them. Returns whether something may be left.
 pub fn take_rows<T: Tree>(
     alloc: Global,
     tree: &mut T,
@@ -43,7 +45,8 @@ pub fn take_rows<T: Tree>(
     Ok(true)
 }
 
-/// Takes the next entry, or lists the next folder. Returns whether there was one.
+/// Takes the next entry of the folder that was listed last, or, if none is left, lists the next folder. Returns whether
+/// there was one.
 fn take_next<T: Tree>(
     alloc: Global,
     tree: &mut T,

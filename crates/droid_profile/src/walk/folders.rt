@@ -1,4 +1,4 @@
-//! Lists the next folder.
+//! Lists the next folder, and takes what of it needs no further look: repeated names, or that it is unreadable.
 
 ghost use Rattle.std.specs.Prelude.{◌≡◌, ◌<◌, ◌++◌, [], false, true, map, List, IfErr, IfOk, OnOk};
 ghost use Rattle.droid_profile.specs.declared.fault.ProfileFault.TheVariants.{Memory};
@@ -14,7 +14,8 @@ use crate::walk::scan::Scan;
 use droid_tree::{FolderEntry, PendingFolder, Skipped, Tree, read_folder};
 use std::alloc::{AllocError, Global};
 
-/// Lists the folder that has waited longest, and takes its repeated entries. Returns whether there was one.
+/// Lists the folder that has waited longest, whose entries are then those of `scan`, and takes its repeated entries.
+/// Returns whether there was one. After an error nothing is promised of `scan` and `rows`: the profile ends.
 pub(crate) fn list_next<T: Tree>(
     alloc: Global,
     tree: &mut T,
@@ -38,7 +39,8 @@ pub(crate) fn list_next<T: Tree>(
     Ok(true)
 }
 
-/// Lists this folder, and takes its repeated entries.
+/// Lists this folder, takes its repeated entries, and leaves the others in `scan` in reverse order, since the last one
+/// is next. An unreadable folder gets a row of its own, and has no entries.
 fn list_folder<T: Tree>(
     alloc: Global,
     tree: &mut T,
@@ -67,7 +69,7 @@ fn list_folder<T: Tree>(
     }
 }
 
-/// Appends the rows of entries that have the name of another one.
+/// Appends the rows of entries that have the name of another one, each skipped as `SameName`.
 fn push_repeated(
     alloc: Global,
     rows: &mut Vec<Row>,

@@ -1,4 +1,4 @@
-//! Which entries no profile can have.
+//! Which entries no profile can have, and why each is skipped.
 
 ghost use Rattle.std.specs.Prelude.{◌≡◌, None, Some, nat_lt, length, MatchOption};
 ghost use Rattle.droid_frame.specs.declared.refusal.Refusal.{Refusal};
@@ -11,8 +11,8 @@ use droid_core_spec::{is_bad_name, is_moment};
 use droid_frame::Refusal;
 use droid_tree::{EntryKind, FolderEntry, Skipped};
 
-/// Returns why this entry of the folder at this path is skipped, if it is no folder or file, or none that a profile can
-/// have.
+/// Returns why this entry of the folder at `path` is skipped, if it is no folder or file, or none that a profile can
+/// have. `None` for an entry that is taken. `name` is the entry's name as text.
 pub(crate) fn skip_reason(path: &str, name: &str, entry: &FolderEntry) -> Option<Skipped>
     requires { name.now ≡ entry.now.name }
     ensures { MatchOption result (IsNode entry.now.kind × (entry_refusal path.now entry.now ≡ None)) (λ why.
@@ -26,7 +26,7 @@ pub(crate) fn skip_reason(path: &str, name: &str, entry: &FolderEntry) -> Option
     }
 }
 
-/// Returns the reason to skip what is refused.
+/// Returns the reason to skip what is refused, or `None` if it is not.
 fn as_skipped(refusal: Option<Refusal>) -> Option<Skipped>
     ensures { MatchOption result (refusal ≡ None) (λ why.
         (its : Refusal) × (refusal ≡ Some its) × (why ≡ Refused its)) }
@@ -37,7 +37,8 @@ fn as_skipped(refusal: Option<Refusal>) -> Option<Skipped>
     }
 }
 
-/// Returns why no profile can have this entry of the folder at this path, as a service would refuse it.
+/// Returns why no profile can have this entry of the folder at this path, as a service would refuse it: its name, its
+/// path or its time, the first of these that is wrong.
 fn entry_refusal(path: &str, name: &str, entry: &FolderEntry) -> Option<Refusal>
     requires { name.now ≡ entry.now.name }
     ensures { result ≡ entry_refusal path.now entry.now }
@@ -54,7 +55,7 @@ fn entry_refusal(path: &str, name: &str, entry: &FolderEntry) -> Option<Refusal>
     None
 }
 
-/// Returns whether the path of this name in the folder has more than 4,096 bytes.
+/// Returns whether the path of this name in the folder, with the `/` between both, has more than 4,096 bytes.
 fn is_too_long(path: &str, name: &str) -> bool
     ensures { result ≡ nat_lt 4096 (length (below path.now name.now)) }
 {

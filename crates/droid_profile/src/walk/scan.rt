@@ -1,4 +1,4 @@
-//! What is still to be taken of a tree.
+//! What is still to be taken of a tree, at first the whole of it.
 
 ghost use Rattle.std.specs.Prelude.{◌≡◌, [], ◌∷◌, IfOk};
 ghost use Rattle.droid_pronom.specs.Registry.{Contents};
@@ -24,7 +24,7 @@ pub struct Scan {
     pub number: u32,
 }
 
-/// Returns what is to be taken of a whole tree.
+/// Returns what is to be taken of a whole tree: its top waits, no entry is left of a folder, and no number was given.
 pub fn whole_tree(alloc: Global) -> Result<Scan, AllocError>
     ensures waiting { IfOk result (λ scan. scan.waiting.items ≡ top ∷ []) }
     ensures begun { IfOk result (λ scan. (scan.entries.items ≡ []) × (scan.number ≡ 0)) }

@@ -1,4 +1,4 @@
-//! The errors of the CSV reader.
+//! The errors of the CSV reader, as errors of a registry file.
 
 ghost use Rattle.std.specs.Prelude.{◌≡◌};
 ghost use Rattle.csv.specs.Reading.{error_kind};

@@ -1,4 +1,4 @@
-//! The errors of reading a registry file.
+//! The errors of reading a registry file: of the whole file, of one record, and how the one becomes the other.
 
 ghost use Rattle.std.specs.Prelude.{◌≡◌};
 ghost use Rattle.droid_pronom.specs.declared.registry.fault.Refusal.TheVariants.{Memory};
@@ -40,7 +40,7 @@ pub enum RegistryFault {
     TooMany { at: u64 },
 }
 
-/// What is wrong with one record.
+/// What is wrong with one record. [`RegistryFault`] describes each fault.
 #[derive(Clone, Copy)]
 pub(crate) enum Fault {
     NotUtf8,
@@ -69,7 +69,7 @@ impl From<AllocError> for Refusal {
 }
 
 impl Refusal {
-    /// Returns the error for the whole file, if the record with the number `at` could not be added.
+    /// Returns the error for the whole file, if the record with the number `at`, counted from 1, could not be added.
     pub(crate) fn at(self, at: u64) -> RegistryFault
         ensures { result ≡ refusal_at self at }
     {
@@ -85,7 +85,8 @@ impl Refusal {
     }
 }
 
-/// Returns the fault, unless the condition holds.
+/// Returns the fault as an error, unless the condition holds. It is the code's form of `check` in
+/// `specs/RegistryRecords.antt`, with which the rules of a record are written.
 pub(crate) fn check(holds: bool, fault: Fault) -> Result<(), Refusal>
     ensures { Gives (λ _. tt) result (check holds (fault_of fault)) }
 {

@@ -1,4 +1,5 @@
-//! The registry.
+//! The registry: makes one of a file, lets callers look up its formats and rows, identifies files, and adds rows while
+//! its file is read.
 
 ghost use Rattle.std.specs.Prelude.{◌≡◌, ◌≢◌, ℕ, List, ◌+◌, ◌-◌, ◌<◌, ◌≤◌, ◌++◌, ◌∷◌, [], length, take, drop, min};
 ghost use Rattle.std.specs.Prelude.{IsTrue, IfSome, option_map, Some, None, Err, IfOk, IsErrOf, OnOk, OnErr, slice_get};
@@ -29,9 +30,11 @@ use std::alloc::{AllocError, Global};
 use std::collections::BTreeMap;
 use std::marker::Model;
 
-/// The most bytes that a registry file may have.
+/// The most bytes that a registry file may have. `File` of `specs/RegistryFile.antt` has the same number, and the
+/// prover ties them.
 const BYTES_LIMIT: usize = 16_777_216;
-/// The most formats that a registry may have.
+/// The most formats that a registry may have. `format_taken` of `specs/RegistryRecords.antt` and `IsRegistry` of
+/// `specs/Registry.antt` have the same number, and the prover ties them.
 pub(crate) const FORMATS_LIMIT: usize = 4_096;
 
 /// A registry: formats with their extensions, priorities and signatures.
@@ -81,8 +84,9 @@ impl Registry {
 
     /// Reads a registry file: CSV as the kit's `csv` reads it with its default settings, without a header.
     ///
-    /// The file has at most 16,777,216 bytes. An error names the first faulty record by its number, counted from 1. A
-    /// file without any record is a registry without formats, which identifies nothing: see [`Registry::is_empty`].
+    /// The file has at most 16,777,216 bytes; a longer one is `TooLong`. An error names the first faulty record by its
+    /// number, counted from 1. A file without any record is a registry without formats, which identifies nothing: see
+    /// [`Registry::is_empty`].
     pub fn parse(alloc: Global, bytes: &[u8]) -> Result<Registry, RegistryFault>
         ensures { result ≢ Err RegistryFault.Memory → File bytes.now result }
     {
@@ -129,7 +133,7 @@ impl Registry {
         }
     }
 
-    /// Makes a registry without formats. Takes no memory.
+    /// Makes a registry without formats, which `Draft` fills. Takes no memory.
     pub(crate) fn new(alloc: Global) -> Registry
         ensures { result ≡ nothing }
     {
@@ -143,7 +147,7 @@ impl Registry {
         }
     }
 
-    /// Returns the number of formats.
+    /// Returns the number of formats, at most 4,096.
     pub fn len(&self) -> usize
         ensures count { result ≡ length self.now.formats }
         // What holds of every registry, for whoever has one.
@@ -166,7 +170,7 @@ impl Registry {
         self.formats.get(place as usize)
     }
 
-    /// Returns the place of the format with this PUID, compared byte for byte.
+    /// Returns the place of the format with this PUID, compared byte for byte, or `None` if there is no such format.
     pub fn by_puid(&self, puid: &str) -> Option<u32>
         ensures place { result ≡ place_of puid.now self.now.formats }
         // The format at that place has the PUID.
@@ -211,14 +215,14 @@ impl Registry {
         identify_windows(alloc, self, name, first, last, match_all)
     }
 
-    /// Returns the formats in order.
+    /// Returns the formats in the order of their records: the one at place 0 first.
     pub(crate) fn formats(&self) -> &[Format]
         ensures { result.now ≡ self.now.formats }
     {
         self.formats.as_slice()
     }
 
-    /// Returns the extensions that the formats list, in lower case.
+    /// Returns the extensions that the formats list, in lower case, in the order of their records.
     pub(crate) fn extensions(&self) -> &[ListedExtension]
         ensures value { result.now ≡ self.now.extensions }
         ensures placed { AllByRecursion (λ row. row.place < length self.now.formats) self.now.extensions }
@@ -240,7 +244,7 @@ impl Registry {
         self.signatures.as_slice()
     }
 
-    /// Returns, for each format, whether it has a signature.
+    /// Returns, for each format, a flag: whether it has a signature.
     pub(crate) fn signed(&self) -> &[bool]
         ensures len { length result.now ≡ length self.now.formats }
         ensures each { (k : ℕ) → (slice_get result.now k ≡ Some true) ↔ IsSigned self.now k }
@@ -248,7 +252,8 @@ impl Registry {
         self.signed.as_slice()
     }
 
-    /// Adds a format. Fails only if memory runs out, and then leaves the registry as it was.
+    /// Adds a format at the next place. Fails only if memory runs out, and then leaves the registry as it was.
+    /// `Draft::take_format` has checked what is required.
     pub(crate) fn push_format(&mut self, alloc: Global, format: Format) -> Result<(), AllocError>
         requires few { length self.old.formats < 4096 }
         requires named { IsTrue (is_puid format.puid) }
@@ -267,7 +272,7 @@ impl Registry {
         Ok(())
     }
 
-    /// Adds an extension that a format lists. Fails only if memory runs out.
+    /// Adds an extension that a format lists. Fails only if memory runs out, and then leaves the registry as it was.
     pub(crate) fn push_extension(&mut self, row: ListedExtension) -> Result<(), AllocError>
         requires { row.place < length self.old.formats }
         ensures ok { OnOk result (self.new ≡ with_extension self.old row) }
@@ -277,7 +282,7 @@ impl Registry {
         Ok(())
     }
 
-    /// Adds a priority. Fails only if memory runs out.
+    /// Adds a priority. Fails only if memory runs out, and then leaves the registry as it was.
     pub(crate) fn push_priority(&mut self, row: Priority) -> Result<(), AllocError>
         requires place { row.place < length self.old.formats }
         requires over { row.over < length self.old.formats }
@@ -288,7 +293,8 @@ impl Registry {
         Ok(())
     }
 
-    /// Adds a signature. Fails only if memory runs out.
+    /// Adds a signature, and notes that its format has one. Fails only if memory runs out, and then leaves the registry
+    /// as it was.
     pub(crate) fn push_signature(&mut self, signature: Signature) -> Result<(), AllocError>
         requires { signature.place < length self.old.formats }
         ensures ok { OnOk result (self.new ≡ with_signature self.old signature) }
@@ -300,7 +306,8 @@ impl Registry {
         Ok(())
     }
 
-    /// Adds a byte sequence to the last signature, if there is one. Fails only if memory runs out.
+    /// Adds a byte sequence to the last signature; without any signature, does nothing, but `Draft` never asks for
+    /// that. Fails only if memory runs out, and then leaves the registry as it was.
     pub(crate) fn push_sequence(&mut self, sequence: ByteSequence) -> Result<(), AllocError>
         ensures ok { OnOk result (self.new ≡ with_sequence self.old sequence) }
         ensures err { OnErr result (self.new ≡ self.old) }

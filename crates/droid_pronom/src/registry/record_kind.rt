@@ -1,4 +1,4 @@
-//! The kinds of records.
+//! The kinds of a registry file's records, and the letters that name them.
 
 ghost use Rattle.std.specs.Prelude.{◌≡◌, option_map};
 ghost use Rattle.droid_pronom.specs.RegistryFields as field;
@@ -19,7 +19,7 @@ pub(crate) enum RecordKind {
     Sequence,
 }
 
-/// Returns the kind of a record by its first field.
+/// Returns the kind of a record by its first field, one capital letter. Any other text is `None`.
 pub(crate) fn kind_of(text: &str) -> Option<RecordKind>
     ensures { option_map kind_is result ≡ field.kind_of text.now }
 {

@@ -1,4 +1,5 @@
-//! The six texts of a record, and its pattern. `fields_of`, of the kit's `csv`, is the list of a record's texts.
+//! The six texts of a record, and the pattern that the last one spells. `fields_of`, of the kit's `csv`, is the list of
+//! a record's texts.
 
 ghost use Rattle.std.specs.Prelude.{◌≡◌, [], ◌∷◌, length};
 ghost use Rattle.csv.specs.Records.{fields_of};
@@ -21,7 +22,7 @@ pub(crate) struct RowText<'a> {
 }
 
 impl<'a> RowText<'a> {
-    /// Borrows the six texts of a record.
+    /// Borrows the six texts of a record. `Draft::take` has counted them.
     pub(crate) fn of(row: &'a StringRecord) -> RowText<'a>
         requires { length (fields_of row.now) ≡ 6 }
         ensures { fields_of row.now
@@ -39,7 +40,7 @@ impl<'a> RowText<'a> {
     }
 }
 
-/// Reads the pattern of a byte sequence.
+/// Reads the pattern of a byte sequence, in an S or B record. A text outside the grammar is the record's `BadPattern`.
 pub(crate) fn pattern_of(alloc: Global, text: &str) -> Result<Pattern, Refusal>
     ensures { ReportsPattern result text.now }
 {

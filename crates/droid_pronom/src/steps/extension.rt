@@ -1,4 +1,4 @@
-//! The extension of a file's name.
+//! The extension of a file's name, in the letter case in which it stands there.
 
 ghost use Rattle.std.specs.Prelude.{◌≡◌};
 ghost use Rattle.droid_pronom.specs.Found.{extension_of};

@@ -10,7 +10,8 @@ use crate::rows::{Anchor, ByteSequence, Signature};
 use droid_pattern::ClassCache;
 use std::alloc::{AllocError, Global};
 
-/// Returns whether the byte sequence matches at one of its offsets.
+/// Returns whether the byte sequence matches at one of its offsets, in the file's first or last bytes, as its anchor
+/// says. `begin` and `end` are the caches for the first and for the last bytes.
 fn hits(
     alloc: Global,
     sequence: &ByteSequence,
@@ -33,7 +34,7 @@ fn hits(
     }
 }
 
-/// Returns whether all byte sequences hit.
+/// Returns whether all byte sequences hit; stops at the first that does not.
 fn all_hit(
     alloc: Global,
     sequences: &[ByteSequence],

@@ -37,7 +37,8 @@ pub fn named_formats(
     Ok(named)
 }
 
-/// Returns whether the row lists this extension, which is not empty, and its format may be identified by it.
+/// Returns whether the row lists the extension `wanted`, which is not empty, and its format may be identified by it:
+/// with `match_all`, or because it has no signature.
 fn is_named(row: &ListedExtension, wanted: &str, signed: &[bool], match_all: bool) -> bool
     requires { row.now.place < length signed.now }
     ensures { IsTrue result
@@ -47,15 +48,15 @@ fn is_named(row: &ListedExtension, wanted: &str, signed: &[bool], match_all: boo
     (match_all || !signed[row.place as usize]) && is_listed(row, wanted)
 }
 
-/// Returns whether the row lists this extension, which is not empty.
+/// Returns whether the row lists the extension `wanted`, and that is not empty. Both are in lower case.
 fn is_listed(row: &ListedExtension, wanted: &str) -> bool
     ensures { IsTrue result ↔ ((wanted.now ≢ []) × (row.now.extension ≡ wanted.now)) }
 {
     !wanted.is_empty() && row.extension.as_str() == wanted
 }
 
-/// Returns whether the remaining formats list extensions, but not this one. `wanted` is in lower case; if it is empty,
-/// there is no mismatch.
+/// Returns whether the formats whose flag in `left` is set list extensions, but not this one. `wanted` is in lower
+/// case; if it is empty, there is no mismatch.
 pub fn is_mismatch(left: &[bool], extensions: &[ListedExtension], wanted: &str) -> bool
     requires { AllByRecursion (λ row. row.place < length left.now) extensions.now }
     ensures { IsTrue result

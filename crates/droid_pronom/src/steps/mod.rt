@@ -1,4 +1,5 @@
-//! The steps of identification, each over plain slices.
+//! The steps of identification, each over plain slices. `windows` puts them together. A list of flags has one for each
+//! format, at the format's place.
 
 pub mod extension;
 pub mod hits;

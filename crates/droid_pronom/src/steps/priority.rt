@@ -8,7 +8,8 @@ ghost use Rattle.droid_pronom.specs.FoundWindows.{Stands, AreFlagsOf, without};
 use crate::rows::Priority;
 use std::alloc::{AllocError, Global};
 
-/// Returns, for each format, whether a format that hits has priority over it.
+/// Returns, for each format, whether a format that hits has priority over it. `hit` has a flag for each format. A
+/// format that is beaten itself beats others all the same.
 pub fn beaten_formats(
     alloc: Global,
     hit: &[bool],
@@ -29,7 +30,7 @@ pub fn beaten_formats(
     Ok(beaten)
 }
 
-/// Returns, for each format, whether it hits and is not beaten.
+/// Returns, for each format, whether it hits and is not beaten: the flags of `hit` without those of `beaten`.
 pub fn unbeaten(alloc: Global, hit: &[bool], beaten: &[bool]) -> Result<Vec<bool>, AllocError>
     requires { length hit.now ≡ length beaten.now }
     ensures { IfOk result (λ left. left.items ≡ without hit.now beaten.now) }

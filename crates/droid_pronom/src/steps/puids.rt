@@ -1,4 +1,4 @@
-//! Collects the PUIDs of the formats that were found. A flag at a format's place says whether it was.
+//! Whether any format was found, and the PUIDs of those that were. A flag at a format's place says whether it was.
 
 ghost use Rattle.std.specs.Prelude.{◌≡◌, IfOk, length};
 ghost use Rattle.std.specs.List.{list_any};
@@ -9,7 +9,7 @@ use crate::format::Format;
 use droid_frame::Texts;
 use std::alloc::{AllocError, Global};
 
-/// Returns the PUIDs of the formats whose flags are set, in order.
+/// Returns the PUIDs of the formats whose flags are set, in the order of the formats.
 pub fn puids_of(alloc: Global, formats: &[Format], flags: &[bool]) -> Result<Texts, AllocError>
     requires { length flags.now ≡ length formats.now }
     ensures { IfOk result (λ puids. Chosen (Stands flags.now) 0 formats.now puids) }
@@ -28,7 +28,7 @@ pub fn puids_of(alloc: Global, formats: &[Format], flags: &[bool]) -> Result<Tex
     Ok(puids)
 }
 
-/// Returns whether a flag is set.
+/// Returns whether at least one flag is set. Two callers spare themselves further work if none is.
 pub fn is_any_set(flags: &[bool]) -> bool
     ensures { result ≡ list_any (λ flag. flag) flags.now }
 {

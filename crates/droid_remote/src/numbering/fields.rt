@@ -1,4 +1,4 @@
-//! Readers of numbers inside a body.
+//! Reads the numbers inside a request's body, at places where they are known to stand.
 
 ghost use Rattle.std.specs.Prelude.{◌≡◌, ◌+◌, ◌≤◌, length};
 ghost use Rattle.droid_remote.specs.BodyFields.{u32_in, u64_in};

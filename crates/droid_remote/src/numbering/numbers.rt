@@ -35,7 +35,8 @@ pub fn number_of(name: &str, attempt: u32, kind: u8, body: &[u8]) -> Option<u64>
     Some(number_by(name, attempt, kind, body))
 }
 
-/// Returns the number of a request of a submission.
+/// Returns the number of a request of a submission, by its kind: 1 is CreateProfile, 2 AddFolder, 3 AddFile, 4 Piece, 5
+/// Finish, 6 Abandon, 7 Status, and 8, the only one left, Export.
 fn number_by(name: &str, attempt: u32, kind: u8, body: &[u8]) -> u64
     requires { is_submitted kind body.now ≡ true }
     ensures { result ≡ number_by name.now attempt kind body.now }
@@ -52,7 +53,8 @@ fn number_by(name: &str, attempt: u32, kind: u8, body: &[u8]) -> u64
     }
 }
 
-/// Returns the number of a Piece, which is made of its profile, file and index.
+/// Returns the number of a Piece, by its profile, file and index: the first 12 bytes of its body, four each. The
+/// piece's own bytes stand behind them and do not count.
 fn piece_number(body: &[u8]) -> u64
     requires { 12 ≤ length body.now }
     ensures { result ≡ piece_number body.now }
@@ -63,7 +65,7 @@ fn piece_number(body: &[u8]) -> u64
     packed_or_digest(packed(4, profile, file, index), 4, &body[..12])
 }
 
-/// Returns the number of a Finish, an Abandon or a Status.
+/// Returns the number of a Finish, an Abandon or a Status, by its profile and file: the 8 bytes of its body, four each.
 fn file_number(kind: u8, body: &[u8]) -> u64
     requires kind { kind < 8 }
     requires fields { length body.now ≡ 8 }
@@ -73,7 +75,8 @@ fn file_number(kind: u8, body: &[u8]) -> u64
     packed_or_digest(packed, kind, body)
 }
 
-/// Returns the number of a part of the export.
+/// Returns the number of an Export, by its profile and offset: the first 12 bytes of its body, four and eight. What
+/// follows is alike in all of a submission.
 fn part_number(body: &[u8]) -> u64
     requires { 12 ≤ length body.now }
     ensures { result ≡ part_number body.now }
@@ -82,7 +85,8 @@ fn part_number(body: &[u8]) -> u64
     packed_or_digest(packed, 8, &body[..12])
 }
 
-/// Returns the packed number, or without one the number by the digest of the kind and the fields.
+/// Returns the packed number, or, where the fields do not fit one, the number by the digest of the kind and their
+/// bytes.
 fn packed_or_digest(packed: Option<u64>, kind: u8, fields: &[u8]) -> u64
     ensures { result ≡ unwrap_or packed (digest_number (kind ∷ fields.now)) }
 {

@@ -7,10 +7,13 @@ ghost use Rattle.droid_remote.specs.BodyTests.{is_profile, is_node, is_part, is_
 use crate::numbering::fields::u32_in;
 use droid_frame::PART_LIMIT;
 
-/// The size of the parts in which an export is read.
+/// The size of the parts in which an export is read, in bytes: 1,048,576 in `is_part` of `specs/BodyTests.antt`.
 const PART_SIZE: u32 = PART_LIMIT as u32;
 
-/// Returns whether this kind and body of version 2 spell a request of a submission.
+/// Returns whether this kind and body of version 2 spell a request of a submission. The kinds are those of `number_by`
+/// in `numbers.rt`; 12 and 8 are the bytes of a Piece before its own, and of a Finish, Abandon or Status.
+///
+/// The clause of `number_of` ties this to `droid_frame`'s bodies: a body is taken exactly if it spells such a request.
 pub(crate) fn is_submitted(kind: u8, body: &[u8]) -> bool
     ensures { result ≡ is_submitted kind body.now }
 {
@@ -27,14 +30,16 @@ pub(crate) fn is_submitted(kind: u8, body: &[u8]) -> bool
     }
 }
 
-/// Returns whether the body is that of a CreateProfile: a number, a truth value and the kind of a hash.
+/// Returns whether the body is that of a CreateProfile: the scan limit in four bytes, a truth value (0 or 1) and one of
+/// the three kinds of hash (0 to 2), a byte each.
 fn is_profile(body: &[u8]) -> bool
     ensures { result ≡ is_profile body.now }
 {
     body.len() == 6 && body[4] < 2 && body[5] < 3
 }
 
-/// Returns whether the body has a name of UTF-8 from this index on.
+/// Returns whether the body has a name of UTF-8 from this index on, whatever stands before it: 16 bytes in an AddFolder
+/// (profile, parent, moment), 28 in an AddFile (size and size of pieces too).
 fn is_node(name_at: usize, body: &[u8]) -> bool
     ensures { result ≡ is_node name_at body.now }
 {
@@ -44,7 +49,7 @@ fn is_node(name_at: usize, body: &[u8]) -> bool
     }
 }
 
-/// Returns whether bytes are UTF-8.
+/// Returns whether a name is UTF-8; an empty one is.
 fn is_text(bytes: &[u8]) -> bool
     ensures { result ≡ is_utf8 bytes.now }
 {
@@ -54,7 +59,8 @@ fn is_text(bytes: &[u8]) -> bool
     }
 }
 
-/// Returns whether the body asks for a part of the largest size, of all records.
+/// Returns whether the body is that of an Export of a submission: profile (4 bytes), offset (8), the largest size (4,
+/// at byte 12), and a filter that takes all records, which is 1 and no criteria (2).
 fn is_part(body: &[u8]) -> bool
     ensures { result ≡ is_part body.now }
 {

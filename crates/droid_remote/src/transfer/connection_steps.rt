@@ -1,4 +1,4 @@
-//! Single steps on a connection that stands: write, read.
+//! Single steps on a connection, and which of the frames in flight count as written behind each: the stage.
 
 ghost use Rattle.std.specs.Prelude.{◌≡◌, ◌⊎◌, ◌++◌, ◌∷◌, [], List, Contains, IfErr, IfOk, IsTrue, MatchOption};
 ghost use Rattle.std.specs.Prelude.{if◌then◌else◌};
@@ -30,7 +30,8 @@ pub enum Stage {
 }
 
 impl Stage {
-    /// Returns whether no connection stands.
+    /// Returns whether no connection stands. The clause holds only that one stands where this is false: a read needs
+    /// that, and a read that is left out is tried again.
     pub(crate) fn is_nowhere(self) -> bool
         ensures { IsTrue result ⊎ Stands self }
     {
@@ -41,7 +42,9 @@ impl Stage {
     }
 }
 
-/// Returns which frames count as written after a reply was read.
+/// Returns which frames count as written after the reply to the first was read, and that frame is no longer in flight.
+/// On a new connection the others were not written yet. The clause holds only that no more frames count than before. If
+/// fewer did, they would be written twice: `submit_steps.py` of `tests/program/submissions` would see that.
 pub(crate) fn behind_answer(stage: Stage) -> Stage
     ensures { (waiting rest : List Frame) → AreIn rest waiting → AreIn (counted result rest) (counted stage waiting) }
 {
@@ -52,7 +55,9 @@ pub(crate) fn behind_answer(stage: Stage) -> Stage
     }
 }
 
-/// Writes a new frame if all frames before it were written.
+/// Writes a new frame if all frames before it were written, and returns the stage behind that. `waiting` are the frames
+/// before it, in which the caller then puts it last. No clause wants the write: it is for speed, and `write_ahead`
+/// would make up for it.
 pub(crate) fn write_behind<C: Connection>(
     stage: Stage,
     connection: &mut C,
@@ -86,7 +91,7 @@ pub(crate) fn write_behind<C: Connection>(
 
 /// Writes what has to be written before a frame is read. If no connection stands, it connects, and after the known
 /// requests it writes only the first frame in flight; the others follow after its reply. If more were written at once,
-/// a connection that always breaks early would never return a reply.
+/// a connection that always breaks early would never return a reply. Fails as [`begin`]; a break is no fault.
 pub(crate) fn write_ahead<C: Connection>(
     stage: Stage,
     alloc: Global,
@@ -113,7 +118,7 @@ pub(crate) fn write_ahead<C: Connection>(
     }
 }
 
-/// Writes all frames in order, and stops at the first failure.
+/// Writes all frames in order. Returns that all were written, or, at the first failure, that no connection stands.
 fn write_waiting<C: Connection>(connection: &mut C, waiting: &VecDeque<Frame>) -> Stage
     ensures moves { (known : KnownRequests) (facts : List Fact) → IsVouched known facts
         → Moves C.does known (Contains waiting.now.items) facts result waiting.now.items connection.old connection.new }
@@ -140,7 +145,7 @@ pub(crate) fn write<C: Connection>(connection: &mut C, frame: &Frame) -> bool
     }
 }
 
-/// Reads a frame if a connection stands.
+/// Reads a frame if a connection stands. Returns `None` if none stands, or it breaks.
 pub(crate) fn read_where<C: Connection>(
     stage: Stage,
     alloc: Global,

@@ -21,7 +21,9 @@ use droid_frame::{Frame, Reply};
 use std::alloc::Global;
 use std::collections::VecDeque;
 
-/// How many frames may be in flight. A service refuses a piece that is sixteen or more ahead of the first missing one.
+/// How many frames may be in flight. A service refuses a piece that is sixteen or more ahead of the first missing one:
+/// `AHEAD` of `droid_assembly`, which no clause ties to this. `Sends` has the number too: the prover refuses a greater
+/// one here, and `submit_steps.py` of `tests/program/submissions` (`MOST`) any other.
 const IN_FLIGHT_LIMIT: usize = 16;
 
 /// A connection, and the frames in flight, in order.
@@ -62,8 +64,8 @@ impl<C: Connection> InFlight<C> {
     /// Sends a frame without waiting for its reply. If sixteen are in flight, it first waits for the reply to the
     /// oldest.
     ///
-    /// Each reply that it waits for must be Taken. If one is a refusal, the replies to all other frames in flight are
-    /// read, whatever they are. After any fault nothing is in flight.
+    /// Each reply that it waits for must be Taken. If one is a refusal, but not because of memory, the replies to all
+    /// other frames in flight are read, whatever they are. After any fault nothing is in flight.
     pub fn send(&mut self, frame: Frame) -> Result<(), TransferFault>
         ensures sent { OnOk result
             (Wherever self.old (λ known facts. Sends C.does known frame facts self.old self.new)) }
@@ -133,7 +135,9 @@ impl<C: Connection> InFlight<C> {
         self.connection.start_wait();
     }
 
-    /// Appends a frame to those in flight, and writes it if all before it were written.
+    /// Appends a frame to those in flight, and writes it if all before it were written; if not, it is written before a
+    /// later read. Fails only if memory runs out; then nothing is in flight. Memory is taken first, since a frame that
+    /// was written must be in flight.
     fn put(&mut self, frame: Frame) -> Result<(), TransferFault>
         ensures put { OnOk result (Wherever self.old (λ known facts. Puts C.does known frame facts self.old self.new)) }
         ensures behind { OnOk result (self.new.waiting.items ≡ self.old.waiting.items ++ frame ∷ []) }
@@ -152,7 +156,7 @@ impl<C: Connection> InFlight<C> {
         Ok(())
     }
 
-    /// Waits for the replies to the first `count` frames in flight. Each must be Taken.
+    /// Waits for the replies to the first `count` frames in flight, one by one, as [`InFlight::settle_first`].
     fn settle(&mut self, count: usize) -> Result<(), TransferFault>
         requires { count ≤ length self.old.waiting.items }
         ensures settled { OnOk result
@@ -171,7 +175,9 @@ impl<C: Connection> InFlight<C> {
         Ok(())
     }
 
-    /// Waits for the reply to the first frame in flight, which must be Taken.
+    /// Waits for the reply to the first frame in flight, which must be Taken. If it is a refusal, but not because of
+    /// memory, the replies to all others are read first, so that the connection can go on; where that fails, its fault
+    /// is returned instead. After any other fault the connection cannot go on. After each nothing is in flight.
     fn settle_first(&mut self) -> Result<(), TransferFault>
         requires { 0 < length self.old.waiting.items }
         ensures settled { OnOk result
@@ -198,7 +204,7 @@ impl<C: Connection> InFlight<C> {
         }
     }
 
-    /// Reads the replies to all frames in flight, whatever they are.
+    /// Reads the replies to all frames in flight, whatever they are, and drops them. Fails as [`InFlight::take`].
     fn drain(&mut self) -> Result<(), TransferFault>
         ensures drained { OnOk result (Wherever self.old (λ known facts. Tries C.does known facts self.old self.new)) }
         ensures failed { IfErr result (λ fault.
@@ -213,7 +219,7 @@ impl<C: Connection> InFlight<C> {
         Ok(())
     }
 
-    /// Waits for the reply to the first frame in flight. After a fault nothing is in flight.
+    /// Waits for the reply to the first frame in flight, and takes both out. After a fault nothing is in flight.
     fn take(&mut self) -> Result<Known, TransferFault>
         requires { 0 < length self.old.waiting.items }
         ensures first { IfOk result (λ answer. self.old.waiting.items ≡ answer.request ∷ self.new.waiting.items) }
@@ -245,7 +251,9 @@ impl<C: Connection> InFlight<C> {
         self.waiting.clear();
     }
 
-    /// Waits for the reply to the first frame in flight.
+    /// Waits for the reply to the first frame in flight, for [`InFlight::take`], which drops the others after a fault.
+    /// A frame of another version, client or number is the fault `Stranger`; other faults are those of
+    /// [`InFlight::receive`]. That none is in flight, which would be `Stranger` too, cannot happen.
     fn take_front(&mut self) -> Result<Known, TransferFault>
         requires { 0 < length self.old.waiting.items }
         ensures first { IfOk result (λ answer. self.old.waiting.items ≡ answer.request ∷ self.new.waiting.items) }
@@ -271,7 +279,11 @@ impl<C: Connection> InFlight<C> {
         })
     }
 
-    /// Reads the next frame, over new connections until the time that may be waited is over.
+    /// Reads the next frame, at first without waiting, then over new connections until the time that may be waited is
+    /// over: that is the fault `Broken`. A service that does not repeat what is known is `Restarted` or `Memory`.
+    ///
+    /// No clause holds that the time starts anew here, nor does `submit_waits.py`: where it waits the time out, little
+    /// has passed before.
     fn receive(&mut self) -> Result<Frame, TransferFault>
         ensures heard { IfOk result (λ came.
             Wherever self.old (λ known facts. Hears C.does known came facts self.old self.new)) }
@@ -292,7 +304,9 @@ impl<C: Connection> InFlight<C> {
         Ok(frame)
     }
 
-    /// Reads the next frame, after a pause before each try.
+    /// Reads the next frame, after a pause before each try; it fails as [`InFlight::receive`] says. `u64::MAX` tries
+    /// are never made: `GivesUp` of `specs/TransferFaults.antt` has that number, so that `Broken` behind them is
+    /// proved.
     fn receive_later(&mut self) -> Result<Frame, TransferFault>
         ensures heard { IfOk result (λ came.
             Wherever self.old (λ known facts. Hears C.does known came facts self.old self.new)) }
@@ -316,7 +330,9 @@ impl<C: Connection> InFlight<C> {
         Err(TransferFault::Broken)
     }
 
-    /// Reads the next frame once, over this connection or, if it broke before, a new one.
+    /// Writes what is still to be written, and reads the next frame once, over this connection or, if it broke before,
+    /// a new one. Returns `None` if the connection broke or could not be made: then none stands. Fails as `begin` of
+    /// `new_connection.rt`; then no stage is set, and [`InFlight::take`] drops what is in flight.
     fn read_once(&mut self) -> Result<Option<Frame>, TransferFault>
         ensures read { IfOk result (λ read.
             Wherever self.old (λ known facts.

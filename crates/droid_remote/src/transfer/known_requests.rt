@@ -1,4 +1,4 @@
-//! The requests by which a service is vouched for.
+//! The requests by which a service is vouched for on each new connection, and which answers are remembered as such.
 
 ghost use Rattle.std.specs.Prelude.{◌≡◌, None, IfErr, IfOk, OnErr};
 ghost use Rattle.droid_frame.specs.Replies.{SpellsReply};
@@ -34,7 +34,7 @@ pub struct KnownRequests {
 }
 
 impl KnownRequests {
-    /// Knows no request.
+    /// Returns that no request is known: any service is then accepted.
     pub(crate) fn new() -> KnownRequests
         ensures profile { result.profile ≡ None }
         ensures change { result.change ≡ None }
@@ -48,7 +48,10 @@ impl KnownRequests {
     }
 
     /// Reads the reply in an answer, and remembers the answer if a profile was made or a node was made, finished or
-    /// abandoned.
+    /// abandoned. The kinds above ABANDON are never remembered, so their replies, which may be long, are not copied:
+    /// that is for speed alone.
+    ///
+    /// Fails if memory runs out, or as `Stranger` if the frame spells no reply; then what is known stays.
     pub(crate) fn read_answer(
         &mut self,
         alloc: Global,
@@ -69,7 +72,8 @@ impl KnownRequests {
         Ok(reply)
     }
 
-    /// Remembers an answer if a profile was made or a node was made, finished or abandoned.
+    /// Remembers an answer, in the place of the one before, if a profile was made or a node was made, finished or
+    /// abandoned, by a request that asks for that. A node counts by [`adds_newest`].
     ///
     /// A node with a lower number than another one was there before that one. A service that was restarted and has
     /// forgotten both may number its first node so, whatever it is: its reply would vouch for nothing.

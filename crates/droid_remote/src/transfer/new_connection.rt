@@ -17,7 +17,9 @@ use droid_frame::{Frame, Refusal, Reply};
 use std::alloc::Global;
 use std::collections::VecDeque;
 
-/// Connects, has the service repeat its answers to the known requests, and writes the first frame in flight.
+/// Connects, has the service repeat its answers to the known requests, and writes the first frame in flight. Returns
+/// `Nowhere` if no connection could be made, or it broke. A service that does not repeat an answer is the fault
+/// `Restarted` or `Memory`.
 pub(crate) fn begin<C: Connection>(
     alloc: Global,
     connection: &mut C,
@@ -42,7 +44,8 @@ pub(crate) fn begin<C: Connection>(
     }
 }
 
-/// Has the service repeat its answers to the known requests, and writes the first frame in flight.
+/// Does what [`begin`] does behind the connecting: the profile is asked for first, then the last change of its nodes.
+/// No clause holds this order; `submit_steps.py` of `tests/program/submissions` does.
 fn begin_on<C: Connection>(
     alloc: Global,
     connection: &mut C,
@@ -70,7 +73,8 @@ fn begin_on<C: Connection>(
     Ok(stage)
 }
 
-/// Writes a known request again, reads the reply and compares it. Returns whether the connection still stands.
+/// Writes a known request again, reads the reply and compares it. Returns whether the connection still stands; without
+/// a known request it does. Another reply is the fault `Restarted` or `Memory`.
 fn repeat<C: Connection>(
     alloc: Global,
     connection: &mut C,
@@ -98,7 +102,8 @@ fn repeat<C: Connection>(
     Err(why_other(alloc, came))
 }
 
-/// Returns why a reply is another one than before: the service is out of memory, or was restarted.
+/// Returns why a reply is another one than before: the service or this program is out of memory, or the service was
+/// restarted. The clause holds only that it is one of the two.
 fn why_other(alloc: Global, came: Frame) -> TransferFault
     ensures { IsLost result }
 {
@@ -109,7 +114,8 @@ fn why_other(alloc: Global, came: Frame) -> TransferFault
     }
 }
 
-/// Writes the first frame in flight.
+/// Writes the first frame in flight, and returns the stage: `Answered` if there is none to write, `Nowhere` if it
+/// broke.
 fn write_first<C: Connection>(connection: &mut C, waiting: &VecDeque<Frame>) -> Stage
     ensures moves { (known : KnownRequests) (facts : List Fact) → IsVouched known facts
         → Moves C.does known (Contains waiting.now.items) facts result waiting.now.items connection.old connection.new }

@@ -24,7 +24,7 @@ pub(crate) fn is_to(came: &Frame, request: &Frame) -> bool
     came.number == request.number
 }
 
-/// Returns whether two frames are equal.
+/// Returns whether two frames are equal in all fields: whether a reply is the known one.
 pub(crate) fn is_same(one: &Frame, other: &Frame) -> bool
     ensures { IsTrue result ↔ (one.now ≡ other.now) }
 {
@@ -43,7 +43,7 @@ pub(crate) fn is_same(one: &Frame, other: &Frame) -> bool
     one.body.as_slice() == other.body.as_slice()
 }
 
-/// Copies a reply's frame: the copy is read, and `KnownRequests` keeps the frame.
+/// Copies a reply's frame: the copy is read, and `KnownRequests` keeps the frame. Fails only if memory runs out.
 pub(crate) fn copy_of(alloc: Global, frame: &Frame) -> Result<Frame, AllocError>
     ensures { IfOk result (λ copy. copy ≡ frame.now) }
 {
@@ -57,7 +57,7 @@ pub(crate) fn copy_of(alloc: Global, frame: &Frame) -> Result<Frame, AllocError>
     })
 }
 
-/// Reads the reply in a frame.
+/// Reads the reply in a frame. One that spells no reply is the fault `Stranger`; out of memory is `Memory`.
 pub(crate) fn read_reply(alloc: Global, came: Frame) -> Result<Reply, TransferFault>
     ensures spelled { IfOk result (SpellsReply came.version came.kind came.body) }
     ensures one { IfOk result (λ reply.
@@ -71,7 +71,7 @@ pub(crate) fn read_reply(alloc: Global, came: Frame) -> Result<Reply, TransferFa
     }
 }
 
-/// Reads the reply to a piece, which must be Taken.
+/// Reads the reply to a piece, which must be Taken; anything else is a fault, as [`read_reply`] and [`see_taken`] say.
 pub(crate) fn read_taken(alloc: Global, came: Frame) -> Result<(), TransferFault>
     ensures taken { OnOk result ((held : ℕ) × SpellsReply came.version came.kind came.body (replies.Taken held)) }
     ensures fault { IfErr result (λ fault. ExplainsPiece fault came) }
@@ -81,7 +81,8 @@ pub(crate) fn read_taken(alloc: Global, came: Frame) -> Result<(), TransferFault
     Ok(())
 }
 
-/// Checks that a reply is Taken.
+/// Checks that a reply is Taken. A refusal is the fault `Refused`, or `Memory` if the service has none; any other reply
+/// is `Stranger`.
 fn see_taken(reply: Reply) -> Result<(), TransferFault>
     ensures taken { OnOk result ((held : ℕ) × (reply ≡ replies.Taken held)) }
     ensures fault { IfErr result (λ fault. ExplainsTaken fault reply) }

@@ -1,4 +1,4 @@
-//! Connections that are streams of bytes.
+//! A connection over streams of bytes: one at a time, opened by what the caller supplies, and closed when it fails.
 
 ghost use Rattle.std.specs.Prelude.{◌≡◌, IfOk, OnErr, if◌then◌else◌};
 ghost use Rattle.droid_remote.specs.Events.{Alone, Event, Expired, Paused, Started};
@@ -22,7 +22,8 @@ pub trait Open<S: SteadyRead + SteadyWrite> {
         ensures opened { IfOk result (λ stream. opens self.old stream self.new) }
         ensures alone { OnErr result (waits self.old Alone self.new) };
 
-    /// Is told that a frame is awaited from now on. Reads and writes nothing.
+    /// Is told that a frame is awaited from now on. Reads and writes nothing. No clause holds that it is
+    /// told: `Streams` does, before each read.
     fn await_frame(&self, stream: &mut S)
         ensures unread { S.remaining stream.new ≡ S.remaining stream.old }
         ensures unwritten { S.contents stream.new ≡ S.contents stream.old };
@@ -48,6 +49,7 @@ pub struct Streams<O, S> {
 impl<O: Open<S>, S: SteadyRead + SteadyWrite + Drop> Connection for Streams<O, S> {
     ghost does = { StreamDoes O.opens O.waits S.remaining S.contents };
 
+    /// Closes the stream that was open, and opens a new one.
     fn connect(&mut self) -> Result<(), Broken> {
         self.stream = None;
         let stream = self.opener.open()?;
@@ -55,6 +57,8 @@ impl<O: Open<S>, S: SteadyRead + SteadyWrite + Drop> Connection for Streams<O, S
         Ok(())
     }
 
+    /// Writes a frame to the open stream. Without one, or for a body over the limit of version 2, nothing is written.
+    /// Any failure leaves no stream open.
     fn write(&mut self, frame: &Frame) -> Result<(), Broken> {
         let Some(mut stream) = self.stream.take() else {
             return Err(Broken);
@@ -71,6 +75,9 @@ impl<O: Open<S>, S: SteadyRead + SteadyWrite + Drop> Connection for Streams<O, S
         }
     }
 
+    /// Reads a frame from the open stream. The end of the stream, a malformed frame and no memory break it too: each
+    /// leaves no stream open. The opener is told first: else the frame's time would have begun with the connection
+    /// (`Timely` of `droid_cmd_submit`), which the short runs of `submit_timeout.py` may not show.
     fn read(&mut self, alloc: Global) -> Result<Frame, Broken> {
         let Some(mut stream) = self.stream.take() else {
             return Err(Broken);
@@ -86,11 +93,13 @@ impl<O: Open<S>, S: SteadyRead + SteadyWrite + Drop> Connection for Streams<O, S
         }
     }
 
+    /// Closes the stream, if one is open, and has the opener wait.
     fn pause(&mut self) -> bool {
         self.stream.take();
         self.opener.pause()
     }
 
+    /// Has the opener start its time anew. The stream stays open.
     fn start_wait(&mut self) {
         self.opener.start_wait();
     }

@@ -18,14 +18,14 @@ pub enum TransferFault {
     /// On a new connection, the service did not repeat what it answered before: it lost what was sent, or is another
     /// service.
     Restarted,
-    /// A piece that was in flight was refused, for another reason than memory.
+    /// A piece that was in flight, or a part of an export, was refused, for another reason than memory.
     Refused(Refusal),
     /// The service has no place for another unfinished file, and the time that may be waited is over.
     Busy,
 }
 
 impl TransferFault {
-    /// Returns whether a piece was refused.
+    /// Returns whether a piece was refused: then the connection still stands, and other replies can be read.
     pub(crate) fn is_refusal(self) -> bool
         ensures { result ≡ is_refusal self }
     {
@@ -41,6 +41,7 @@ impl From<AllocError> for TransferFault {
 
     ghost from_gives = { λ _ fault. fault ≡ Memory };
 
+    /// Says that memory ran out here. That it ran out in the service is the same fault.
     fn from(_error: AllocError) -> TransferFault {
         TransferFault::Memory
     }

@@ -1,4 +1,4 @@
-//! A page.
+//! A page of HTML around the text of its body: what a browser may do, the title, the rules of style.
 
 ghost use Rattle.std.specs.Prelude.{◌≡◌, Some};
 ghost use Rattle.droid_report.specs.Pages.{page_around, style};
@@ -8,7 +8,8 @@ use std::fmt;
 use std::fmt::{Display, Formatter, Write};
 
 /// The rules of style of each page: for light and dark screens, narrow ones and paper, in colours that colour-blind
-/// people can tell apart. None of its characters is markup.
+/// people can tell apart. None of its characters is markup: the law `page_is_a_tree` holds only so. What the rules are,
+/// no clause says; `browser.py` of `tests/program/report` sees colours and widths, where a browser can be had.
 const STYLE: &str = ":root{color-scheme:light dark;--ink:#1b1b1b;--paper:#fff;--line:#bbb;\
     --bar:#0072b2}@media(prefers-color-scheme:dark){:root{--ink:#e8e8e8;--paper:#141414;--line:#555;\
     --bar:#56b4e9}}@media print{:root{--ink:#000;--paper:#fff;--bar:#444}section{break-inside:avoid}}body{margin:0;\
@@ -31,6 +32,8 @@ pub struct Page<'a> {
 impl Display for Page<'_> {
     ghost output = { λ page. Some (page_around page.title.now page.body.now) };
 
+    /// Writes the head of the page with its title escaped, and the body as it is: it is markup already. `framed` of
+    /// `specs/Pages.antt` has the same text; the policy in it forbids a browser to load or run anything.
     #[tactic(auto, unfolding(crate::specs::Pages::page_around, crate::specs::Pages::style))]
     fn fmt<W: Write>(&self, f: &mut Formatter<W>) -> fmt::Result {
         write!(

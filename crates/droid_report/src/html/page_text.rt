@@ -1,4 +1,4 @@
-//! Texts in a page.
+//! Escapes the texts of a page, character by character, so that none becomes markup.
 
 ghost use Rattle.std.specs.Prelude.{◌≡◌, Some};
 ghost use Rattle.std.specs.Fmt.{WritesOnOk};
@@ -17,12 +17,13 @@ pub struct Escaped<'a>(pub &'a str);
 impl Display for Escaped<'_> {
     ghost output = { λ it. Some (escape it.0.now) };
 
+    /// Prints by [`write_escaped`], which has the loop.
     fn fmt<W: Write>(&self, f: &mut Formatter<W>) -> fmt::Result {
         write_escaped(self.0, f)
     }
 }
 
-/// Writes a text, character by character.
+/// Writes a text escaped, character by character. An error is the writer's.
 fn write_escaped<W: Write>(text: &str, f: &mut Formatter<W>) -> fmt::Result
     ensures { WritesOnOk W.write_str_gives f.old result (escape text.now) f.new }
 {
@@ -39,6 +40,7 @@ struct Letter(char);
 impl Display for Letter {
     ghost output = { λ it. Some (escaped_letter it.0) };
 
+    /// Writes the four characters that could be markup as references, and any other by [`picture`].
     #[tactic(auto, unfolding(crate::specs::Letters::escaped_letter))]
     fn fmt<W: Write>(&self, f: &mut Formatter<W>) -> fmt::Result {
         let letter = self.0;
@@ -52,7 +54,9 @@ impl Display for Letter {
     }
 }
 
-/// Returns the picture of a control character, or the character itself.
+/// Returns the picture of a control character (U+0000 to U+001F, U+007F), or the character itself. `picture_of` of
+/// `specs/Letters.antt` has the same numbers, and `pictured` of `Escapes.antt` their UTF-8; the prover ties all three.
+/// 0x2400 with less than 32 more is always a character.
 fn picture(letter: char) -> char
     ensures { result ≡ picture_of letter }
 {

@@ -1,4 +1,7 @@
-//! Pages of tables.
+//! The body of a page of tables as text: title, tables, heads, rows, cells.
+//!
+//! What each call writes is defined in `specs/TableTrees.antt`, by the tree of elements whose text it is. Texts are
+//! escaped. An error is the writer's: then only a part is written.
 
 ghost use Rattle.std.specs.Prelude.{◌≡◌, Some, flat_map};
 ghost use Rattle.std.specs.Fmt.{WritesOnOk};
@@ -32,7 +35,7 @@ pub enum Cell {
 pub struct Table {
     /// Its title.
     pub title: String,
-    /// What else there is to say about it.
+    /// A line below its title, such as how many rows are not shown; may be empty.
     pub note: String,
     /// The names of its columns.
     pub heads: Vec<String>,
@@ -54,6 +57,7 @@ pub struct Body<'a> {
 impl Display for Body<'_> {
     ghost output = { λ body. Some (body_text body.title.now body.about.now body.tables.now) };
 
+    /// Writes the title, what the page is about, and then the tables.
     #[tactic(auto, unfolding(crate::specs::TableTrees::body_text))]
     fn fmt<W: Write>(&self, f: &mut Formatter<W>) -> fmt::Result {
         write!(
@@ -73,12 +77,13 @@ struct Tables<'a>(&'a [Table]);
 impl Display for Tables<'_> {
     ghost output = { λ it. Some (flat_map table_text it.0.now) };
 
+    /// Prints by [`write_tables`], which has the loop.
     fn fmt<W: Write>(&self, f: &mut Formatter<W>) -> fmt::Result {
         write_tables(f, self.0)
     }
 }
 
-/// Writes the tables, one after the other.
+/// Writes the tables, one behind the other, with nothing between them.
 fn write_tables<W: Write>(f: &mut Formatter<W>, tables: &[Table]) -> fmt::Result
     ensures { WritesOnOk W.write_str_gives f.old result (flat_map table_text tables.now) f.new }
 {
@@ -91,6 +96,7 @@ fn write_tables<W: Write>(f: &mut Formatter<W>, tables: &[Table]) -> fmt::Result
 impl Display for Table {
     ghost output = { λ table. Some (table_text table) };
 
+    /// Writes a section with the title, the note and the table. [`Rows`] ends what is begun here.
     #[tactic(auto, unfolding(crate::specs::TableTrees::table_text))]
     fn fmt<W: Write>(&self, f: &mut Formatter<W>) -> fmt::Result {
         let title = Escaped(self.title.as_str());
@@ -111,12 +117,13 @@ struct Heads<'a>(&'a [String]);
 impl Display for Heads<'_> {
     ghost output = { λ it. Some (flat_map head_text it.0.now) };
 
+    /// Prints by [`write_heads`], which has the loop.
     fn fmt<W: Write>(&self, f: &mut Formatter<W>) -> fmt::Result {
         write_heads(f, self.0)
     }
 }
 
-/// Writes the heads of a table's columns.
+/// Writes the heads of a table's columns, from left to right.
 fn write_heads<W: Write>(f: &mut Formatter<W>, heads: &[String]) -> fmt::Result
     ensures { WritesOnOk W.write_str_gives f.old result (flat_map head_text heads.now) f.new }
 {
@@ -126,7 +133,7 @@ fn write_heads<W: Write>(f: &mut Formatter<W>, heads: &[String]) -> fmt::Result
     Ok(())
 }
 
-/// Writes the head of a column.
+/// Writes the head of a column: its name as a cell `th`.
 #[tactic(auto, unfolding(crate::specs::TableTrees::head_text))]
 fn write_head<W: Write>(f: &mut Formatter<W>, head: &String) -> fmt::Result
     ensures { WritesOnOk W.write_str_gives f.old result (head_text head.now) f.new }
@@ -141,6 +148,7 @@ struct Rows<'a>(&'a [Vec<Cell>]);
 impl Display for Rows<'_> {
     ghost output = { λ it. Some (rows_text it.0.now) };
 
+    /// Ends the row of heads that [`Table`] began, writes the rows, and ends the table and its section.
     #[tactic(auto, unfolding(crate::specs::TableTrees::rows_text))]
     fn fmt<W: Write>(&self, f: &mut Formatter<W>) -> fmt::Result {
         write!(
@@ -158,12 +166,13 @@ struct EachRow<'a>(&'a [Vec<Cell>]);
 impl Display for EachRow<'_> {
     ghost output = { λ it. Some (flat_map row_text it.0.now) };
 
+    /// Prints by [`write_rows`], which has the loop.
     fn fmt<W: Write>(&self, f: &mut Formatter<W>) -> fmt::Result {
         write_rows(f, self.0)
     }
 }
 
-/// Writes the rows of a table.
+/// Writes the rows of a table, from the top.
 fn write_rows<W: Write>(f: &mut Formatter<W>, rows: &[Vec<Cell>]) -> fmt::Result
     ensures { WritesOnOk W.write_str_gives f.old result (flat_map row_text rows.now) f.new }
 {
@@ -173,7 +182,7 @@ fn write_rows<W: Write>(f: &mut Formatter<W>, rows: &[Vec<Cell>]) -> fmt::Result
     Ok(())
 }
 
-/// Writes a row of a table.
+/// Writes a row of a table: its cells in a `tr`.
 #[tactic(auto, unfolding(crate::specs::TableTrees::row_text))]
 fn write_row<W: Write>(f: &mut Formatter<W>, row: &Vec<Cell>) -> fmt::Result
     ensures { WritesOnOk W.write_str_gives f.old result (row_text row.now) f.new }
@@ -188,12 +197,13 @@ struct Cells<'a>(&'a [Cell]);
 impl Display for Cells<'_> {
     ghost output = { λ it. Some (flat_map cell_text it.0.now) };
 
+    /// Prints by [`write_cells`], which has the loop.
     fn fmt<W: Write>(&self, f: &mut Formatter<W>) -> fmt::Result {
         write_cells(f, self.0)
     }
 }
 
-/// Writes the cells of a row.
+/// Writes the cells of a row, from left to right.
 fn write_cells<W: Write>(f: &mut Formatter<W>, cells: &[Cell]) -> fmt::Result
     ensures { WritesOnOk W.write_str_gives f.old result (flat_map cell_text cells.now) f.new }
 {
@@ -206,6 +216,9 @@ fn write_cells<W: Write>(f: &mut Formatter<W>, cells: &[Cell]) -> fmt::Result
 impl Display for Cell {
     ghost output = { λ cell. Some (cell_text cell) };
 
+    /// Writes a cell by its kind. A bar is a picture that is 1,000 wide, of which it fills its thousandths, and as high
+    /// as the bar; its number stands in the cell before it. `bar` of `specs/TableTrees.antt` has the same text. Nothing
+    /// but this line ties its 1000 to that of `share_of` (`view/cells.rt`), and its 20 to the other.
     #[tactic(auto, unfolding(crate::specs::TableTrees::cell_text, crate::specs::TableTrees::link_text))]
     fn fmt<W: Write>(&self, f: &mut Formatter<W>) -> fmt::Result {
         match self {
@@ -221,7 +234,7 @@ impl Display for Cell {
     }
 }
 
-/// Writes a cell with a text that leads elsewhere.
+/// Writes a cell with a link: `text` is shown, `target` is where it leads. The browser does not tell it where from.
 #[tactic(auto, unfolding(crate::specs::TableTrees::link_text))]
 fn write_link<W: Write>(f: &mut Formatter<W>, target: &str, text: &str) -> fmt::Result
     ensures { WritesOnOk W.write_str_gives f.old result (link_text target.now text.now) f.new }

@@ -1,4 +1,4 @@
-//! The names of classes.
+//! The names of classes in the tables by year, size and depth.
 
 ghost use Rattle.std.specs.Prelude.{◌≡◌, Some};
 ghost use Rattle.droid_report.specs.ShownClasses.{class_name, power_of_four, unit_of};
@@ -20,6 +20,9 @@ pub(crate) struct ClassName {
 impl Display for ClassName {
     ghost output = { λ it. Some (class_name it.by it.class) };
 
+    /// Writes the year; of a size class its least size, which is 4 to the power of the class less one, in bytes, KiB
+    /// and so on (five powers of four for each unit); or the number of slashes. 64 is the last class of depths, as in
+    /// `last_class` of `classes.rt`: the prover does not tie the two.
     #[tactic(auto, unfolding(crate::specs::ShownClasses::class_name))]
     fn fmt<W: Write>(&self, f: &mut Formatter<W>) -> fmt::Result {
         let class = self.class;
@@ -48,7 +51,7 @@ impl Display for ClassName {
     }
 }
 
-/// Returns 4 to this power, the bound of a class of sizes.
+/// Returns 4 to the power of `n`, which is 0 to 4: a class's least size in its unit. A greater `n` counts as 4.
 fn power_of_four(n: usize) -> u64
     ensures { result ≡ power_of_four n }
 {
@@ -65,7 +68,7 @@ fn power_of_four(n: usize) -> u64
     }
 }
 
-/// Returns the name of a unit of sizes.
+/// Returns the name of a unit of sizes: 0 is bytes, and each next one has 1,024 of the one before. 6 and more is EiB.
 fn unit_of(n: usize) -> &'static str
     ensures { result.now ≡ unit_of n }
 {

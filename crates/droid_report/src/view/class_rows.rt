@@ -1,4 +1,4 @@
-//! Rows of the files of each class.
+//! The rows of the tables by year, size and depth: one for each class that has files.
 
 ghost use Rattle.std.specs.Prelude.{◌≡◌, ◌++◌, IfOk, OnOk, take};
 ghost use Rattle.droid_report.specs.ShownClasses.{class_row, class_rows, flat_map_at, greatest};
@@ -10,8 +10,9 @@ use crate::view::cells::{bar_row, share_of};
 use crate::view::class_names::ClassName;
 use std::alloc::{AllocError, Global};
 
-/// Makes a row for each of the first classes that have files, given the number of files of each class: its name, the
-/// number, and a bar.
+/// Makes the rows of a table of classes, at most `limit`: name, number of files and bar of each class that has files,
+/// from the lowest class on. `counts` has the number of files of each class, at its place. All rows are made, and those
+/// over the limit dropped; bars are measured by the greatest of all counts, dropped rows included.
 pub(crate) fn class_rows(
     alloc: Global,
     by: By,
@@ -25,7 +26,7 @@ pub(crate) fn class_rows(
     Ok(lines)
 }
 
-/// Makes a row for each class that has files.
+/// Makes a row for each class that has files. `most` is the greatest of `counts`, which has the longest bar.
 fn all_rows(alloc: Global, by: By, counts: &[u64], most: u64) -> Result<Vec<Vec<Cell>>, AllocError>
     ensures { IfOk result (λ lines. rows_seen lines.items ≡ flat_map_at (class_row by most) 0 counts.now) }
 {
@@ -37,7 +38,7 @@ fn all_rows(alloc: Global, by: By, counts: &[u64], most: u64) -> Result<Vec<Vec<
     Ok(lines)
 }
 
-/// Adds the row of a class, if it has files.
+/// Adds the row of a class at the end, unless `count`, how many files it has, is 0.
 fn add_class(
     lines: &mut Vec<Vec<Cell>>,
     alloc: Global,
@@ -57,7 +58,7 @@ fn add_class(
     Ok(())
 }
 
-/// Returns the greatest number.
+/// Returns the greatest of these numbers, or 0 if there are none.
 fn greatest(counts: &[u64]) -> u64
     ensures { result ≡ greatest counts.now }
 {

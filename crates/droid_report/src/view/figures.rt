@@ -1,4 +1,4 @@
-//! The rows of totals.
+//! The rows of the table of totals: a name and a number each.
 
 ghost use Rattle.std.specs.Prelude.{◌≡◌, ◌++◌, ◌∷◌, [], IfOk, OnOk};
 ghost use Rattle.droid_report.specs.Seen.{rows_seen};
@@ -13,7 +13,7 @@ use crate::view::cells::amount_row;
 use crate::view::orders::Orders;
 use std::alloc::{AllocError, Global};
 
-/// Makes a row for each total.
+/// Makes all rows of the table of totals, in four parts, in the order below.
 pub(crate) fn figures(
     alloc: Global,
     totals: Totals,
@@ -29,7 +29,7 @@ pub(crate) fn figures(
     Ok(lines)
 }
 
-/// Adds how much there is.
+/// Adds how many folders, files and bytes there are.
 fn add_counts(lines: &mut Vec<Vec<Cell>>, alloc: Global, totals: Totals) -> Result<(), AllocError>
     ensures { OnOk result (rows_seen lines.new.items ≡ rows_seen lines.old.items ++ count_figures totals) }
 {
@@ -39,7 +39,7 @@ fn add_counts(lines: &mut Vec<Vec<Cell>>, alloc: Global, totals: Totals) -> Resu
     Ok(())
 }
 
-/// Adds how the files were identified.
+/// Adds how many files were identified by a signature, by their extension alone, and not at all.
 fn add_methods(lines: &mut Vec<Vec<Cell>>, alloc: Global, totals: Totals) -> Result<(), AllocError>
     ensures { OnOk result (rows_seen lines.new.items ≡ rows_seen lines.old.items ++ method_figures totals) }
 {
@@ -49,7 +49,7 @@ fn add_methods(lines: &mut Vec<Vec<Cell>>, alloc: Global, totals: Totals) -> Res
     Ok(())
 }
 
-/// Adds how many files ask for a look.
+/// Adds how many files ask for a look: an unexpected extension, several formats, no bytes.
 fn add_odd(lines: &mut Vec<Vec<Cell>>, alloc: Global, totals: Totals) -> Result<(), AllocError>
     ensures { OnOk result (rows_seen lines.new.items ≡ rows_seen lines.old.items ++ odd_figures totals) }
 {
@@ -59,7 +59,8 @@ fn add_odd(lines: &mut Vec<Vec<Cell>>, alloc: Global, totals: Totals) -> Result<
     Ok(())
 }
 
-/// Adds the formats, and the files that are copies of others.
+/// Adds how many formats there are, how many files are copies (of each group of equal files all but one), and how many
+/// bytes these copies have.
 fn add_groups(
     lines: &mut Vec<Vec<Cell>>,
     alloc: Global,
@@ -81,7 +82,7 @@ fn add_groups(
     Ok(())
 }
 
-/// Appends the row of a number with its name.
+/// Adds a row with a name and a number at the end. Fails only if memory runs out.
 fn add_figure(
     lines: &mut Vec<Vec<Cell>>,
     alloc: Global,

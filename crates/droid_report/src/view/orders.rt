@@ -1,4 +1,4 @@
-//! The groups of a report in the orders of its page.
+//! The groups of a report in the three orders in which its page shows them, sorted once for all lengths of its lists.
 
 ghost use Rattle.std.specs.Prelude.{IfOk};
 ghost use Rattle.droid_report.specs.Ranks.{by_bytes, by_count, by_saved};
@@ -23,7 +23,7 @@ pub(crate) struct Orders<'a> {
 impl<'a> Orders<'a> {
     ghost use Rattle.droid_report.specs.Orders.{AreOrders};
 
-    /// Puts the groups of a report in order.
+    /// Lists the groups of a report in each of the three orders. Fails only if memory runs out, as the calls below.
     pub(crate) fn of(alloc: Global, counts: &'a Counts) -> Result<Orders<'a>, AllocError>
         ensures { IfOk result (AreOrders counts.now) }
     {
@@ -38,7 +38,8 @@ impl<'a> Orders<'a> {
     }
 }
 
-/// Orders groups by how many files they have, the largest first.
+/// Lists all groups by how many files they have, the largest first, and equals in the order of their keys. Each has a
+/// row at least, so 1 leaves out none.
 fn by_count<'a>(alloc: Global, groups: &'a Groups) -> Result<Vec<Group<'a>>, AllocError>
     ensures { IfOk result (λ ranked. IsOrder by_count 1 groups.now ranked.items) }
 {
@@ -47,7 +48,7 @@ fn by_count<'a>(alloc: Global, groups: &'a Groups) -> Result<Vec<Group<'a>>, All
     Ok(ranked)
 }
 
-/// Orders groups by their bytes, the largest first.
+/// Lists all groups, as above, by their bytes, the largest first, and equals in the order of their keys.
 fn by_bytes<'a>(alloc: Global, groups: &'a Groups) -> Result<Vec<Group<'a>>, AllocError>
     ensures { IfOk result (λ ranked. IsOrder by_bytes 1 groups.now ranked.items) }
 {
@@ -56,7 +57,8 @@ fn by_bytes<'a>(alloc: Global, groups: &'a Groups) -> Result<Vec<Group<'a>>, All
     Ok(ranked)
 }
 
-/// Orders the groups of equal files by the bytes that the second and further copies take.
+/// Lists the groups of equal files, which have two files or more, by the bytes of all but their first file, the largest
+/// first, and equals in the order of their keys.
 fn copies<'a>(alloc: Global, groups: &'a Groups) -> Result<Vec<Group<'a>>, AllocError>
     ensures { IfOk result (λ ranked. IsOrder by_saved 2 groups.now ranked.items) }
 {

@@ -1,4 +1,4 @@
-//! The page of a report.
+//! The page of a report as text, with the longest lists with which it has at most 300,000 bytes.
 
 ghost use Rattle.std.specs.Prelude.{◌≡◌, [], ◌∷◌, IfOk, List, string_bytes};
 ghost use Rattle.droid_report.specs.Pages.{page_text};
@@ -18,15 +18,19 @@ use crate::view::orders::Orders;
 use crate::view::tables::{add_classes, add_extremes, add_groups, add_lists, add_overview};
 use std::alloc::{AllocError, Global};
 
-/// How many rows a list has: as many of these as a page of 300,000 bytes holds, else none. Then no name of a format is
-/// shown.
+/// How many rows a list of the page has at most: the first of these with which the page has at most [`MOST_BYTES`]; if
+/// none fits, 0, and then the pictures show no name of a format either. `IsPage` has the same numbers, which the prover
+/// ties. 200 is also how many rows the lists of files keep (`MOST_ROWS` of `lists.rt`). docs/PROMISES.md has them, and
+/// `numbers_of.py` of `tests/program/report`, with the 0.
 const LIMITS: [usize; 5] = [200, 100, 50, 20, 5];
 
-/// How many bytes a page has at most.
+/// How many bytes a page has at most: 300000 in `IsFirstToFit`, which the prover ties. docs/PROMISES.md, the crate's
+/// page and `numbers_of.py` of `tests/program/report` have it too.
 const MOST_BYTES: usize = 300_000;
 
 /// Makes the page of a report with this title. `about` says of which CSV it is, and when it was made. The page has at
-/// most 300,000 bytes, unless its title is too long for that.
+/// most 300,000 bytes, unless `title` or `about` is too long for that; no clause promises it, since the page without
+/// rows in its lists is taken however long it is. Fails only if memory runs out.
 pub fn report_page(
     alloc: Global,
     title: &str,
@@ -40,7 +44,8 @@ pub fn report_page(
     Ok(page)
 }
 
-/// Makes the page with the first of these limits that makes it small enough, or with no row in its lists.
+/// Makes the page with the first of these limits with which it has at most [`MOST_BYTES`], or, if none does, with no
+/// row in its lists, however long it then is.
 fn fitting(
     alloc: Global,
     title: &str,
@@ -62,7 +67,7 @@ fn fitting(
     Ok(page)
 }
 
-/// Makes the page with this many rows in each list.
+/// Makes the page with at most `limit` rows in each list.
 fn page_with(
     alloc: Global,
     title: &str,
@@ -78,7 +83,7 @@ fn page_with(
     Ok(page)
 }
 
-/// Prints a page of these tables.
+/// Prints a page of these tables, which are in the order of the page.
 fn page_of(alloc: Global, title: &str, about: &str, tables: &[Table]) -> Result<String, AllocError>
     ensures { IfOk result (λ page. string_bytes page ≡ page_text title.now (body_tree title.now about.now tables.now)) }
 {
@@ -93,7 +98,7 @@ fn page_of(alloc: Global, title: &str, about: &str, tables: &[Table]) -> Result<
     Ok(page)
 }
 
-/// Prints what stands in the body of a page.
+/// Prints the body of a page: its title, what it is about, and the tables.
 fn body_of(alloc: Global, title: &str, about: &str, tables: &[Table]) -> Result<String, AllocError>
     ensures { IfOk result (λ body. string_bytes body ≡ text_of (body_tree title.now about.now tables.now) []) }
 {
@@ -108,7 +113,7 @@ fn body_of(alloc: Global, title: &str, about: &str, tables: &[Table]) -> Result<
     Ok(body)
 }
 
-/// Makes the tables of a report.
+/// Makes the tables of a report in the order of the page. `limit` is how many rows each list has at most.
 fn report_tables(
     alloc: Global,
     counts: &Counts,

@@ -21,8 +21,9 @@ pub(crate) enum Measure {
     Bytes,
 }
 
-/// Makes a row for each of the first groups, and one for all others together: a name, a number and a bar. `limit` is
-/// how many rows a list has at most.
+/// Makes a row for each of the first groups, and one for all others together: a name, a number and a bar. `groups` are
+/// sorted by the measure, the greatest first. `limit` is how many rows the page's lists have; 0 means that there is no
+/// room for names, so all groups are in one row.
 pub(crate) fn picture_rows(
     alloc: Global,
     groups: &[Group<'_>],
@@ -38,14 +39,19 @@ pub(crate) fn picture_rows(
     Ok(lines)
 }
 
-/// Returns how many groups have a row of their own.
+/// Returns how many groups have a row of their own: 12, or none where lists have no rows (`limit` is 0).
+///
+/// 12 goes with the word in `texts::TWELVE`, which [`picture_note`] shows. The prover does not tie them: it holds this
+/// number to `most_named` of `specs/Pictures.antt`, but takes any text for `TWELVE`. Change both, the definition, and
+/// `numbers_of.py` of `tests/program/report`, which has the number and the sentence.
 fn most_named(limit: usize) -> usize
     ensures { result ≡ most_named limit }
 {
     if limit == 0 { 0 } else { 12 }
 }
 
-/// Returns what there is to say about a picture.
+/// Returns the line below a picture's title, which says what its bars are: the twelve largest groups and the rest, or
+/// one bar for all where lists have no rows (`limit` is 0). It has to fit what [`most_named`] returns.
 pub(crate) fn picture_note(limit: usize) -> &'static str
     ensures { result.now ≡ picture_note limit }
 {
@@ -56,7 +62,7 @@ pub(crate) fn picture_note(limit: usize) -> &'static str
     }
 }
 
-/// Makes a bar for each of these groups.
+/// Makes a row for each of these groups, in their order. `most` is the picture's greatest number: the longest bar.
 fn group_rows(
     alloc: Global,
     groups: &[Group<'_>],
@@ -73,7 +79,7 @@ fn group_rows(
     Ok(lines)
 }
 
-/// Makes the bar of a group, as long as its part of the largest.
+/// Makes the row of a group: its name, its number, and a bar in thousandths of `most`, the picture's greatest number.
 fn group_row(
     alloc: Global,
     group: &Group<'_>,
@@ -87,7 +93,7 @@ fn group_row(
     Ok(line)
 }
 
-/// Adds a row for the rest, if there is one.
+/// Adds the row `all others` for the groups without a row of their own, if there are any.
 fn add_rest(
     lines: &mut Vec<Vec<Cell>>,
     alloc: Global,
@@ -106,7 +112,7 @@ fn add_rest(
     Ok(())
 }
 
-/// Returns the greatest number of the picture.
+/// Returns the greatest number of the picture: that of the first group, as they are sorted, or that of the rest.
 fn most_of(first: &[Group<'_>], rest: &[Group<'_>], measure: Measure) -> u64
     ensures { result ≡ most_of measure first.now rest.now }
 {
@@ -117,7 +123,7 @@ fn most_of(first: &[Group<'_>], rest: &[Group<'_>], measure: Measure) -> u64
     }
 }
 
-/// Returns the files or the bytes of a group.
+/// Returns what a group measures: how many files it has, or how many bytes.
 fn measure_of(group: &Group<'_>, measure: Measure) -> u64
     ensures { result ≡ measure_of measure group.now }
 {
@@ -127,7 +133,7 @@ fn measure_of(group: &Group<'_>, measure: Measure) -> u64
     }
 }
 
-/// Returns the files or the bytes of these groups together.
+/// Returns what these groups measure together, or 2^64 - 1 if it is more.
 fn rest_of(groups: &[Group<'_>], measure: Measure) -> u64
     ensures { result ≡ rest_of measure groups.now }
 {

@@ -1,4 +1,4 @@
-//! Rows of files, of formats and of equal files.
+//! The rows of the tables of files, of formats (whose PUID may be a link) and of equal files.
 
 ghost use Rattle.std.specs.Prelude.{◌≡◌, IfOk, map};
 ghost use Rattle.droid_report.specs.Seen.{row_seen, rows_seen, seen};
@@ -23,7 +23,7 @@ pub(crate) fn file_rows(alloc: Global, rows: &[Row]) -> Result<Vec<Vec<Cell>>, A
     Ok(lines)
 }
 
-/// Makes the row of a file.
+/// Makes the row of a file: path, size in bytes, last change. The columns are named in `file_table` of `tables.rt`.
 fn file_line(alloc: Global, row: &Row) -> Result<Vec<Cell>, AllocError>
     ensures { IfOk result (λ line. row_seen line ≡ file_row row.now) }
 {
@@ -52,7 +52,7 @@ pub(crate) fn format_rows(
     Ok(lines)
 }
 
-/// Makes the row of a format.
+/// Makes the row of a format, in the order above. The columns are named in `format_table` of `tables.rt`.
 fn format_line(alloc: Global, format: &Group<'_>) -> Result<Vec<Cell>, AllocError>
     ensures { IfOk result (λ line. row_seen line ≡ format_row format.now) }
 {
@@ -66,7 +66,9 @@ fn format_line(alloc: Global, format: &Group<'_>) -> Result<Vec<Cell>, AllocErro
     Ok(line)
 }
 
-/// Makes the cell of a PUID.
+/// Makes the cell of a PUID: a link to its page at The National Archives if it is PRONOM's, otherwise its text. The
+/// address stands in `puid_seen` too, which the prover ties, and in `page.py` and `numbers_of.py` of
+/// `tests/program/report`.
 fn puid_cell(alloc: Global, puid: &str) -> Result<Cell, AllocError>
     ensures { IfOk result (λ cell. seen cell ≡ puid_seen puid.now) }
 {
@@ -78,7 +80,7 @@ fn puid_cell(alloc: Global, puid: &str) -> Result<Cell, AllocError>
     Ok(Cell::Link { target, text })
 }
 
-/// Returns whether a PUID is PRONOM's.
+/// Returns whether a PUID is PRONOM's, by how it begins: `fmt/` or `x-fmt/`.
 fn is_pronom(puid: &[u8]) -> bool
     ensures { result ≡ is_pronom puid.now }
 {
@@ -100,7 +102,7 @@ pub(crate) fn copy_rows(alloc: Global, groups: &[Group<'_>]) -> Result<Vec<Vec<C
     Ok(lines)
 }
 
-/// Makes the row of a group of equal files.
+/// Makes the row of a group of equal files, in the order above. The columns are named in `copy_table` of `tables.rt`.
 fn copy_line(alloc: Global, group: &Group<'_>) -> Result<Vec<Cell>, AllocError>
     ensures { IfOk result (λ line. row_seen line ≡ copy_row group.now) }
 {

@@ -1,4 +1,4 @@
-//! Tables from their parts.
+//! Puts a table together: its parts, the names of its columns, and its place behind the tables before it.
 
 ghost use Rattle.std.specs.Prelude.{◌≡◌, ◌++◌, ◌∷◌, [], IfOk, OnOk, map, string_bytes};
 ghost use Rattle.droid_report.specs.Seen.{Shown, rows_seen, table_seen, tables_seen};
@@ -6,7 +6,7 @@ ghost use Rattle.droid_report.specs.Seen.{Shown, rows_seen, table_seen, tables_s
 use crate::html::tables::{Cell, Table};
 use std::alloc::{AllocError, Global};
 
-/// Makes a table.
+/// Makes a table of its parts; only the title is copied. Fails only if memory runs out.
 pub(crate) fn table(
     alloc: Global,
     title: &str,
@@ -32,7 +32,7 @@ pub(crate) fn table(
     })
 }
 
-/// Makes the names of two columns.
+/// Makes the names of two columns, from left to right. Fails only if memory runs out, as the two below.
 pub(crate) fn two_heads(alloc: Global, first: &str, second: &str) -> Result<Vec<String>, AllocError>
     ensures { IfOk result (λ heads. map string_bytes heads.items ≡ first.now ∷ second.now ∷ []) }
 {
@@ -44,7 +44,7 @@ pub(crate) fn two_heads(alloc: Global, first: &str, second: &str) -> Result<Vec<
     Ok(heads)
 }
 
-/// Makes the names of three columns.
+/// Makes the names of three columns, from left to right.
 pub(crate) fn three_heads(
     alloc: Global,
     first: &str,
@@ -59,7 +59,7 @@ pub(crate) fn three_heads(
     Ok(heads)
 }
 
-/// Makes the names of four columns.
+/// Makes the names of four columns, from left to right.
 pub(crate) fn four_heads(
     alloc: Global,
     first: &str,
@@ -76,7 +76,7 @@ pub(crate) fn four_heads(
     Ok(heads)
 }
 
-/// Adds a table.
+/// Adds a table behind those of the page. Fails only if memory runs out.
 pub(crate) fn add(tables: &mut Vec<Table>, table: Table) -> Result<(), AllocError>
     ensures { OnOk result (tables_seen tables.new.items ≡ tables_seen tables.old.items ++ table_seen table ∷ []) }
 {

@@ -1,4 +1,7 @@
-//! The tables of a report.
+//! The tables of a report, part by part in the order of the page: each with its title, note, columns and rows.
+//!
+//! `limit` is how many rows a list has at most; 0 leaves the lists empty. Each call fails only if memory runs out; then
+//! the tables are dropped.
 
 ghost use Rattle.std.specs.Prelude.{◌≡◌, ◌++◌, IfOk, OnOk, string_bytes};
 ghost use Rattle.droid_report.specs.Seen.{table_seen, tables_seen};
@@ -21,10 +24,12 @@ use crate::view::rows::{copy_rows, file_rows, format_rows};
 use crate::view::table::{add, four_heads, table, three_heads, two_heads};
 use std::alloc::{AllocError, Global};
 
-/// How many rows the tables of sizes and of depths have at most: all that there can be.
+/// How many rows the tables of sizes and of depths have at most: all that there can be, which are the classes 0 to 64
+/// of depths (`last_class` of `classes.rt`) and fewer of sizes. Nothing but this line ties it to them. The prover ties
+/// it to `class_tables` of `specs/ShownTables.antt`; `numbers_of.py` of `tests/program/report` has it too.
 const ALL_ROWS: usize = 65;
 
-/// Adds the totals, and the pictures of formats.
+/// Adds the table of totals, and the two pictures of formats.
 pub(crate) fn add_overview(
     tables: &mut Vec<Table>,
     alloc: Global,
@@ -41,7 +46,7 @@ pub(crate) fn add_overview(
     Ok(())
 }
 
-/// Appends the two pictures of formats: by files and by bytes.
+/// Adds the two pictures of formats: by number of files, then by bytes, each in its own order.
 fn add_pictures(
     tables: &mut Vec<Table>,
     alloc: Global,
@@ -72,7 +77,7 @@ fn add_pictures(
     Ok(())
 }
 
-/// Makes the table of totals.
+/// Makes the table of totals: two columns, no note.
 fn totals_table(alloc: Global, totals: Totals, orders: &Orders<'_>) -> Result<Table, AllocError>
     ensures { IfOk result (λ table. table_seen table ≡ shown.totals_table totals orders.now) }
 {
@@ -83,7 +88,8 @@ fn totals_table(alloc: Global, totals: Totals, orders: &Orders<'_>) -> Result<Ta
     Ok(table)
 }
 
-/// Makes a picture of formats by one measure.
+/// Makes a picture of formats as a table: names, numbers in `unit` (its column's name) and bars. `groups` are the
+/// formats in the order of `measure`.
 fn picture(
     alloc: Global,
     title: &str,
@@ -101,7 +107,7 @@ fn picture(
     Ok(table)
 }
 
-/// Adds the files by year, size and depth.
+/// Adds the tables of files by year, size and depth. Only that of years, which may have 10,000 rows, has a limit.
 pub(crate) fn add_classes(
     tables: &mut Vec<Table>,
     alloc: Global,
@@ -123,7 +129,7 @@ pub(crate) fn add_classes(
     Ok(())
 }
 
-/// What stands around the rows of classes.
+/// What stands around the rows of a table of classes: its title, the line below that, and the name of its first column.
 #[derive(Clone, Copy)]
 struct Frame<'a> {
     title: &'a str,
@@ -149,7 +155,8 @@ const DEPTHS: Frame<'static> = Frame {
     head: texts::SLASHES,
 };
 
-/// Makes the table of files by year, size or depth.
+/// Makes a table of files by year, size or depth, with at most `limit` rows. `counts` has the number of files of each
+/// class.
 fn class_table(
     alloc: Global,
     frame: Frame<'_>,
@@ -185,7 +192,7 @@ pub(crate) fn add_groups(
     Ok(())
 }
 
-/// Makes the table of formats.
+/// Makes the table of the first formats, with a note of how many more there are.
 fn format_table(alloc: Global, formats: &[Group<'_>], limit: usize) -> Result<Table, AllocError>
     ensures { IfOk result (λ table. table_seen table ≡ shown.format_table formats.now limit) }
 {
@@ -197,7 +204,7 @@ fn format_table(alloc: Global, formats: &[Group<'_>], limit: usize) -> Result<Ta
     Ok(table)
 }
 
-/// Makes the table of equal files.
+/// Makes the table of the first groups of equal files, with a note of how many more groups there are.
 fn copy_table(alloc: Global, groups: &[Group<'_>], limit: usize) -> Result<Table, AllocError>
     ensures { IfOk result (λ table. table_seen table ≡ shown.copy_table groups.now limit) }
 {
@@ -215,7 +222,8 @@ fn copy_table(alloc: Global, groups: &[Group<'_>], limit: usize) -> Result<Table
     Ok(table)
 }
 
-/// Adds the lists of files of a kind: those that ask for a look.
+/// Adds the lists of files that ask for a look: not identified, an unexpected extension, several formats. `totals` has
+/// how many there are of each.
 pub(crate) fn add_lists(
     tables: &mut Vec<Table>,
     alloc: Global,
@@ -259,7 +267,7 @@ pub(crate) fn add_lists(
     Ok(())
 }
 
-/// Adds the lists of the largest, the oldest and the newest files.
+/// Adds the lists of the largest, the oldest and the newest files. Only the first notes how many more files there are.
 pub(crate) fn add_extremes(
     tables: &mut Vec<Table>,
     alloc: Global,
@@ -283,7 +291,8 @@ pub(crate) fn add_extremes(
     Ok(())
 }
 
-/// Notes how many rows a list leaves out.
+/// Makes the note of how many of `total` files a list of these rows leaves out, which shows at most `limit` of them,
+/// and of `elsewhere`, where the CSV has them.
 fn note_for(
     alloc: Global,
     total: u64,
@@ -298,7 +307,7 @@ fn note_for(
     Ok(note)
 }
 
-/// Makes a table of files with a note below its title.
+/// Makes a table of the first `limit` of these files, with a note below its title.
 fn file_table(
     alloc: Global,
     title: &str,

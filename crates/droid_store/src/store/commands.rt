@@ -1,4 +1,5 @@
-//! One call for each kind of accepted command. Each makes its change and keeps the reply, both or neither.
+//! One call for each kind of accepted command. Each makes its change and keeps the reply `entry`, both or neither. It
+//! fails only if memory runs out, as long as its rows are small enough (`FitsARow`).
 
 ghost use Rattle.std.specs.Prelude.{◌≡◌, ◌+◌, ◌<◌, ◌^◌, None, Some, length, OnOk, OnErr, IfErr};
 ghost use Rattle.std.specs.List.{AllByRecursion};
@@ -199,7 +200,8 @@ impl Store {
         self.commit(entry, &Change::Abandon { profile, file }, counts)
     }
 
-    /// Makes the change and keeps the reply. `counts` is the number of rows after the change, without the reply.
+    /// Makes the change and keeps the reply: what all commands share. `counts` is the number of rows after the change,
+    /// without the reply.
     fn commit(
         &mut self,
         entry: &Entry,

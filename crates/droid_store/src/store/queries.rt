@@ -30,7 +30,7 @@ impl Store {
         Ok(Some(entry_of(&row, client, number)?))
     }
 
-    /// Returns the profile with this number.
+    /// Returns the profile with this number, or `None` if there is none.
     pub fn profile(&mut self, profile: u32) -> Result<Option<ProfileRow>, StoreFault>
         ensures same { self.new ≡ self.old }
         ensures found { IfOk result (λ found. found ≡ profile_at profile self.old) }
@@ -42,7 +42,7 @@ impl Store {
         Ok(Some(profile_of(&row)?))
     }
 
-    /// Returns the node of this profile with this number, unless it was abandoned.
+    /// Returns the node of this profile with this number, or `None` if there is none or it was abandoned.
     pub fn node(&mut self, profile: u32, id: u32) -> Result<Option<NodeRow>, StoreFault>
         ensures same { self.new ≡ self.old }
         ensures found { IfOk result (λ found. found ≡ option_map row_of (node_at profile id self.old)) }
@@ -54,8 +54,8 @@ impl Store {
         Ok(Some(node_of(self.alloc, &row)?))
     }
 
-    /// Returns the number of the node with this name in this folder. Names are compared byte for byte, and the top is
-    /// folder 0.
+    /// Returns the number of the node with this name in this folder, or `None` if there is none. Names are compared
+    /// byte for byte, and the top is folder 0.
     pub fn child(
         &mut self,
         profile: u32,
@@ -73,7 +73,8 @@ impl Store {
         Ok(Some(row.get(0)?))
     }
 
-    /// Returns the folders and finished files of the profile by number.
+    /// Returns the folders and finished files of the profile in the order of their numbers; none if there is no such
+    /// profile.
     pub fn records(&mut self, profile: u32) -> Result<Vec<Record>, StoreFault>
         ensures same { self.new ≡ self.old }
         ensures found { IfOk result (λ found. found.items ≡ records_of profile self.old) }

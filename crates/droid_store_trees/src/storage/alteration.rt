@@ -36,13 +36,13 @@ impl Alter for TreeStore {
         self.replace(tree, new)
     }
 
-    /// Makes a tree absent.
+    /// Makes the tree of this number absent: its rows and its description go, its number stays.
     fn destroy(&mut self, tree: u32) -> Result<(), StoreError> {
         let new = Tree::absent(self.alloc)?;
         self.replace(tree, new)
     }
 
-    /// Returns SQLite's user version, as the transaction sees it.
+    /// Returns SQLite's user version, as the transaction sees it: a number that a database keeps for its user.
     fn version(&self) -> u32 {
         self.current().version
     }

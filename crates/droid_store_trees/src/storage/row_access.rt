@@ -66,12 +66,13 @@ impl Store for TreeStore {
             .map_or(0, |t| if t.shape == Shape::Absent { 0 } else { t.reals })
     }
 
-    /// Returns whether the tree of this number is a table, an index or absent.
+    /// Returns whether the tree of this number is a table, an index or absent. A number without a tree is absent.
     fn shape(&self, tree: u32) -> Shape {
         self.current().shape(tree)
     }
 
-    /// Places a cursor at the first row that is not below the key, or, backward, at the last that is not above it.
+    /// Places the cursor of this number at the first row that is not below the key, or, backward, at the last that is
+    /// not above it. Fails only if memory runs out.
     fn seek(
         &mut self,
         cursor: u16,
@@ -151,7 +152,7 @@ impl Store for TreeStore {
         Ok(self.marks.push(mark)?)
     }
 
-    /// Drops the newest mark, and keeps what was written since.
+    /// Drops the newest mark, and keeps what was written since. Without a mark nothing changes.
     fn release(&mut self) -> Result<(), StoreError> {
         self.marks.pop();
         Ok(())

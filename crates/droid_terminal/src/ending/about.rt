@@ -1,4 +1,4 @@
-//! What a sentence is about.
+//! What the sentence of a fault is about: its first words.
 
 ghost use Rattle.std.specs.Prelude.{Some};
 ghost use Rattle.droid_terminal.specs.Endings.{about_text};
@@ -7,7 +7,7 @@ use crate::path_text::Shown;
 use std::fmt;
 use std::fmt::{Display, Formatter, Write};
 
-/// What a sentence is about. It stands before it.
+/// What a sentence is about. It prints as the words before the row's text, with `: ` behind a path or a port.
 #[derive(Clone, Copy)]
 pub enum About<'a> {
     /// Nothing that has a name.
@@ -18,7 +18,7 @@ pub enum About<'a> {
     Beside(&'a str, &'static str),
     /// A port of this machine.
     Port(u16),
-    /// A port on which nobody listens.
+    /// A port on which nobody listens. Prints a whole sentence, so the row's text is empty or goes on after a comma.
     Unheard(u16),
 }
 

@@ -1,4 +1,4 @@
-//! How a command ends.
+//! How a command ends: makes its ending from a row of the table, and gives its status and its print.
 
 ghost use Rattle.std.specs.Prelude.{◌≡◌};
 ghost use Rattle.droid_terminal.specs.Endings.{about_text, by, detail_text, detailed, numbered, said};
@@ -13,23 +13,24 @@ use std::io;
 /// How a command ends.
 #[derive(Clone, Copy)]
 pub enum Ending<'a> {
-    /// All is done.
+    /// All is done: status 0.
     Whole,
-    /// All is done that could be, and something is reported.
+    /// All is done that could be, and something is reported: status 5.
     Partly,
-    /// A fault ended it.
+    /// A fault ended it, with the status of its row.
     Fault(Fault<'a>),
 }
 
 impl<'a> Ending<'a> {
-    /// Ends a command by a fault of this row, whose sentence is about this.
+    /// Makes the ending by a fault of this row, whose sentence is about `about`. For a row whose sentence has no gap:
+    /// nothing checks that, and with a gap the sentence lacks what it names.
     pub fn by(row: Row, about: About<'a>) -> Ending<'a>
         ensures { told result ≡ by (said row) (about_text about.entry) }
     {
         Ending::detailed(row, about, Detail::Nothing)
     }
 
-    /// Ends a command by a fault of this row, whose sentence names this.
+    /// Makes the ending by a fault of this row, whose sentence is about `about` and names `detail` in its gap.
     pub fn detailed(row: Row, about: About<'a>, detail: Detail<'a>) -> Ending<'a>
         ensures { told result ≡ detailed (said row) (about_text about.entry) (detail_text detail.entry) }
     {
@@ -41,14 +42,15 @@ impl<'a> Ending<'a> {
         })
     }
 
-    /// Ends a command by a fault of this row in this line or record, which both its name and its sentence have.
+    /// Makes the ending by a fault of this row in the line or record `number`, which stands behind its name and in the
+    /// gap of its sentence.
     pub fn numbered(row: Row, about: About<'a>, number: u64) -> Ending<'a>
         ensures { told result ≡ numbered (said row) (about_text about.entry) number }
     {
         Ending::at(row, about, number, Detail::Number(number))
     }
 
-    /// Ends a command by a fault of this row, whose name has this number, and whose sentence names this.
+    /// Makes the ending by a fault of this row, with `number` behind its name and `detail` in the gap of its sentence.
     pub fn at(row: Row, about: About<'a>, number: u64, detail: Detail<'a>) -> Ending<'a>
         ensures { told result ≡ told_at (said row) (about_text about.entry) number (detail_text detail.entry) }
     {
@@ -60,7 +62,8 @@ impl<'a> Ending<'a> {
         })
     }
 
-    /// Returns the exit status.
+    /// Returns the exit status of the program. The numbers are those of `status_of`, which the prover compares, of the
+    /// helps of `droid_arguments`, and of the tests.
     pub fn status(self) -> u8
         ensures { result ≡ status_of (told self.entry) }
     {
@@ -71,8 +74,9 @@ impl<'a> Ending<'a> {
         }
     }
 
-    /// Prints the fault to standard error, and behind it a sentence that says what happened and what to do. Without a
-    /// contract of its own: `FaultLine` and `Sentence` say what they print, and `tests/program/endings.sh` reads it.
+    /// Prints two lines to standard error: the fault's name, and a sentence that says what happened and what to do.
+    /// Prints nothing where no fault ended the command. Fails if standard error does. Without a contract of its own:
+    /// `FaultLine` and `Sentence` say what they print, and the cases of `tests/program` compare it.
     pub fn print<R: Eprint>(self, rt: &R) -> io::Result<()> {
         match self {
             Ending::Whole | Ending::Partly => Ok(()),

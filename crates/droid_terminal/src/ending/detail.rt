@@ -1,4 +1,4 @@
-//! What a sentence names within itself.
+//! What the sentence of a fault names in its gap, which `..` marks in the table.
 
 use std::io::ErrorKind;
 

@@ -23,7 +23,7 @@ pub struct Fault<'a> {
     pub detail: Detail<'a>,
 }
 
-/// The line with a fault's name.
+/// The first line that is printed of a fault: `fault: `, its name and, if it has a number, ` at ` and that.
 #[derive(Clone, Copy)]
 pub(crate) struct FaultLine<'a>(pub Fault<'a>);
 
@@ -39,7 +39,7 @@ impl Display for FaultLine<'_> {
     }
 }
 
-/// A number, what stands behind it, and words.
+/// The text of `Detail::Numbered`: a number, what stands behind it, and words.
 #[derive(Clone, Copy)]
 struct Counted(u64, &'static str, &'static str);
 
@@ -51,12 +51,12 @@ impl Display for Counted {
     }
 }
 
-/// The sentence behind it.
+/// The second line: what the sentence is about, the row's text, the detail in its gap, and the rest.
 #[derive(Clone, Copy)]
 pub(crate) struct Sentence<'a>(pub Fault<'a>);
 
 impl Display for Sentence<'_> {
-    // The system's reasons are printed as the system names them.
+    // The system's reasons are printed as the system names them: `detail_text` is `None`, and none is proved.
     ghost output = { λ sentence.
         sentence_text (said sentence.0.row) (about_text sentence.0.about) (detail_text sentence.0.detail) };
 

@@ -1,4 +1,6 @@
 //! The table of faults: by which name, with which status and with which sentence a command ends.
+//! `specs/FaultTable.antt` has the rows too, for the clauses of the commands. A number in a sentence is a limit that
+//! another crate has: no clause ties them.
 
 use crate::ending::row::Row;
 use crate::ending::status::Status;

@@ -1,4 +1,4 @@
-//! The ending where a folder cannot be listed.
+//! The ending where a folder cannot be listed: looks at its path again and names the reason.
 
 ghost use Rattle.std.specs.Prelude.{◌≡◌};
 ghost use Rattle.droid_terminal.specs.Endings.{told};
@@ -28,14 +28,17 @@ enum SeenFolder {
     Unseen(ErrorKind),
 }
 
-/// Looks at a path again that is not a folder or could not be listed, and returns the ending that says why.
+/// Looks at a path again that is not a folder or could not be listed, and returns the ending that says why. Which of
+/// the five it is is up to the machine: the clause says only that it is one of them, about this path.
 pub fn told_no_folder<'a, R: Files + AllocGlobal>(rt: &R, path: &'a str) -> Ending<'a>
     ensures { IsNoFolder path.now (told result) }
 {
     told_of_folder(seen_folder(rt, path), path)
 }
 
-/// Looks at a path. What is there is up to the machine, so this has no contract: any answer has its ending.
+/// Looks at a path, following links. What is there is up to the machine, so this has no contract: any answer has its
+/// ending. `Unlisted` is tested by `unfinished_files.py` of `tests/program/folders`, `Other` and `Missing` by the cases
+/// `file_in_place_of_a_folder` and `missing_folder`. The sentences of the other two stand in no test.
 fn seen_folder<R: Files + AllocGlobal>(rt: &R, path: &str) -> SeenFolder {
     match fs::metadata(rt, path) {
         Ok(found) if found.is_dir() => match why_unlisted(rt, path) {
@@ -50,7 +53,7 @@ fn seen_folder<R: Files + AllocGlobal>(rt: &R, path: &str) -> SeenFolder {
     }
 }
 
-/// Returns the ending by what was seen.
+/// Returns the ending for what was seen at this path: a row for each case.
 fn told_of_folder<'a>(seen: SeenFolder, path: &'a str) -> Ending<'a>
     ensures { told result ≡ told_of_folder seen path.now }
 {

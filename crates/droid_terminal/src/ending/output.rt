@@ -1,4 +1,4 @@
-//! The ending where a file cannot be created or replaced.
+//! The ending where a file cannot be created or replaced: looks at its path again and names the reason.
 
 ghost use Rattle.std.specs.Prelude.{◌≡◌};
 ghost use Rattle.droid_terminal.specs.Endings.{said, told};
@@ -18,11 +18,12 @@ use std::io::ErrorKind;
 enum SeenOutput {
     /// Something else than a file.
     NoFile,
-    /// A file, or nothing. The fault is that of its folder, if that has one.
+    /// A file, or nothing, or what cannot be looked at. The fault is that of its folder, if that has one.
     InFolder(Option<ErrorKind>),
 }
 
-/// Looks again at a path at which no file can be created or replaced, and returns the ending that says why.
+/// Looks again at a path at which no file can be created or replaced, and returns the ending that says why. Which one
+/// it is is up to the machine, except for an empty path; each has status 4 and the name Output.
 pub fn told_no_output<'a, R: Files>(rt: &R, path: &'a str) -> Ending<'a>
     ensures { IsNoOutput path.now (told result) }
 {
@@ -32,7 +33,9 @@ pub fn told_no_output<'a, R: Files>(rt: &R, path: &'a str) -> Ending<'a>
     Ending::by(output_row(seen_output(rt, path)), About::Path(path))
 }
 
-/// Looks at a path. What is there is up to the machine, so this has no contract: any answer has its row.
+/// Looks at a path and then at its folder, following links. What is there is up to the machine, so this has no
+/// contract: any answer has its row. The cases `folder_in_place_of_the_output` and `missing_folder_of_the_output` of
+/// `tests/program` test two of the answers; no test tells the others apart.
 fn seen_output<R: Files>(rt: &R, path: &str) -> SeenOutput {
     if let Ok(found) = fs::metadata(rt, path)
         && !found.is_file()
@@ -42,7 +45,8 @@ fn seen_output<R: Files>(rt: &R, path: &str) -> SeenOutput {
     SeenOutput::InFolder(folder_fault(rt, folder_of(path)))
 }
 
-/// Returns why a folder cannot be used, or `None` if it is there. Without a contract too.
+/// Returns why a folder cannot be used, or `None` if it is there; `NotADirectory` if something else is in its place.
+/// Without a contract too: `missing_folder_of_the_output` tests `NotFound`, and no test tells the others apart.
 fn folder_fault<R: Files>(rt: &R, path: &str) -> Option<ErrorKind> {
     match fs::metadata(rt, path) {
         Ok(found) if found.is_dir() => None,
@@ -51,7 +55,7 @@ fn folder_fault<R: Files>(rt: &R, path: &str) -> Option<ErrorKind> {
     }
 }
 
-/// Returns the row by what was seen.
+/// Returns the row for what was seen at the path of an output.
 fn output_row(seen: SeenOutput) -> Row
     ensures { said result ≡ output_row seen }
 {
@@ -61,7 +65,7 @@ fn output_row(seen: SeenOutput) -> Row
     }
 }
 
-/// Returns the row for the fault of an output's folder, if it has one.
+/// Returns the row for the fault of an output's folder. `None`: the folder is there, and still the file was refused.
 fn folder_row(fault: Option<ErrorKind>) -> Row
     ensures { said result ≡ folder_row fault }
 {

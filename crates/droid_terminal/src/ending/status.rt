@@ -15,7 +15,8 @@ pub enum Status {
 }
 
 impl Status {
-    /// Returns the number.
+    /// Returns the number with which the program exits. `number_of` has the numbers too, which the prover compares, and
+    /// so have the helps of `droid_arguments` and the tests.
     pub(crate) fn number(self) -> u8
         ensures { result ≡ number_of self }
     {

@@ -1,4 +1,4 @@
-//! Keeps what a walk skips.
+//! A watcher that keeps what a walk skips.
 
 ghost use Rattle.std.specs.Prelude.{◌≡◌, ◌++◌, [], ◌∷◌, true, OnOk};
 ghost use Rattle.droid_terminal.specs.SkippedPaths.{Records};
@@ -22,7 +22,7 @@ pub struct Recorder<W> {
 }
 
 impl<W> Recorder<W> {
-    /// Starts with nothing skipped.
+    /// Wraps this watcher, with nothing skipped so far. Takes no memory.
     pub fn new(alloc: Global, watcher: W) -> Recorder<W>
         ensures watcher { result.watcher ≡ watcher }
         ensures none { result.skipped.items ≡ [] }
@@ -37,6 +37,8 @@ impl<W> Recorder<W> {
     }
 }
 
+// `Watcher` says when each is called. `skipped` keeps the entry too, and then passes it on: no clause needs that order.
+// The others only pass on what they get.
 impl<W: Watcher> Watcher for Recorder<W> {
     ghost hears = { Records W.hears };
 
@@ -64,7 +66,8 @@ impl<W: Watcher> Watcher for Recorder<W> {
     }
 }
 
-/// Appends a skipped entry.
+/// Appends a skipped entry. Fails only if memory runs out; nothing is promised of the list then, and the recorder notes
+/// in `has_all` that it is not whole.
 fn keep(
     alloc: Global,
     skipped: &mut Vec<SkippedEntry>,

@@ -7,10 +7,10 @@ use crate::skipped::skipped_entry::SkippedEntry;
 use std::alloc::{AllocError, Global};
 use std::collections::BTreeMap;
 
-/// The paths of skipped entries.
+/// The paths of skipped entries. The keys alone count: the value is always true.
 pub type SkippedPaths<'a> = BTreeMap<&'a [u8], bool>;
 
-/// Returns the paths of these entries.
+/// Returns the paths of these entries, for many look-ups by `holds_above`. Fails only if memory runs out.
 pub fn paths_of<'a>(
     alloc: Global,
     skipped: &'a [SkippedEntry],
@@ -24,7 +24,8 @@ pub fn paths_of<'a>(
     Ok(paths)
 }
 
-/// Adds the path of an entry.
+/// Adds the path of an entry, which may be there already. Fails only if memory runs out; the caller drops the paths
+/// then.
 fn add_path<'a>(paths: &mut SkippedPaths<'a>, entry: &'a SkippedEntry) -> Result<(), AllocError>
     ensures { OnOk result ((path : List ℕ)
         → is_held paths.new path ≡ (is_held paths.old path || bytes_eq entry.now.path path)) }
@@ -33,7 +34,7 @@ fn add_path<'a>(paths: &mut SkippedPaths<'a>, entry: &'a SkippedEntry) -> Result
     Ok(())
 }
 
-/// Returns whether a path is among these, or a folder above it.
+/// Returns whether a path is among these, or a folder above it is: then its entry was not read.
 #[tactic(auto, using(crate::proofs::SkippedPaths::none_next))]
 pub fn holds_above(paths: &SkippedPaths<'_>, path: &[u8]) -> bool
     ensures { result ≡ holds_above (is_held paths.now) path.now }
@@ -49,7 +50,8 @@ pub fn holds_above(paths: &SkippedPaths<'_>, path: &[u8]) -> bool
     false
 }
 
-/// Returns whether the first `place` bytes of a path are among these, and are the path of a folder above it.
+/// Returns whether the first `place` bytes of a path are among these, and are the path of a folder above it: a `/`
+/// stands behind them.
 fn holds_front(paths: &SkippedPaths<'_>, path: &[u8], place: usize) -> bool
     requires { place < length path.now }
     ensures { result ≡ holds_front (is_held paths.now) path.now place }

@@ -1,4 +1,4 @@
-//! The CSV of what was skipped.
+//! Writes the CSV of what was skipped: whole, or line by line.
 
 ghost use Rattle.std.specs.Prelude.{◌≡◌, ◌++◌, ℕ, List, [], ◌∷◌, IfOk, OnOk};
 ghost use Rattle.droid_export.specs.Csv.{line};
@@ -12,7 +12,8 @@ use csv::Writer;
 use droid_tree::Skipped;
 use std::alloc::{AllocError, Global};
 
-/// Returns the CSV of these entries, with each field between double quotes.
+/// Returns the CSV of these entries, with its header and each field between double quotes. Fails only if memory runs
+/// out, as all here.
 pub fn skipped_csv(alloc: Global, skipped: &[SkippedEntry]) -> Result<Vec<u8>, AllocError>
     ensures { IfOk result (λ csv. csv.items ≡ skipped_csv skipped.now) }
 {
@@ -24,7 +25,8 @@ pub fn skipped_csv(alloc: Global, skipped: &[SkippedEntry]) -> Result<Vec<u8>, A
     finish_csv(writer)
 }
 
-/// Returns the first line of this CSV, which names its columns.
+/// Returns the first line of this CSV, which names its columns `path` and `reason`. It is for a file that is written
+/// during the walk, by this and `entry_line`.
 pub fn header_line(alloc: Global) -> Result<Vec<u8>, AllocError>
     ensures { IfOk result (λ text. text.items ≡ header) }
 {
@@ -33,7 +35,7 @@ pub fn header_line(alloc: Global) -> Result<Vec<u8>, AllocError>
     finish_csv(writer)
 }
 
-/// Returns the line of one entry.
+/// Returns the line of one entry: its path, which may be invalid UTF-8, and the reason in words.
 pub fn entry_line(alloc: Global, path: &[u8], why: Skipped) -> Result<Vec<u8>, AllocError>
     ensures { IfOk result (λ text. text.items ≡ entry_text path.now why) }
 {
@@ -42,7 +44,7 @@ pub fn entry_line(alloc: Global, path: &[u8], why: Skipped) -> Result<Vec<u8>, A
     finish_csv(writer)
 }
 
-/// Writes the record of an entry.
+/// Appends the record of an entry: its path and the reason in words. Fails only if the buffer can't grow.
 fn write_entry(writer: &mut Writer<Vec<u8>>, entry: &SkippedEntry) -> Result<(), AllocError>
     ensures { OnOk result ((text : List ℕ) → Holds writer.old text
         → Holds writer.new (text ++ line (entry_record entry.now))) }
@@ -50,7 +52,7 @@ fn write_entry(writer: &mut Writer<Vec<u8>>, entry: &SkippedEntry) -> Result<(),
     write_pair(writer, entry.path.as_slice(), cause(entry.why).as_bytes())
 }
 
-/// Writes a record of two fields. Fails only if the buffer can't grow.
+/// Appends a record of two fields. Fails only if the buffer can't grow.
 fn write_pair(writer: &mut Writer<Vec<u8>>, first: &[u8], second: &[u8]) -> Result<(), AllocError>
     ensures { OnOk result ((text : List ℕ) → Holds writer.old text
         → Holds writer.new (text ++ line (first.now ∷ second.now ∷ []))) }

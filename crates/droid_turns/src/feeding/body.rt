@@ -5,7 +5,8 @@ ghost use Rattle.std.specs.Prelude.{vec_capacity, vec_len};
 
 use std::alloc::AllocError;
 
-/// Appends bytes from the front of a piece to a body of which `whole` bytes are announced, and returns how many.
+/// Appends bytes from the front of a piece to a body of which `whole` bytes are announced, and returns how many: all
+/// that are missing, or the whole piece. Fails only if memory runs out, and leaves the bytes as they were.
 pub(crate) fn append(body: &mut Vec<u8>, whole: usize, piece: &[u8]) -> Result<usize, AllocError>
     requires within { length body.old.items ≤ whole }
     requires limit { whole ≤ 4194368 }
@@ -25,7 +26,8 @@ pub(crate) fn append(body: &mut Vec<u8>, whole: usize, piece: &[u8]) -> Result<u
     Ok(count)
 }
 
-/// Makes room for `count` bytes more in a body of which `whole` bytes are announced. The room doubles, up to that.
+/// Makes room for `count` bytes more in a body of which `whole` bytes are announced. If the room has to grow, it at
+/// least doubles, but not beyond `whole`.
 fn make_room(body: &mut Vec<u8>, count: usize, whole: usize) -> Result<(), AllocError>
     requires within { vec_len body.old + count ≤ whole }
     requires limit { whole ≤ 4194368 }

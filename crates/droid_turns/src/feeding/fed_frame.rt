@@ -5,7 +5,8 @@ ghost use Rattle.droid_frame.specs.Fields.{IsBytes};
 
 use droid_frame::{Blob, Frame, Header};
 
-/// Returns the frame of this header and this body.
+/// Makes a frame from its header and its whole body, whose bytes it takes over. That the body is as long as the header
+/// announces is for the caller to know: [`Parts::take`](crate::feeding::parts::Parts::take) has just filled it.
 pub(crate) fn frame(header: Header, body: Vec<u8>) -> Frame
     ensures version { result.version ≡ header.version }
     ensures kind { result.kind ≡ header.kind }

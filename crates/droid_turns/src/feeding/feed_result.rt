@@ -1,4 +1,4 @@
-//! What one call took.
+//! What one call of [`FrameFeed::take`](crate::FrameFeed::take) took, and the frame that it completed.
 
 use droid_frame::Frame;
 

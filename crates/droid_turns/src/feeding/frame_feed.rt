@@ -1,4 +1,4 @@
-//! The reader of frames that is fed.
+//! The reader of frames that is fed: the public type around [`Parts`], and what contracts see of it.
 
 ghost use Rattle.std.specs.Prelude.{◌≡◌, ◌≢◌, ◌≤◌, ℕ, List, [], Ok, Err, IfOk, IfErr, OnOk, MatchOption, length};
 ghost use Rattle.droid_frame.specs.Streams.{BeginsNoFrame, Frames, why};

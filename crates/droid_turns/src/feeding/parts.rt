@@ -22,7 +22,8 @@ pub(crate) struct Parts {
 }
 
 impl Parts {
-    /// Takes bytes from the front of a piece, up to the end of the frame.
+    /// Takes bytes from the front of a piece, up to the end of the frame, and returns the frame if it is whole: then
+    /// nothing is held any more. If memory runs out for the body, the bytes of the header are given back too.
     pub(crate) fn take(&mut self, alloc: Global, piece: &[u8]) -> Result<Fed, FrameFault>
         requires { IsBetween self.old }
         ensures between { IsBetween self.new }
@@ -55,7 +56,8 @@ impl Parts {
         })
     }
 
-    /// Copies bytes from the front of a piece to the end of the header, and returns how many.
+    /// Copies bytes from the front of a piece behind those of the header that came, and returns how many: until the
+    /// header has its 18 bytes, or the whole piece.
     fn fill_header(&mut self, piece: &[u8]) -> usize
         requires { self.old.filled ≤ 18 }
         ensures count { result ≡ min (18 - self.old.filled) (length piece.now) }
@@ -73,7 +75,8 @@ impl Parts {
         count
     }
 
-    /// Returns what the end of the stream means here.
+    /// Returns what the end of the stream means here: nothing bad between two frames; otherwise the fault of the header
+    /// that is held, or that the frame is cut.
     pub(crate) fn end(&self) -> Result<(), FrameFault>
         requires { IsBetween self.now }
         ensures closed { OnOk result (why (came self.now) ≡ Ok arrivals.End) }

@@ -1,4 +1,5 @@
-//! Readers of hash kinds and digests.
+//! Readers of hash kinds and digests, from the front of the bytes. Each returns the value and the bytes after it, or
+//! `None` if the bytes are too few or have no such kind.
 
 ghost use Rattle.std.specs.Prelude.{◌≡◌};
 ghost use Rattle.std.specs.Option.{option_map};
@@ -7,7 +8,8 @@ ghost use Rattle.droid_frame.specs.HashFields.{digest_at, hash_kind_at, hash_val
 use crate::hash_kind::HashKind;
 use crate::hash_value::HashValue;
 
-/// Reads the kind of a hash. Version 1 has no field for it, and means MD5.
+/// Reads the kind of a hash in a body of this version. Version 1 has no byte for it, and means MD5: nothing is read.
+/// Any other version has one byte.
 #[tactic(auto, unfolding(crate::specs::HashFields::carried_kind_at))]
 pub(crate) fn carried_kind_at(version: u8, bytes: &[u8]) -> Option<(HashKind, &[u8])>
     ensures { option_map (λ x. (x.0, x.1.now)) result ≡ carried_kind_at version bytes.now }
@@ -18,7 +20,8 @@ pub(crate) fn carried_kind_at(version: u8, bytes: &[u8]) -> Option<(HashKind, &[
     hash_kind_at(bytes)
 }
 
-/// Reads the kind of a hash, if the version has a field for it, and then the digest.
+/// Reads the hash of a Finished: its kind, if the version has a byte for it, and then as many bytes of digest as the
+/// kind has.
 #[tactic(auto, unfolding(crate::specs::HashFields::digest_at))]
 pub(crate) fn digest_at(version: u8, bytes: &[u8]) -> Option<(HashValue, &[u8])>
     ensures { option_map (λ x. (x.0, x.1.now)) result ≡ digest_at version bytes.now }
@@ -27,7 +30,8 @@ pub(crate) fn digest_at(version: u8, bytes: &[u8]) -> Option<(HashValue, &[u8])>
     hash_value_at(kind, rest)
 }
 
-/// Reads a hash's kind from its number.
+/// Reads a hash's kind from its number in one byte, 0 to 2. `None` for any other byte. `HashKind::number` has the same
+/// numbers; the prover ties both to `hash_kind_number`.
 #[tactic(auto, unfolding(crate::specs::HashFields::hash_kind_at))]
 fn hash_kind_at(bytes: &[u8]) -> Option<(HashKind, &[u8])>
     ensures { option_map (λ x. (x.0, x.1.now)) result ≡ hash_kind_at bytes.now }
@@ -40,7 +44,7 @@ fn hash_kind_at(bytes: &[u8]) -> Option<(HashKind, &[u8])>
     }
 }
 
-/// Reads a digest of this kind: as many bytes as the kind has.
+/// Reads a digest of this kind: as many bytes as the kind has, 0, 16 or 32.
 #[tactic(auto, unfolding(crate::specs::HashFields::hash_value_at))]
 fn hash_value_at(kind: HashKind, bytes: &[u8]) -> Option<(HashValue, &[u8])>
     ensures { option_map (λ x. (x.0, x.1.now)) result ≡ hash_value_at kind bytes.now }
@@ -58,7 +62,7 @@ fn hash_value_at(kind: HashKind, bytes: &[u8]) -> Option<(HashValue, &[u8])>
     }
 }
 
-/// Reads the 16 bytes of an MD5.
+/// Reads the 16 bytes of an MD5. `None` if fewer are left.
 #[tactic(auto, unfolding(crate::specs::HashFields::run_at))]
 fn md5_at(bytes: &[u8]) -> Option<([u8; 16], &[u8])>
     ensures { option_map (λ x. (x.0, x.1.now)) result ≡ run_at 16 bytes.now }
@@ -67,7 +71,7 @@ fn md5_at(bytes: &[u8]) -> Option<([u8; 16], &[u8])>
     Some((*md5, rest))
 }
 
-/// Reads the 32 bytes of a SHA-256.
+/// Reads the 32 bytes of a SHA-256. `None` if fewer are left.
 #[tactic(auto, unfolding(crate::specs::HashFields::run_at))]
 fn sha256_at(bytes: &[u8]) -> Option<([u8; 32], &[u8])>
     ensures { option_map (λ x. (x.0, x.1.now)) result ≡ run_at 32 bytes.now }

@@ -1,4 +1,5 @@
-//! Readers of texts, each after its length in one byte.
+//! Readers of texts, each after its length in one byte, from the front of the bytes. Lists of a filter's criteria and
+//! of a Finished's identifiers are such texts.
 
 ghost use Rattle.std.specs.Prelude.{◌≡◌};
 ghost use Rattle.std.specs.Option.{option_map};
@@ -11,7 +12,8 @@ use crate::text::Text;
 use crate::texts::Texts;
 use std::alloc::Global;
 
-/// Skips `count` texts of `least` to `most` bytes each, and returns the bytes after them. Allocates nothing.
+/// Skips `count` texts of `least` to `most` bytes each, and returns the bytes after them. `None` if there are fewer, or
+/// one has another length or is not UTF-8. Allocates nothing.
 pub(crate) fn after_texts(count: usize, least: u8, most: u8, bytes: &[u8]) -> Option<&[u8]>
     ensures { option_map (λ rest. rest.now) result ≡ option_map (λ x. x.1) (texts_at count least most bytes.now) }
 {
@@ -24,7 +26,8 @@ pub(crate) fn after_texts(count: usize, least: u8, most: u8, bytes: &[u8]) -> Op
 }
 
 /// Reads `count` texts of `least` to `most` bytes each, and returns them and the bytes after them. It allocates as it
-/// reads, so callers check the bytes with [`after_texts`] first.
+/// reads, so callers check the bytes with [`after_texts`] first. `Malformed` where [`after_texts`] returns `None`;
+/// `Memory` if memory runs out.
 pub(crate) fn texts_at(
     alloc: Global,
     count: usize,
@@ -44,7 +47,8 @@ pub(crate) fn texts_at(
     Ok((texts, rest))
 }
 
-/// Reads a text of `least` to `most` bytes and copies it. Fails if it is malformed, or if memory runs out.
+/// Reads a text of `least` to `most` bytes and copies it. `Malformed` if the bytes have none at their front, `Memory`
+/// if memory runs out.
 fn sized_text_at(
     alloc: Global,
     least: u8,
@@ -57,7 +61,8 @@ fn sized_text_at(
     Ok((Text::copy_of(alloc, text)?, rest))
 }
 
-/// Reads a text of `least` to `most` bytes.
+/// Reads a text of `least` to `most` bytes, without a copy. `None` if its length is another, if fewer bytes are left,
+/// or if they are not UTF-8.
 #[tactic(auto, unfolding(crate::specs::TextListFields::sized_text_at))]
 fn sized_str_at(least: u8, most: u8, bytes: &[u8]) -> Option<(&str, &[u8])>
     ensures { option_map (λ x. (x.0.now, x.1.now)) result ≡ sized_text_at least most bytes.now }
@@ -67,7 +72,8 @@ fn sized_str_at(least: u8, most: u8, bytes: &[u8]) -> Option<(&str, &[u8])>
     Some((text, rest))
 }
 
-/// Reads `least` to `most` bytes behind their length in one byte.
+/// Reads `least` to `most` bytes behind their length in one byte. `None` if the length is another, or if fewer bytes
+/// are left.
 #[tactic(auto, unfolding(crate::specs::TextListFields::sized_at))]
 fn sized_at(least: u8, most: u8, bytes: &[u8]) -> Option<(&[u8], &[u8])>
     ensures { option_map (λ x. (x.0.now, x.1.now)) result ≡ sized_at least most bytes.now }

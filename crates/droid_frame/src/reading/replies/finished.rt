@@ -1,4 +1,4 @@
-//! The reader of a Finished.
+//! The reader of a Finished, the one reply with a list: its method, mismatch, hash and format identifiers (PUIDs).
 
 ghost use Rattle.std.specs.Prelude.{◌≡◌, ◌↔◌, IsTrue};
 ghost use Rattle.std.specs.Option.{option_map};
@@ -17,13 +17,18 @@ use std::alloc::Global;
 /// The fields of a Finished before the format identifiers.
 #[derive(Clone, Copy)]
 pub(crate) struct FinishedHead {
+    /// How the formats were found.
     pub(crate) method: Method,
+    /// Whether none of the formats lists the file's extension.
     pub(crate) mismatch: bool,
+    /// The hash of the file's bytes.
     pub(crate) hash: HashValue,
+    /// The number of identifiers that follow, at most [`PUIDS_LIMIT`].
     pub(crate) count: u16,
 }
 
-/// Reads the body of a Finished in this version. Checks the whole body before it allocates.
+/// Reads the body of a Finished in this version. Checks the whole body before it allocates: `Malformed` if it is not
+/// valid, `Memory` if memory runs out for the identifiers of a valid one.
 pub(crate) fn finished(alloc: Global, version: u8, body: &[u8]) -> Result<Reply, BodyFault>
     ensures { IsReplyAnswer 132 (finished_value version body.now) result }
 {
@@ -44,7 +49,8 @@ pub(crate) fn finished(alloc: Global, version: u8, body: &[u8]) -> Result<Reply,
     }
 }
 
-/// Returns whether the bytes are exactly this many identifiers.
+/// Returns whether the bytes are exactly this many identifiers, each of 1 to [`PUID_LIMIT`] bytes after its length,
+/// with none left over. Allocates nothing.
 fn are_puids(count: u16, bytes: &[u8]) -> bool
     ensures { IsTrue result ↔ ArePuids count bytes.now }
 {
@@ -54,7 +60,8 @@ fn are_puids(count: u16, bytes: &[u8]) -> bool
     }
 }
 
-/// Reads the fields of a Finished before its PUIDs.
+/// Reads the fields of a Finished before its PUIDs, and returns them and the bytes after them. `None` if the bytes are
+/// too few, or a field has no such value.
 #[tactic(auto, unfolding(crate::specs::ReplyValues::finished_head_at))]
 fn finished_head_at(version: u8, bytes: &[u8]) -> Option<(FinishedHead, &[u8])>
     ensures { option_map (λ x. (x.0, x.1.now)) result ≡ finished_head_at version bytes.now }
@@ -72,7 +79,8 @@ fn finished_head_at(version: u8, bytes: &[u8]) -> Option<(FinishedHead, &[u8])>
     Some((head, rest))
 }
 
-/// Reads the number of identifiers that follow.
+/// Reads the number of identifiers that follow, two bytes. `None` if it is above [`PUIDS_LIMIT`], or if fewer bytes are
+/// left.
 #[tactic(auto, unfolding(crate::specs::ReplyValues::count_at))]
 fn count_at(bytes: &[u8]) -> Option<(u16, &[u8])>
     ensures { option_map (λ x. (x.0, x.1.now)) result ≡ count_at bytes.now }

@@ -1,4 +1,7 @@
-//! Readers of replies.
+//! Readers of replies: `reply_of`, and a function for the body of each kind. These return `None` where the whole body
+//! does not spell a reply of the kind.
+//!
+//! The kinds are those of `Reply::kind`; the prover ties both to `reply_kind` of `specs/Replies.antt`.
 
 mod finished;
 mod refusals;
@@ -47,7 +50,8 @@ pub fn reply_of(alloc: Global, frame: Frame) -> Result<Reply, BodyFault>
     value_of(alloc, frame.version, frame.kind, frame.body)
 }
 
-/// Reads the reply that a version, a kind and a body spell. The version may be any number.
+/// Reads the reply that a version, a kind and a body spell. The version may be any number: `Malformed` if it is neither
+/// 1 nor 2.
 #[tactic(auto, unfolding(crate::specs::ReplyValues::reply_value))]
 fn value_of(alloc: Global, version: u8, kind: u8, body: Blob) -> Result<Reply, BodyFault>
     ensures answer { IsReplyAnswer kind (reply_value version kind body) result }
@@ -60,7 +64,8 @@ fn value_of(alloc: Global, version: u8, kind: u8, body: Blob) -> Result<Reply, B
     any_value(alloc, version, kind, body)
 }
 
-/// Reads the reply that a kind and a body spell in version 1 or 2. Callers check the version.
+/// Reads the reply that a kind and a body spell in version 1 or 2. Callers check the version. Only a Finished, kind
+/// 132, allocates.
 #[tactic(auto, unfolding(crate::specs::ReplyValues::any_value))]
 fn any_value(alloc: Global, version: u8, kind: u8, body: Blob) -> Result<Reply, BodyFault>
     ensures answer { IsReplyAnswer kind (any_value version kind body) result }
@@ -74,7 +79,8 @@ fn any_value(alloc: Global, version: u8, kind: u8, body: Blob) -> Result<Reply, 
     }
 }
 
-/// Reads a reply that has no list. Allocates nothing.
+/// Reads a reply that has no list: any but a Finished. `None` if the kind is another, or the body is not valid for it.
+/// Allocates nothing.
 #[tactic(auto, unfolding(crate::specs::ReplyValues::plain_value))]
 fn plain(kind: u8, body: Blob) -> Option<Reply>
     ensures { result ≡ plain_value kind body }
@@ -92,7 +98,7 @@ fn plain(kind: u8, body: Blob) -> Option<Reply>
     }
 }
 
-/// Reads the body of a Made.
+/// Reads the body of a Made: the profile's number, four bytes.
 #[tactic(auto, unfolding(crate::specs::ReplyValues::made_value))]
 fn made(body: &[u8]) -> Option<Reply>
     ensures { result ≡ made_value body.now }
@@ -101,7 +107,7 @@ fn made(body: &[u8]) -> Option<Reply>
     whole(rest, Reply::Made { profile })
 }
 
-/// Reads the body of a Node.
+/// Reads the body of a Node: the node's number, four bytes.
 #[tactic(auto, unfolding(crate::specs::ReplyValues::node_value))]
 fn node(body: &[u8]) -> Option<Reply>
     ensures { result ≡ node_value body.now }
@@ -110,7 +116,7 @@ fn node(body: &[u8]) -> Option<Reply>
     whole(rest, Reply::Node { id })
 }
 
-/// Reads the body of a Taken.
+/// Reads the body of a Taken: how many pieces of the file are held, four bytes.
 #[tactic(auto, unfolding(crate::specs::ReplyValues::taken_value))]
 fn taken(body: &[u8]) -> Option<Reply>
     ensures { result ≡ taken_value body.now }
@@ -127,7 +133,7 @@ fn abandoned(body: &[u8]) -> Option<Reply>
     whole(body, Reply::Abandoned)
 }
 
-/// Reads the body of a Progress.
+/// Reads the body of a Progress: how many pieces are held, and the first that is missing, four bytes each.
 #[tactic(auto, unfolding(crate::specs::ReplyValues::progress_value))]
 fn progress(body: &[u8]) -> Option<Reply>
     ensures { result ≡ progress_value body.now }
@@ -137,7 +143,8 @@ fn progress(body: &[u8]) -> Option<Reply>
     whole(rest, Reply::Progress { held, missing })
 }
 
-/// Reads the body of a Part, whose bytes it moves and does not copy.
+/// Reads the body of a Part: `as_of` and `total`, eight bytes each, and the export's bytes to the end, at most
+/// [`PART_LIMIT`]. It moves these bytes and does not copy them.
 #[tactic(auto, unfolding(crate::specs::ReplyValues::part_value))]
 fn part(body: Blob) -> Option<Reply>
     ensures { result ≡ part_value body }
@@ -155,7 +162,7 @@ fn part(body: Blob) -> Option<Reply>
     })
 }
 
-/// Reads the body of a Refused.
+/// Reads the body of a Refused: the refusal's number, and its field if it has one.
 #[tactic(auto, unfolding(crate::specs::ReplyValues::refused_value))]
 fn refused(body: &[u8]) -> Option<Reply>
     ensures { result ≡ refused_value body.now }
@@ -164,7 +171,7 @@ fn refused(body: &[u8]) -> Option<Reply>
     whole(rest, Reply::Refused(refusal))
 }
 
-/// Returns the reply if no bytes are left.
+/// Returns the reply if no bytes are left behind its last field, otherwise `None`.
 #[tactic(auto, unfolding(crate::specs::Reading::whole))]
 fn whole(rest: &[u8], reply: Reply) -> Option<Reply>
     ensures { result ≡ whole rest.now reply }

@@ -1,4 +1,7 @@
-//! Readers of refusals.
+//! Readers of refusals: a number of one byte, and behind 15, 16 and 17 one field. Each returns the refusal and the
+//! bytes after it, or `None` if the number is unknown or the field is malformed.
+//!
+//! The numbers are those of `Refusal::number`; the prover ties both to `refusal_number` of `specs/Refusals.antt`.
 
 ghost use Rattle.std.specs.Prelude.{◌≡◌};
 ghost use Rattle.std.specs.Option.{option_map};
@@ -8,7 +11,7 @@ ghost use Rattle.droid_frame.specs.ReplyRefusals.{limit_reached_at, refusal_afte
 use crate::reading::fields::u32_at;
 use crate::refusal::{Limit, Refusal};
 
-/// Reads a refusal: its number, and what belongs to it.
+/// Reads a refusal: its number, and the field behind it if it has one. `None` if no byte is left too.
 #[tactic(auto, unfolding(crate::specs::ReplyRefusals::refusal_at))]
 pub(crate) fn refusal_at(bytes: &[u8]) -> Option<(Refusal, &[u8])>
     ensures { option_map (λ x. (x.0, x.1.now)) result ≡ refusal_at bytes.now }
@@ -19,7 +22,7 @@ pub(crate) fn refusal_at(bytes: &[u8]) -> Option<(Refusal, &[u8])>
     }
 }
 
-/// Reads what stands behind this number of a refusal.
+/// Reads the field that belongs to this number of a refusal, from the front of `rest`, and returns the refusal.
 #[tactic(auto, unfolding(crate::specs::ReplyRefusals::refusal_after))]
 fn refusal_after(number: u8, rest: &[u8]) -> Option<(Refusal, &[u8])>
     ensures { option_map (λ x. (x.0, x.1.now)) result ≡ refusal_after number rest.now }
@@ -32,7 +35,7 @@ fn refusal_after(number: u8, rest: &[u8]) -> Option<(Refusal, &[u8])>
     }
 }
 
-/// Reads the piece that is awaited, of a TooFarAhead.
+/// Reads the field of a TooFarAhead: the index of the first missing piece, four bytes.
 #[tactic(auto, unfolding(crate::specs::ReplyRefusals::too_far_at))]
 fn too_far_at(bytes: &[u8]) -> Option<(Refusal, &[u8])>
     ensures { option_map (λ x. (x.0, x.1.now)) result ≡ too_far_at bytes.now }
@@ -41,7 +44,7 @@ fn too_far_at(bytes: &[u8]) -> Option<(Refusal, &[u8])>
     Some((Refusal::TooFarAhead { missing }, rest))
 }
 
-/// Reads the first missing piece, of an Incomplete.
+/// Reads the field of an Incomplete: the index of the first missing piece, four bytes.
 #[tactic(auto, unfolding(crate::specs::ReplyRefusals::incomplete_at))]
 fn incomplete_at(bytes: &[u8]) -> Option<(Refusal, &[u8])>
     ensures { option_map (λ x. (x.0, x.1.now)) result ≡ incomplete_at bytes.now }
@@ -50,7 +53,7 @@ fn incomplete_at(bytes: &[u8]) -> Option<(Refusal, &[u8])>
     Some((Refusal::Incomplete { missing }, rest))
 }
 
-/// Reads which limit was reached, of a LimitReached.
+/// Reads the field of a LimitReached: which limit was reached, one byte.
 #[tactic(auto, unfolding(crate::specs::ReplyRefusals::limit_reached_at))]
 fn limit_reached_at(bytes: &[u8]) -> Option<(Refusal, &[u8])>
     ensures { option_map (λ x. (x.0, x.1.now)) result ≡ limit_reached_at bytes.now }
@@ -59,7 +62,7 @@ fn limit_reached_at(bytes: &[u8]) -> Option<(Refusal, &[u8])>
     Some((Refusal::LimitReached(which), rest))
 }
 
-/// Returns the refusal of this number, if it has nothing behind its number.
+/// Returns the refusal of this number, which has no field, and all of `rest`. `None` if there is no such refusal.
 #[tactic(auto, unfolding(crate::specs::ReplyRefusals::plain_refusal_at))]
 fn plain_refusal_at(number: u8, rest: &[u8]) -> Option<(Refusal, &[u8])>
     ensures { option_map (λ x. (x.0, x.1.now)) result ≡ plain_refusal_at number rest.now }
@@ -68,7 +71,8 @@ fn plain_refusal_at(number: u8, rest: &[u8]) -> Option<(Refusal, &[u8])>
     Some((refusal, rest))
 }
 
-/// Reads the name of a limit, from its number.
+/// Reads a limit from its number in one byte, 1 to 3, as `Limit::number` has it. `None` for any other byte, and if none
+/// is left.
 #[tactic(auto, unfolding(crate::specs::ReplyRefusals::limit_at))]
 fn limit_at(bytes: &[u8]) -> Option<(Limit, &[u8])>
     ensures { option_map (λ x. (x.0, x.1.now)) result ≡ limit_at bytes.now }
@@ -81,7 +85,8 @@ fn limit_at(bytes: &[u8]) -> Option<(Limit, &[u8])>
     }
 }
 
-/// Returns the refusal of this number, if it has no further field.
+/// Returns the refusal of this number, if it has no field: `None` for 15, 16 and 17, for 0, and for any number above
+/// 19.
 #[tactic(auto, unfolding(crate::specs::ReplyRefusals::plain_refusal))]
 fn plain_refusal(number: u8) -> Option<Refusal>
     ensures { result ≡ plain_refusal number }

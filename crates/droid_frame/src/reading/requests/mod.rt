@@ -1,4 +1,6 @@
-//! Readers of requests.
+//! Readers of requests: `request_of`, and its reader of an Export, the one request with a list.
+//!
+//! The kinds are those of `Request::kind`; the prover ties both to `request_kind` of `specs/Bodies.antt`.
 
 mod node_head;
 mod plain_requests;
@@ -49,7 +51,8 @@ pub fn request_of(alloc: Global, frame: Frame) -> Result<Request, BodyFault>
     value_of(alloc, frame.version, frame.kind, frame.body)
 }
 
-/// Reads the request that a version, a kind and a body spell. The version may be any number. Only an Export allocates.
+/// Reads the request that a version, a kind and a body spell. The version may be any number: `Malformed` if it is
+/// neither 1 nor 2. Only an Export, kind 8, allocates.
 #[tactic(auto, unfolding(crate::specs::RequestValues::request_value))]
 fn value_of(alloc: Global, version: u8, kind: u8, body: Blob) -> Result<Request, BodyFault>
     ensures answer { IsAnswer result (request_value version kind body) }
@@ -64,7 +67,8 @@ fn value_of(alloc: Global, version: u8, kind: u8, body: Blob) -> Result<Request,
     any_value(alloc, version, kind, body)
 }
 
-/// Reads the request that a kind and a body spell in version 1 or 2. Callers check the version.
+/// Reads the request that a kind and a body spell in version 1 or 2. Callers check the version. `Malformed` if the kind
+/// is unknown, or the body is not valid for it.
 #[tactic(auto, unfolding(crate::specs::RequestValues::any_value))]
 fn any_value(alloc: Global, version: u8, kind: u8, body: Blob) -> Result<Request, BodyFault>
     ensures answer { IsAnswer result (any_value version kind body) }
@@ -80,7 +84,8 @@ fn any_value(alloc: Global, version: u8, kind: u8, body: Blob) -> Result<Request
     }
 }
 
-/// Reads the body of an Export.
+/// Reads the body of an Export: profile (four bytes), from (eight), max (four), and the filter to the end. `Malformed`
+/// if it is not valid, `Memory` if memory runs out for the filter of a valid one.
 #[tactic(auto, unfolding(crate::specs::RequestValues::export_value))]
 fn export(alloc: Global, body: &[u8]) -> Result<Request, BodyFault>
     ensures { IsAnswer result (export_value body.now) }

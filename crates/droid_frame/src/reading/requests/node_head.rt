@@ -18,10 +18,12 @@ pub(crate) struct NodeHead {
     pub(crate) modified: i64,
 }
 
-/// Reads profile, parent and modification time.
+/// Reads profile, parent (four bytes each) and modification time (eight), and returns them and the bytes after them.
+/// `None` if fewer bytes are left.
 #[tactic(auto, unfolding(crate::specs::NodeHeads::node_head_at))]
 pub(crate) fn node_head_at(bytes: &[u8]) -> Option<(NodeHead, &[u8])>
     ensures value { option_map (λ x. (x.0, x.1.now)) result ≡ node_head_at bytes.now }
+    // For callers that count how far they read: the rest is the end of `bytes`.
     ensures rest { IfSome result (λ x. IsEnd bytes.now x.1.now) }
 {
     let (profile, rest) = u32_at(bytes)?;

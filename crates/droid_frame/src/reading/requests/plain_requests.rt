@@ -1,4 +1,5 @@
-//! Readers of the requests that have no list: all but Export.
+//! Readers of the requests that have no list: all but Export. Each returns `None` where the whole body does not spell a
+//! request of the kind.
 
 ghost use Rattle.std.specs.Prelude.{◌≡◌, ◌≤◌, drop, length, vec_len};
 ghost use Rattle.droid_frame.specs.Reading.{text_at};
@@ -12,8 +13,8 @@ use crate::reading::fields::{bool_at, bytes_after, text_of, u32_at, u64_at};
 use crate::request::Request;
 use crate::text::Text;
 
-/// Reads a request that has no list, in version 1 or 2. A name and a piece's bytes stay in the body's own buffer.
-/// Allocates nothing.
+/// Reads a request that has no list, in version 1 or 2. `None` if the kind is 8 or unknown, or the body is not valid
+/// for it. A name and a piece's bytes stay in the body's own buffer. Allocates nothing.
 #[tactic(auto, unfolding(crate::specs::RequestValues::plain_value, crate::specs::RequestValues::finish_value, crate::specs::RequestValues::abandon_value, crate::specs::RequestValues::status_value))]
 pub(crate) fn plain_value(version: u8, kind: u8, body: Blob) -> Option<Request>
     ensures { result ≡ plain_value version kind body }
@@ -40,7 +41,8 @@ pub(crate) fn plain_value(version: u8, kind: u8, body: Blob) -> Option<Request>
     }
 }
 
-/// Reads the body of a CreateProfile.
+/// Reads the body of a CreateProfile: scan limit (four bytes), match_all (one), and in version 2 the hash's kind (one).
+/// Whether the scan limit is in its range, the service judges.
 #[tactic(auto, unfolding(crate::specs::RequestValues::create_profile_value, crate::specs::Reading::whole))]
 fn create_profile(version: u8, body: &[u8]) -> Option<Request>
     ensures { result ≡ create_profile_value version body.now }
@@ -58,7 +60,8 @@ fn create_profile(version: u8, body: &[u8]) -> Option<Request>
     })
 }
 
-/// Reads the body of an AddFolder, whose name it moves and does not copy.
+/// Reads the body of an AddFolder: profile, parent, modification time, and the name to the end, which it moves and does
+/// not copy. `None` if the name is not UTF-8; whether it is a good name, the service judges.
 #[tactic(auto, unfolding(crate::specs::RequestValues::add_folder_value))]
 fn add_folder(body: Blob) -> Option<Request>
     ensures { result ≡ add_folder_value body }
@@ -74,7 +77,8 @@ fn add_folder(body: Blob) -> Option<Request>
     })
 }
 
-/// Reads the body of an AddFile, whose name it moves and does not copy.
+/// Reads the body of an AddFile: as an AddFolder, with size (eight bytes) and piece size (four) before the name, which
+/// it moves and does not copy.
 #[tactic(auto, unfolding(crate::specs::RequestValues::add_file_value))]
 fn add_file(body: Blob) -> Option<Request>
     ensures { result ≡ add_file_value body }
@@ -94,7 +98,8 @@ fn add_file(body: Blob) -> Option<Request>
     })
 }
 
-/// Reads the body of a Piece, whose bytes it moves and does not copy.
+/// Reads the body of a Piece: profile, file and index, four bytes each, and the piece's bytes to the end, which it
+/// moves and does not copy.
 #[tactic(auto, unfolding(crate::specs::RequestValues::piece_value))]
 fn piece(body: Blob) -> Option<Request>
     ensures { result ≡ piece_value body }
@@ -112,7 +117,8 @@ fn piece(body: Blob) -> Option<Request>
     })
 }
 
-/// Reads the numbers of a profile and a file, if the body has nothing else.
+/// Reads the numbers of a profile and a file, four bytes each, if the body has nothing else: the body of a Finish, an
+/// Abandon or a Status.
 #[tactic(auto, unfolding(crate::specs::RequestValues::file_value, crate::specs::Reading::whole))]
 fn profile_and_file(body: &[u8]) -> Option<(u32, u32)>
     ensures { result ≡ file_value body.now }
@@ -125,7 +131,7 @@ fn profile_and_file(body: &[u8]) -> Option<(u32, u32)>
     Some((profile, file))
 }
 
-/// Reads the text from this index to the end, in the body's own buffer.
+/// Returns the text from this index to the end, in the body's own buffer, or `None` if it is not UTF-8.
 fn text_after(body: Blob, place: usize) -> Option<Text>
     requires { place ≤ length body }
     ensures { result ≡ text_at (drop place body) }

@@ -1,4 +1,5 @@
-//! The fronts of replies' bodies: the fields before a list or bytes of any length.
+//! The fronts of replies' bodies: the fields before a list or bytes of any length. `reply_body` and `write_reply` both
+//! begin a body with them.
 
 ghost use Rattle.std.specs.Prelude.{◌≡◌, ◌≤◌, ◌++◌, [], length};
 ghost use Rattle.droid_frame.specs.Hashes.{IsHashValue};
@@ -11,7 +12,8 @@ use crate::hash_value::HashValue;
 use crate::refusal::Refusal;
 use crate::reply::Reply;
 
-/// Makes the front of the reply's body in this version: the fields before its list or bytes.
+/// Makes the front of the reply's body in this version: the fields before its list or bytes. At most 37 bytes,
+/// [`SmallBytes`]' limit. Allocates nothing.
 pub(crate) fn front_of(version: u8, reply: &Reply) -> SmallBytes
     requires { HasReplySpelling version reply.now }
     ensures { result ≡ reply_front version reply.now }
@@ -46,7 +48,7 @@ pub(crate) fn front_of(version: u8, reply: &Reply) -> SmallBytes
     front
 }
 
-/// Appends the kind of the hash, if the version has a field for it, and then the digest.
+/// Appends the kind of a Finished's hash, if the version has a byte for it, and then the digest.
 fn add_hash(front: &mut SmallBytes, version: u8, hash: &HashValue)
     requires room { length front.old ≤ 2 }
     requires value { IsHashValue hash.now }
@@ -61,7 +63,8 @@ fn add_hash(front: &mut SmallBytes, version: u8, hash: &HashValue)
     }
 }
 
-/// Appends a refusal's number, and what belongs to it.
+/// Appends a refusal's number, and its field if it has one: the index of the first missing piece, or the number of the
+/// limit.
 fn add_refusal(front: &mut SmallBytes, refusal: Refusal)
     requires room { front.old ≡ [] }
     requires spelling { HasRefusalSpelling refusal }

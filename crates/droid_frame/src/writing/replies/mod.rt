@@ -1,4 +1,5 @@
-//! Writers of replies' bodies.
+//! Writers of replies' bodies in memory, and their lengths. `streams/reply_writer.rt` writes a reply to a stream
+//! without a body in memory.
 
 pub(crate) mod fronts;
 pub(crate) mod small_bytes;
@@ -50,7 +51,8 @@ pub fn reply_body_len(version: u8, reply: &Reply) -> usize
     front_of(version, reply).as_slice().len() + rest
 }
 
-/// Returns the number of bytes of the identifiers, each after its length.
+/// Returns the number of bytes of the identifiers, each after its length in one byte. 135,168 is the limit of 4,096
+/// identifiers, of 1 + 32 bytes each; the bound keeps sums from overflowing.
 fn puids_length(puids: &Texts) -> usize
     requires count { length puids.now ≤ puids_limit }
     requires each { AllByRecursion IsPuidText puids.now }

@@ -4,7 +4,8 @@ ghost use Rattle.std.specs.Prelude.{◌≡◌, ◌+◌, ◌≤◌, ◌++◌, [],
 
 use std::marker::Model;
 
-/// The limit on the bytes: the front of a Finished with a SHA-256 has this many.
+/// The limit on the bytes: the front of a Finished with a SHA-256 has this many (method 1, mismatch 1, kind 1, digest
+/// 32, count 2). It goes with the 37 of the clauses in this file; the prover refuses a smaller number.
 pub(crate) const SMALL_LIMIT: usize = 37;
 
 /// Up to [`SMALL_LIMIT`] bytes in a buffer of fixed size. In contracts it is the list of its bytes.
@@ -35,7 +36,7 @@ impl SmallBytes {
         }
     }
 
-    /// Appends bytes.
+    /// Appends bytes. They fit, as `requires` says: the callers count them.
     pub(crate) fn add(&mut self, bytes: &[u8])
         requires { length self.old + length bytes.now ≤ 37 }
         ensures { self.new ≡ self.old ++ bytes.now }

@@ -1,4 +1,5 @@
-//! Writers of filters.
+//! Writers of filters, as the body of an Export ends with one. After an error, which is out of memory, `out` may have
+//! some of the bytes; `body_of`, which made it, drops it.
 
 ghost use Rattle.std.specs.Prelude.{◌≡◌, ◌++◌, ◌∷◌, ◌<◌, ◌^◌, OnOk};
 ghost use Rattle.droid_frame.specs.Fields.{u64_bytes};
@@ -11,7 +12,7 @@ use crate::texts::Texts;
 use crate::writing::text_writer::append_texts;
 use std::alloc::AllocError;
 
-/// Appends the filter.
+/// Appends the filter: whether a record must meet all criteria, their count, and each criterion.
 pub(crate) fn append_filter(out: &mut Vec<u8>, filter: &Filter) -> Result<(), AllocError>
     requires { FilterFits filter.now }
     ensures added { OnOk result (out.new.items ≡ out.old.items ++ filter_bytes filter.now) }
@@ -26,7 +27,8 @@ pub(crate) fn append_filter(out: &mut Vec<u8>, filter: &Filter) -> Result<(), Al
     Ok(())
 }
 
-/// Appends a criterion behind its tag.
+/// Appends a criterion behind its tag, 1 to 7. `plain_at` and `tagged_at` in `reading/filters.rt` read the tags back;
+/// the prover ties both to `criterion_bytes`.
 fn append_criterion(out: &mut Vec<u8>, criterion: &Criterion) -> Result<(), AllocError>
     requires { CriterionFits criterion.now }
     ensures added { OnOk result (out.new.items ≡ out.old.items ++ criterion_bytes criterion.now) }
@@ -44,7 +46,8 @@ fn append_criterion(out: &mut Vec<u8>, criterion: &Criterion) -> Result<(), Allo
     Ok(())
 }
 
-/// Appends a criterion that is a list of texts.
+/// Appends a criterion that is a list of texts: its tag, 2 or 3, the number of texts in one byte, and each text after
+/// its length.
 fn append_list(out: &mut Vec<u8>, tag: u8, texts: &Texts) -> Result<(), AllocError>
     requires { ListFits texts.now }
     ensures added { OnOk result (out.new.items ≡ out.old.items ++ tag ∷ list_bytes texts.now) }
@@ -55,7 +58,7 @@ fn append_list(out: &mut Vec<u8>, tag: u8, texts: &Texts) -> Result<(), AllocErr
     append_texts(out, texts)
 }
 
-/// Appends a criterion on the size.
+/// Appends a criterion on the size: its tag, 5 or 6, and the number of bytes, eight bytes big-endian.
 fn append_size(out: &mut Vec<u8>, tag: u8, size: u64) -> Result<(), AllocError>
     ensures added { OnOk result (out.new.items ≡ out.old.items ++ tag ∷ u64_bytes size) }
     ensures spelled { size < 2 ^ 64 }

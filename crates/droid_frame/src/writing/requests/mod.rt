@@ -1,4 +1,7 @@
-//! Makers of requests' frames.
+//! Makers of requests' frames: `request_frame`, and an appender for each body and field.
+//!
+//! After an error, which is out of memory, `out` may have some of the bytes; `body_of`, which made it, drops it. A
+//! clause `spelled` says that the values have a spelling, as `SpellsRequest` of the frame asks.
 
 mod filter_writer;
 
@@ -20,7 +23,8 @@ use crate::request::Request;
 use crate::text::Text;
 use std::alloc::{AllocError, Global};
 
-/// Makes the frame of a request in this version. Fails only when out of memory.
+/// Makes the frame of a request in this version. Fails only when out of memory. Client and number may have any values:
+/// a service refuses a number of `NUMBER_LIMIT` or more.
 pub fn request_frame(
     alloc: Global,
     version: u8,
@@ -45,7 +49,7 @@ pub fn request_frame(
     })
 }
 
-/// Makes the body, in a buffer of exactly its length.
+/// Makes the body, in a buffer of exactly its length. Fails only when out of memory.
 fn body_of(alloc: Global, version: u8, request: &Request) -> Result<Blob, AllocError>
     requires { Fits version request.now }
     ensures { IfOk result (λ body. SpellsRequest version (request_kind request.now) body request.now) }
@@ -101,7 +105,7 @@ fn append_body(out: &mut Vec<u8>, version: u8, request: &Request) -> Result<(), 
     }
 }
 
-/// Appends the body of a CreateProfile.
+/// Appends the body of a CreateProfile: scan limit (four bytes), match_all (one), and the hash's kind.
 fn append_options(
     out: &mut Vec<u8>,
     version: u8,
@@ -120,7 +124,7 @@ fn append_options(
     Ok(())
 }
 
-/// Appends the kind of a hash, if the version has a field for it.
+/// Appends the kind of a hash in one byte, or nothing in version 1, which has no byte for it.
 fn append_hash(out: &mut Vec<u8>, version: u8, hash: HashKind) -> Result<(), AllocError>
     ensures { OnOk result (out.new.items ≡ out.old.items ++ hash_field version hash) }
 {
@@ -131,7 +135,7 @@ fn append_hash(out: &mut Vec<u8>, version: u8, hash: HashKind) -> Result<(), All
     Ok(())
 }
 
-/// Appends the body of an AddFolder.
+/// Appends the body of an AddFolder: profile, parent (four bytes each), modification time (eight), and the name.
 fn append_folder(
     out: &mut Vec<u8>,
     profile: u32,
@@ -149,7 +153,8 @@ fn append_folder(
     Ok(())
 }
 
-/// Appends the body of an AddFile.
+/// Appends the body of an AddFile: profile, parent (four bytes each), modification time, size (eight each), piece size
+/// (four), and the name.
 fn append_file(
     out: &mut Vec<u8>,
     profile: u32,
@@ -173,7 +178,7 @@ fn append_file(
     Ok(())
 }
 
-/// Appends the body of a Piece.
+/// Appends the body of a Piece: profile, file and index, four bytes each, and the piece's bytes.
 fn append_piece(
     out: &mut Vec<u8>,
     profile: u32,
@@ -191,7 +196,7 @@ fn append_piece(
     Ok(())
 }
 
-/// Appends the body of an Export.
+/// Appends the body of an Export: profile (four bytes), from (eight), max (four), and the filter.
 fn append_export(
     out: &mut Vec<u8>,
     profile: u32,
@@ -227,7 +232,7 @@ fn append_u64(out: &mut Vec<u8>, wide: u64) -> Result<(), AllocError>
     out.extend_from_slice(&wide.to_be_bytes())
 }
 
-/// Appends a signed number of eight bytes, in two's complement.
+/// Appends a signed number of eight bytes, in two's complement, big-endian.
 fn append_i64(out: &mut Vec<u8>, signed: &i64) -> Result<(), AllocError>
     ensures added { OnOk result (out.new.items ≡ out.old.items ++ i64_bytes signed.now) }
     ensures spelled { IsI64 signed.now }
@@ -236,7 +241,7 @@ fn append_i64(out: &mut Vec<u8>, signed: &i64) -> Result<(), AllocError>
     out.extend_from_slice(&signed.to_be_bytes())
 }
 
-/// Appends a name, without its length.
+/// Appends a name, without its length: it is the last field of its body.
 fn append_name(out: &mut Vec<u8>, name: &Text) -> Result<(), AllocError>
     ensures added { OnOk result (out.new.items ≡ out.old.items ++ name.now) }
     ensures utf8 { IsUtf8 name.now }
@@ -245,7 +250,7 @@ fn append_name(out: &mut Vec<u8>, name: &Text) -> Result<(), AllocError>
     out.extend_from_slice(name.as_bytes())
 }
 
-/// Appends the bytes of a blob, without their length.
+/// Appends the bytes of a piece, without their length: they are the last field of its body.
 fn append_bytes(out: &mut Vec<u8>, bytes: &Blob) -> Result<(), AllocError>
     ensures added { OnOk result (out.new.items ≡ out.old.items ++ bytes.now) }
     ensures are_bytes { IsBytes bytes.now }
@@ -253,7 +258,7 @@ fn append_bytes(out: &mut Vec<u8>, bytes: &Blob) -> Result<(), AllocError>
     out.extend_from_slice(bytes.as_slice())
 }
 
-/// Appends two big-endian numbers of four bytes each.
+/// Appends two big-endian numbers of four bytes each: a profile, and the parent or the file.
 fn append_pair(out: &mut Vec<u8>, first: u32, second: u32) -> Result<(), AllocError>
     ensures { OnOk result (out.new.items ≡ out.old.items ++ (u32_bytes first ++ u32_bytes second)) }
 {

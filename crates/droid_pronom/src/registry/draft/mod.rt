@@ -1,4 +1,7 @@
-//! A registry that is being read. `fields_of`, of the kit's `csv`, is the list of a record's texts.
+//! A registry that is being read: judges each record of its file, and adds it. `fields_of`, of the kit's `csv`, is the
+//! list of a record's texts.
+//!
+//! After an error nothing is promised of the draft: `Registry::parse`, which alone calls `take`, drops it.
 
 ghost use Rattle.std.specs.Prelude.{◌≡◌, ◌<◌, ◌^◌, length, IfOk};
 ghost use Rattle.csv.specs.Records.{fields_of};
@@ -17,9 +20,11 @@ use crate::registry::row_text::RowText;
 use csv::{ByteRecord, StringRecord};
 use std::alloc::Global;
 
-/// The most records of each of three kinds: E, P and S.
+/// The most records of each of three kinds: E, P and S. `specs/RegistryRecords.antt` has the same number for each, and
+/// the prover ties them.
 const ROWS_LIMIT: usize = 16_384;
-/// The number of fields of each record.
+/// The number of fields of each record: as many texts has `RowText`. `Step` of `specs/RegistryRecords.antt` has the
+/// same number, and the prover ties them.
 const FIELDS: usize = 6;
 
 /// The registry that the records so far make, and what is needed to judge the next record.
@@ -44,7 +49,8 @@ impl Draft {
         }
     }
 
-    /// Returns the number of records so far. Each is a row of one of the tables, or a byte sequence.
+    /// Returns the number of records so far, for the number of the next one. Each is a row of one of the tables, or a
+    /// byte sequence; a signature came with its first one.
     pub(crate) fn records(&self) -> u64
         ensures count { result ≡ taken_count (draft_of self.now) }
         ensures small { result < 2 ^ 63 }
@@ -56,7 +62,8 @@ impl Draft {
             + sequences
     }
 
-    /// Adds the next record, or returns what is wrong with it.
+    /// Adds the next record, or returns what is wrong with it: `BadRecord` if it does not have six fields, then
+    /// `NotUtf8`, then what `judge` finds.
     pub(crate) fn take(&mut self, alloc: Global, row: ByteRecord) -> Result<(), Refusal>
         ensures { HasOutcome result (draft_of self.new) (Step (draft_of self.old) (fields_of row)) }
     {
@@ -69,7 +76,8 @@ impl Draft {
         self.judge(alloc, RowText::of(&row))
     }
 
-    /// Adds a record of six texts, or returns what is wrong with it.
+    /// Adds a record of six texts by its kind, or returns what is wrong with it: `BadRecord` if its first text names no
+    /// kind.
     fn judge(&mut self, alloc: Global, row: RowText) -> Result<(), Refusal>
         ensures { HasOutcome result (draft_of self.new)
             (Judged (draft_of self.old) (field.kind_of row.entry.kind.now) row.entry.puid.now row.entry.second.now
@@ -101,7 +109,7 @@ impl Draft {
         }
     }
 
-    /// Returns the place of an earlier format by its PUID.
+    /// Returns the place of the format with this PUID in an earlier record, or `UnknownPuid` if there is none.
     pub(crate) fn known(&self, puid: &str) -> Result<u32, Refusal>
         ensures gives { Gives (λ place. place) result (known puid.now (draft_of self.now)) }
         ensures below { IfOk result (λ place. place < length self.now.registry.formats) }

@@ -1,4 +1,7 @@
 //! S and B records: a new signature, and one more byte sequence of the signature before it.
+//!
+//! Each is judged in two parts, since its pattern is read in between: the fields before the pattern, then what it adds.
+//! `specs/RegistryRecords.antt` writes both parts, with the order of the faults, under the same names.
 
 ghost use Rattle.std.specs.Prelude.{◌≡◌, ◌<◌, ◌&&◌, nat_lt, Some, length, IfOk};
 ghost use Rattle.droid_pronom.specs.Registry.{place_of};
@@ -13,11 +16,13 @@ use crate::registry::row_text::pattern_of;
 use crate::rows::{ByteSequence, Offsets, Signature};
 use std::alloc::Global;
 
-/// The most byte sequences that a registry may have.
+/// The most byte sequences that a registry may have. `specs/RegistryRecords.antt` has the same number, and the prover
+/// ties them.
 const SEQUENCES_LIMIT: u32 = 32_768;
 
 impl Draft {
-    /// Reads the fields of an S record before its pattern: the place of the format and the offsets.
+    /// Reads the fields of an S record before its pattern. Returns the place of the format and the offsets; `BadRecord`
+    /// if a field is not of its form, and otherwise `UnknownPuid` if no earlier record has the format.
     #[tactic(auto, unfolding(crate::specs::RegistryRecords::signature_head))]
     fn signature_head(
         &self,
@@ -38,7 +43,8 @@ impl Draft {
         Ok((place, offsets))
     }
 
-    /// Adds an S record, or returns what is wrong with it.
+    /// Adds an S record, or returns what is wrong with it: with its first fields, then with its pattern, then
+    /// `TooMany`.
     #[tactic(auto, unfolding(crate::specs::RegistryRecords::signature_added))]
     pub(crate) fn take_signature(
         &mut self,
@@ -58,14 +64,15 @@ impl Draft {
         self.add_signature(alloc, place, ByteSequence { offsets, pattern })
     }
 
-    /// Returns whether the limits allow one more signature with a byte sequence.
+    /// Returns whether the limits allow one more signature, and one more byte sequence, which it comes with.
     fn has_room(&self) -> bool
         ensures { result ≡ (nat_lt (length self.now.registry.signatures) 16384 && nat_lt self.now.sequences 32768) }
     {
         self.registry.signatures().len() < ROWS_LIMIT && self.sequences < SEQUENCES_LIMIT
     }
 
-    /// Adds a signature with its first byte sequence, within the limits.
+    /// Adds a signature of the format at `place` with its first byte sequence, or returns `TooMany`. B records may then
+    /// add to it.
     #[tactic(auto, unfolding(crate::specs::RegistryRecords::signature_added))]
     fn add_signature(
         &mut self,
@@ -85,7 +92,7 @@ impl Draft {
         Ok(())
     }
 
-    /// Returns whether the record just before is an S or a B with this PUID.
+    /// Returns whether the record just before is an S or a B with this PUID, so that a B record may stand here.
     fn goes_on(&self, puid: &str) -> bool
         ensures { result ≡ is_same_place self.now.current (place_of puid.now self.now.registry.formats) }
     {
@@ -95,7 +102,8 @@ impl Draft {
         }
     }
 
-    /// Reads the fields of a B record before its pattern: the offsets.
+    /// Reads the fields of a B record before its pattern. Returns the offsets; `BadRecord` if a field is not of its
+    /// form, or if the record may not stand here.
     #[tactic(auto, unfolding(crate::specs::RegistryRecords::sequence_head))]
     fn sequence_head(
         &self,
@@ -114,7 +122,7 @@ impl Draft {
         Ok(offsets)
     }
 
-    /// Adds a B record, or returns what is wrong with it.
+    /// Adds a B record, or returns what is wrong with it: with its first fields, then with its pattern, then `TooMany`.
     #[tactic(auto, unfolding(crate::specs::RegistryRecords::sequence_added))]
     pub(crate) fn take_sequence(
         &mut self,
@@ -134,7 +142,7 @@ impl Draft {
         self.add_sequence(ByteSequence { offsets, pattern })
     }
 
-    /// Adds a byte sequence to the last signature, within the limit.
+    /// Adds a byte sequence to the last signature, or returns `TooMany`.
     #[tactic(auto, unfolding(crate::specs::RegistryRecords::sequence_added))]
     fn add_sequence(&mut self, sequence: ByteSequence) -> Result<(), Refusal>
         ensures { Gives (λ _. draft_of self.new) result

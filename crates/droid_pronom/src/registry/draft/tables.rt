@@ -1,4 +1,4 @@
-//! F, E and P records: a format, an extension and a priority.
+//! F, E and P records: a format, an extension and a priority. `specs/RegistryRecords.antt` has the order of the faults.
 
 ghost use Rattle.droid_pronom.specs.RegistryCalls.{draft_of, Gives};
 ghost use Rattle.droid_pronom.specs.RegistryRecords.{format_taken, extension_taken, priority_taken};
@@ -14,7 +14,7 @@ use droid_frame::Text;
 use std::alloc::Global;
 
 impl Draft {
-    /// Adds an F record, or returns what is wrong with it.
+    /// Adds an F record, or returns what is wrong with it: the first of `BadRecord`, `DuplicatePuid` and `TooMany`.
     #[tactic(auto, unfolding(crate::specs::RegistryRecords::format_taken))]
     pub(crate) fn take_format(
         &mut self,
@@ -45,7 +45,8 @@ impl Draft {
         Ok(())
     }
 
-    /// Adds an E record, or returns what is wrong with it.
+    /// Adds an E record, with its extension in lower case, or returns what is wrong with it: the first of `BadRecord`,
+    /// `UnknownPuid` and `TooMany`.
     #[tactic(auto, unfolding(crate::specs::RegistryRecords::extension_taken))]
     pub(crate) fn take_extension(
         &mut self,
@@ -75,7 +76,8 @@ impl Draft {
         Ok(())
     }
 
-    /// Adds a P record, or returns what is wrong with it.
+    /// Adds a P record, or returns what is wrong with it: the first of `BadRecord`, `UnknownPuid` (for either PUID) and
+    /// `TooMany`.
     #[tactic(auto, unfolding(crate::specs::RegistryRecords::priority_taken))]
     pub(crate) fn take_priority(
         &mut self,

@@ -2,7 +2,7 @@ use Rattle.std.proofs.Common.{refl, arith}
 use Rattle.droid_store.specs.Encoded.{number, state_number}
 use Rattle.droid_store.proofs.FaultsOfReading.{state_is_short}
 use Rattle.droid_store.proofs.ReportedFaults.{unread, IsShort}
-use Rattle.droid_store.proofs.row_reader.state_in.Goals as goal
+use Rattle.droid_store.proofs.row_reader.state_column.Goals as goal
 
 pub returns-in_err-number-clause-memory : goal.returns-in_err-number-clause-memory
 returns-in_err-number-clause-memory c n is =

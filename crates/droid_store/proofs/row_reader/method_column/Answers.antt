@@ -3,7 +3,7 @@ use Rattle.droid_frame.specs.Fields.{method_number}
 use Rattle.droid_store.specs.Encoded.{number}
 use Rattle.droid_store.proofs.FaultsOfReading.{method_is_short}
 use Rattle.droid_store.proofs.ReportedFaults.{unread, IsShort}
-use Rattle.droid_store.proofs.row_reader.method_in.Goals as goal
+use Rattle.droid_store.proofs.row_reader.method_column.Goals as goal
 
 pub returns-in_err-number-clause-memory : goal.returns-in_err-number-clause-memory
 returns-in_err-number-clause-memory c n is =

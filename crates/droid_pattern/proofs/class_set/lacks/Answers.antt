@@ -1,7 +1,7 @@
 -- A byte that isn't found isn't there.
 use Rattle.memchr.specs.Find.{is_byte}
 use Rattle.droid_pattern.proofs.HeadLemmas.{not_found}
-use Rattle.droid_pattern.proofs.direction.Direction.lacks.Goals as goal
+use Rattle.droid_pattern.proofs.class_set.lacks.Goals as goal
 
 pub returns-in-Byte : goal.returns-in-Byte
 returns-in-Byte c = rw c.in-Byte.is (λ none i small inside passes.
