@@ -24,6 +24,22 @@ CHANGED = b"it changed while it was read"
 TWICE = b"same name: its folder lists the name twice"
 
 
+def exchanged(link=LINK):
+    """Returns why a file is skipped in whose place something else is put, by what that is and before which look. A command
+    looks at each file when it lists the folder, and before it opens the file. Then it opens the file, which has the number
+    0 here. What is put there before the listing is taken as it is: of a link there the reason is `link`."""
+    return {
+        ("file", 1): None,
+        ("file", 2): CHANGED,
+        ("file", 0): CHANGED,
+        ("pipe", 1): KIND,
+        ("pipe", 2): UNREAD,
+        ("link", 1): link,
+        ("link", 2): UNREAD,
+        ("link", 0): CHANGED,
+    }
+
+
 def registry_of(path):
     """Returns how a registry is named: its path, or the built-in one, and the MD5 of its bytes."""
     with open(path or EVERYDAY, "rb") as file:

@@ -5,25 +5,13 @@ import unittest
 
 from lib.program import Serve
 from lib.submissions import records, submit
-from lib.trees import CHANGED, KIND, LINK, SKIPPED, TWICE, UNREAD, InChangingFolder, lines, profile, status_of, walk
+from lib.trees import CHANGED, KIND, SKIPPED, TWICE, InChangingFolder, exchanged, lines, profile, status_of, walk
 
-# `profile` looks at each file when it lists the folder, and before it opens the file. Then it opens the file, which has
-# the number 0 here. What is put there before the listing is taken as it is.
-DUE_OF_PROFILE = {
-    ("file", 1): None,
-    ("file", 2): CHANGED,
-    ("file", 0): CHANGED,
-    ("pipe", 1): KIND,
-    ("pipe", 2): UNREAD,
-    ("link", 1): LINK,
-    ("link", 2): UNREAD,
-    ("link", 0): CHANGED,
-}
 # `submit` lists each folder once before that, to count.
 DUE_OF_SUBMIT = {("file", 1): None, ("pipe", 1): KIND} | {
-    (kind, look + 1 if look else 0): reason for (kind, look), reason in DUE_OF_PROFILE.items()
+    (kind, look + 1 if look else 0): reason for (kind, look), reason in exchanged().items()
 }
-DUE = {"profile": DUE_OF_PROFILE, "submit": DUE_OF_SUBMIT}
+DUE = {"profile": exchanged(), "submit": DUE_OF_SUBMIT}
 
 
 class Exchanged(InChangingFolder):

@@ -10,7 +10,7 @@ import time
 import unittest
 
 from asking import identify, json_lines
-from lib.trees import CHANGED, KIND, UNREAD, InChangingFolder, InFolder
+from lib.trees import CHANGED, KIND, UNREAD, InChangingFolder, InFolder, exchanged
 
 LINK = b"it is a symbolic link, which is not followed"
 MISSING = b"there is no such file, or it can't be looked at"
@@ -18,17 +18,6 @@ MISSING = b"there is no such file, or it can't be looked at"
 SHORT, LONG = b"GIF87a" + b"." * 100, b"GIF87a" + b"." * 200_000
 # when a file changes, and how; a short one has no read but that of its end
 HOW = ("write", "rename", "touch")
-# what `identify` looks at twice, as it lists the folder and before it opens the file, which has the number 0 here
-DUE = {
-    ("file", 1): None,
-    ("file", 2): CHANGED,
-    ("file", 0): CHANGED,
-    ("pipe", 1): KIND,
-    ("pipe", 2): UNREAD,
-    ("link", 1): LINK,
-    ("link", 2): UNREAD,
-    ("link", 0): CHANGED,
-}
 
 
 def paths_of(out):
@@ -105,7 +94,7 @@ class Exchanged(InChangingFolder):
     def test_exchanged(self):
         """Another file, a pipe or a link takes the file's place: it is not taken for the one that was listed, and no pipe is opened."""
         folder = self.top + b"/in/"
-        for (kind, look), reason in DUE.items():
+        for (kind, look), reason in exchanged(LINK).items():
             with self.subTest(kind=kind, look=look):
                 self.make(kind)
                 out, err, status = identify("--json", "-r", self.top, env=preloading("PRELOAD_CHANGES", **self.exchanging(look)), timeout=60)
