@@ -16,7 +16,7 @@ def body_of(lines, at):
         if lines[line] == indent + "{" or not has_clauses and lines[line].endswith("{"):
             ends = (it for it in range(line + 1, len(lines)) if lines[it] == indent + "}")
             return range(line + 1, next(ends, line + 1))
-        if lines[line].endswith(";") or lines[line] == indent + "}" or not has_clauses and lines[line].endswith("}"):
+        if lines[line].endswith(";") or lines[line] in (indent + "}", indent + "{}") or not has_clauses and lines[line].endswith("}"):
             break
     return range(0)
 
@@ -46,7 +46,8 @@ def functions_in(text):
         begin, body = at, body_of(lines, at)
         while begin and re.match(r" *(///|//|#\[)", lines[begin - 1]):
             begin -= 1
-        end = body.stop if body else next((it for it in range(at, len(lines)) if lines[it].endswith((";", "}"))), at)
+        # (without lines of a body it ends with `{}`, or with a `;` where it has none)
+        end = body.stop if body else next((it for it in range(at, len(lines)) if lines[it].endswith((";", "{}"))), at)
         yield (block_of(lines, at), HEADER.match(lines[at])[2]), range(begin, end + 1)
 
 

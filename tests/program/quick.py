@@ -10,9 +10,56 @@ import time
 import unittest
 
 sys.path.insert(0, os.path.join(os.path.dirname(os.path.dirname(os.path.abspath(__file__)))))
-from lib.toolkit import SOURCE, Repository, read, write
+from lib.toolkit import SOURCE, TOP, Repository, read, write
 
 PROVED = "are proved, in"
+
+
+FUNCTIONS = """\
+//! A file.
+
+/// A law.
+pub fn law()
+    ensures { a ≡
+        b }
+{}
+
+impl Shape for Square {
+    /// An area.
+    #[inline]
+    fn area(&self) -> u8 {
+        // one
+        1
+    }
+
+    fn name(&self) -> &str;
+
+    fn none() {}
+}
+
+/// A sum.
+fn sum(
+    a: u8,
+) -> u8
+    requires { a ≤ 8 }
+{
+    a
+}
+"""
+
+
+class Functions(unittest.TestCase):
+    def test_lines(self):
+        sys.path.insert(0, os.path.join(TOP, "tools"))
+        from functions import functions_in
+
+        lines = FUNCTIONS.split("\n")
+        found = [(*of, lines[its.start].strip(), lines[its.stop - 1].strip()) for of, its in functions_in(FUNCTIONS)]
+        square = "impl Shape for Square"
+        self.assertEqual(found, [
+            ("", "law", "/// A law.", "{}"), (square, "area", "/// An area.", "}"), (square, "name", "fn name(&self) -> &str;", "fn name(&self) -> &str;"),
+            (square, "none", "fn none() {}", "fn none() {}"), ("", "sum", "/// A sum.", "}"),
+        ])
 
 
 class Quick(Repository):
