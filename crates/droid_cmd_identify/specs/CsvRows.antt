@@ -16,6 +16,7 @@ columns =
     codes "PATH" ∷ codes "SIZE" ∷ codes "METHOD" ∷ codes "MISMATCH" ∷ codes "PUID" ∷ codes "MIME_TYPE"
     ∷ codes "FORMAT_NAME" ∷ codes "FORMAT_VERSION" ∷ codes "BASIS" ∷ codes "HASH" ∷ []
 
+-- the first line
 abbrev pub header : List ℕ
 header = line columns
 
@@ -25,13 +26,16 @@ method_text methods.Signature = codes "Signature"
 method_text methods.Extension = codes "Extension"
 method_text methods.Unidentified = []
 
+-- `true` or `false`
 abbrev pub bool_text : Bool → List ℕ
 bool_text value = if value then codes "true" else codes "false"
 
+-- the digits of a hash, or nothing
 abbrev pub digits_of : Option ShownHash → List ℕ
 digits_of None = []
 digits_of (Some hash) = hash.digits.now
 
+-- `text, ASCII`, or nothing of what is no plain text
 abbrev pub kind_basis : Option TextKind → List ℕ
 kind_basis None = []
 kind_basis (Some kind) = codes "text, " ++ kind_name kind
@@ -57,5 +61,6 @@ abbrev pub rows_of : ShownFile → List ShownFormat → List ℕ
 rows_of file [] = line (row_of_none file)
 rows_of file (its ∷ more) = flat_map (λ form. line (row_of_format file form)) (its ∷ more)
 
+-- all rows of a file
 abbrev pub csv_rows : ShownFile → List ℕ
 csv_rows file = rows_of file file.formats.now

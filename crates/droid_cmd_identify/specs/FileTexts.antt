@@ -9,6 +9,7 @@ use Rattle.droid_cmd_identify.specs.Siegfried.{sf_file, sf_head, sf_unread}
 use Rattle.droid_cmd_identify.specs.declared.forms.sf_document.SfHead.{SfHead}
 use Rattle.droid_cmd_identify.specs.declared.forms.shown_file.ShownFile.{ShownFile}
 
+-- of a file that was identified; whether it is the first one counts in the document that is shaped as Siegfried's
 abbrev pub file_text : IdentifyForm → Bool → ShownFile → List ℕ
 file_text forms.Lines first file = file_lines file
 file_text forms.Puids first file = puid_lines file.formats.now

@@ -22,15 +22,18 @@ use Rattle.droid_cmd_identify.specs.declared.forms.shown_format.ShownFormat.{Sho
 abbrev pub needs_escape : ℕ → Bool
 needs_escape c = (c == 34) || (c == 92) || nat_lt c 32
 
+-- a character between the quotation marks: `\u00` and two digits below a space, else a backslash where it needs one
 unfoldable pub json_char : ℕ → List ℕ
 json_char c =
     if needs_escape c then (if nat_lt c 32 then codes "\\u00"
     ++ (digits 16 false (c / 16) ++ digits 16 false (c % 16)) else 92 ∷ encode_utf8 c)
     else encode_utf8 c
 
+-- a text between the quotation marks
 unfoldable pub json_inside : List ℕ → List ℕ
 json_inside text = if list_any needs_escape (chars text) then flat_map json_char (chars text) else text
 
+-- a text as a string
 abbrev pub json_text : List ℕ → List ℕ
 json_text text = 34 ∷ (json_inside text ++ 34 ∷ [])
 
@@ -39,22 +42,27 @@ json_bool value = if value then codes "true" else codes "false"
 
 -- ---- the basis
 
+-- from which end of the file an offset is counted
 abbrev pub end_name : Anchor → List ℕ
 end_name Bof = codes "start"
 end_name Eof = codes "end"
 
+-- a match as an object
 abbrev pub json_match : Match → List ℕ
 json_match its =
     codes "{\"from\":\"" ++ (end_name its.anchor ++ (codes "\",\"offset\":"
     ++ (decimal its.offset ++ (codes ",\"length\":" ++ (decimal its.count ++ codes "}")))))
 
+-- a match behind the first
 abbrev pub json_more : Match → List ℕ
 json_more its = codes "," ++ json_match its
 
+-- matches, separated by commas
 abbrev pub json_matches : List Match → List ℕ
 json_matches [] = []
 json_matches (its ∷ more) = json_match its ++ flat_map json_more more
 
+-- why a file has a format, as an object
 abbrev pub json_reason : Reason → List ℕ
 json_reason (Signature number matches) = codes "{\"signature\":"
     ++ (decimal number ++ (codes ",\"matches\":[" ++ (json_matches matches.now ++ codes "]}")))
@@ -62,6 +70,7 @@ json_reason (Extension extension) = codes "{\"extension\":" ++ (json_text extens
 
 -- ---- the formats
 
+-- a format as an object
 unfoldable pub json_format : ShownFormat → List ℕ
 json_format its =
     codes "{\"puid\":" ++ (json_text its.format.now.puid ++ (codes ",\"name\":"
@@ -69,18 +78,22 @@ json_format its =
     ++ (codes ",\"mime\":" ++ (json_text its.format.now.mime
     ++ (codes ",\"basis\":" ++ (json_reason its.reason ++ codes "}")))))))))
 
+-- a format behind the first
 abbrev pub json_more_formats : ShownFormat → List ℕ
 json_more_formats its = codes "," ++ json_format its
 
+-- formats, separated by commas
 abbrev pub json_formats : List ShownFormat → List ℕ
 json_formats [] = []
 json_formats (its ∷ more) = json_format its ++ flat_map json_more_formats more
 
+-- how formats were found: a string, or null
 abbrev pub json_method : Method → List ℕ
 json_method methods.Signature = codes "\"signature\""
 json_method methods.Extension = codes "\"extension\""
 json_method methods.Unidentified = codes "null"
 
+-- the kind of a plain text: a string, or null
 abbrev pub json_kind : Option TextKind → List ℕ
 json_kind None = codes "null"
 json_kind (Some kind) = 34 ∷ (kind_name kind ++ 34 ∷ [])

@@ -10,4 +10,5 @@ pub mod Reasons
 pub mod ShownFormats
 pub mod Siegfried
 pub mod StreamEnds
+pub mod Telling
 pub mod WhyLines

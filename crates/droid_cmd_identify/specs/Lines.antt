@@ -30,10 +30,12 @@ at_end offset count =
     if offset == 0 then codes "the last " ++ decimal count else decimal count
     ++ (codes " before the last " ++ decimal offset)
 
+-- the bytes of a match, by the end from which its offset is counted
 abbrev pub at_anchor : Anchor → (offset count : ℕ) → List ℕ
 at_anchor Bof offset count = at_begin offset count
 at_anchor Eof offset count = at_end offset count
 
+-- the bytes of a match
 abbrev pub match_text : Match → List ℕ
 match_text its = at_anchor its.anchor its.offset its.count
 
@@ -41,22 +43,27 @@ match_text its = at_anchor its.anchor its.offset its.count
 abbrev pub more_text : Match → List ℕ
 more_text its = codes "; " ++ match_text its
 
+-- matches, separated by semicolons
 abbrev pub matches_text : List Match → List ℕ
 matches_text [] = []
 matches_text (its ∷ more) = match_text its ++ flat_map more_text more
 
+-- why a file has a format: the bytes of the matches, or the extension
 abbrev pub basis_text : Reason → List ℕ
 basis_text (Signature number matches) = matches_text matches.now
 basis_text (Extension extension) = codes "extension " ++ shown_text extension.now
 
 -- ---- the lines
 
+-- a text behind a space; nothing of an empty one
 abbrev pub after_space : List ℕ → List ℕ
 after_space text = if length text == 0 then [] else codes " " ++ shown_text text
 
+-- a text in parentheses behind a space; nothing of an empty one
 abbrev pub in_parentheses : List ℕ → List ℕ
 in_parentheses text = if length text == 0 then [] else codes " (" ++ (shown_text text ++ codes ")")
 
+-- the end of the line where the extension contradicts the formats
 abbrev pub warning : Bool → List ℕ
 warning mismatch = if mismatch then codes ", warning: the format has other extensions" else []
 
@@ -68,16 +75,19 @@ format_line path its =
     ++ (in_parentheses its.format.now.mime ++ (codes ", " ++ (basis_text its.reason
     ++ (warning its.mismatch ++ 10 ∷ [])))))))))
 
+-- the name of a kind of text
 unfoldable pub kind_name : TextKind → List ℕ
 kind_name Ascii = codes "ASCII"
 kind_name Utf8 = codes "UTF-8"
 kind_name Utf16Little = codes "UTF-16"
 kind_name Utf16Big = codes "UTF-16"
 
+-- `, text, ASCII`; nothing of what is no plain text
 abbrev pub kind_text : Option TextKind → List ℕ
 kind_text None = []
 kind_text (Some kind) = codes ", text, " ++ kind_name kind
 
+-- `PATH: unidentified`, and the kind of a text
 abbrev pub unidentified_line : List ℕ → Option TextKind → List ℕ
 unidentified_line path text = shown_text path ++ (codes ": unidentified" ++ (kind_text text ++ 10 ∷ []))
 
@@ -86,6 +96,7 @@ abbrev pub format_lines : List ℕ → Option TextKind → List ShownFormat → 
 format_lines path text [] = unidentified_line path text
 format_lines path text (its ∷ more) = format_line path its ++ flat_map (format_line path) more
 
+-- the name of a hash
 abbrev pub hash_name : HashKind → List ℕ
 hash_name hashes.Nothing = codes "none"
 hash_name hashes.Md5 = codes "md5"
@@ -103,8 +114,10 @@ file_lines file = hash_line file.path.now file.hash ++ format_lines file.path.no
 
 -- ---- the PUIDs alone
 
+-- the PUID on a line of its own
 abbrev pub puid_line : ShownFormat → List ℕ
 puid_line its = its.format.now.puid ++ 10 ∷ []
 
+-- a line for each format; nothing of a file without formats
 abbrev pub puid_lines : List ShownFormat → List ℕ
 puid_lines formats = flat_map puid_line formats

@@ -54,6 +54,7 @@ AreShownByExtension formats extension mismatch (puid ∷ puids) (its ∷ shown) 
 AreShownByExtension formats extension mismatch [] (its ∷ shown) = ⊥
 AreShownByExtension formats extension mismatch (puid ∷ puids) [] = ⊥
 
+-- the formats of a file, each once and in order, by this method
 abbrev pub AreShownBy : Method → List Format → List ℕ → Identity → List ShownFormat → Type 0
 AreShownBy methods.Signature formats extension identity shown =
     AreShownBySignature formats identity.found.mismatch identity.found.puids identity.bases.items shown

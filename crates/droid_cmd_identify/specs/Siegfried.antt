@@ -37,6 +37,7 @@ abbrev pub start_at : Anchor → (size offset count : ℕ) → ℕ
 start_at Bof size offset count = offset
 start_at Eof size offset count = size - (offset + count)
 
+-- the same of a match in a file of this size
 abbrev pub sf_start : ℕ → Match → ℕ
 sf_start size its = start_at its.anchor size its.offset its.count
 
@@ -44,9 +45,11 @@ sf_start size its = start_at its.anchor size its.offset its.count
 abbrev pub sf_pair : ℕ → Match → List ℕ
 sf_pair size its = codes "[" ++ (decimal (sf_start size its) ++ (codes " " ++ (decimal its.count ++ codes "]")))
 
+-- a pair behind the first
 abbrev pub sf_more_pair : ℕ → Match → List ℕ
 sf_more_pair size its = codes " " ++ sf_pair size its
 
+-- pairs, separated by spaces
 abbrev pub sf_pairs : ℕ → List Match → List ℕ
 sf_pairs size [] = []
 sf_pairs size (its ∷ more) = sf_pair size its ++ flat_map (sf_more_pair size) more
@@ -57,16 +60,19 @@ sf_spans size (its ∷ []) = decimal (sf_start size its) ++ (codes ", " ++ decim
 sf_spans size [] = codes "[" ++ (sf_pairs size [] ++ codes "]")
 sf_spans size (its ∷ next ∷ more) = codes "[" ++ (sf_pairs size (its ∷ next ∷ more) ++ codes "]")
 
+-- why a file of this size has a format
 abbrev pub sf_basis : ℕ → Reason → List ℕ
 sf_basis size (Signature number matches) = codes "byte match at " ++ sf_spans size matches.now
 sf_basis size (Extension extension) = codes "extension match " ++ json_inside extension.now
 
+-- `text match ASCII`; nothing of what is no plain text
 abbrev pub sf_kind : Option TextKind → List ℕ
 sf_kind None = []
 sf_kind (Some kind) = codes "text match " ++ kind_name kind
 
 -- ---- the files
 
+-- what it warns of, or nothing
 abbrev pub sf_warning : Method → Bool → List ℕ
 sf_warning methods.Signature mismatch = if mismatch then codes "extension mismatch" else []
 sf_warning methods.Extension mismatch = codes "match on extension only"
@@ -79,12 +85,14 @@ sf_format format =
     ++ (json_text format.name ++ (codes ",\"version\":"
     ++ (json_text format.version ++ (codes ",\"mime\":" ++ json_text format.mime))))))
 
+-- the match of a format in a file of this size
 unfoldable pub sf_match : ℕ → Method → ShownFormat → List ℕ
 sf_match size method its =
     codes "{\"ns\":\"pronom\"," ++ (sf_format its.format.now ++ (codes ",\"class\":\"\",\"basis\":\""
     ++ (sf_basis size its.reason ++ (codes "\",\"warning\":\""
     ++ (sf_warning method its.mismatch ++ codes "\"}")))))
 
+-- a match behind the first
 abbrev pub sf_more : ℕ → Method → ShownFormat → List ℕ
 sf_more size method its = codes "," ++ sf_match size method its
 
@@ -95,6 +103,7 @@ sf_matches size method text [] =
     ++ (sf_kind text ++ codes "\",\"warning\":\"no match\"}")
 sf_matches size method text (its ∷ more) = sf_match size method its ++ flat_map (sf_more size method) more
 
+-- a file that was identified
 abbrev pub sf_file : Bool → ShownFile → List ℕ
 sf_file first file =
     comma first ++ (codes "{\"filename\":" ++ (json_text file.path.now ++ (codes ",\"filesize\":" ++ (decimal file.size

@@ -10,9 +10,11 @@ abbrev pub tried_text : Option Match → List ℕ
 tried_text None = codes "no match"
 tried_text (Some its) = match_text its
 
+-- a byte sequence behind the first
 abbrev pub more_tried : Option Match → List ℕ
 more_tried its = codes "; " ++ tried_text its
 
+-- byte sequences, separated by semicolons
 abbrev pub tried_texts : List (Option Match) → List ℕ
 tried_texts [] = []
 tried_texts (its ∷ more) = tried_text its ++ flat_map more_tried more
@@ -28,5 +30,6 @@ abbrev pub beaten_line : (path puid by : List ℕ) → List ℕ
 beaten_line path puid by =
     shown_text path ++ (codes ": " ++ (puid ++ (codes ": " ++ (by ++ (codes " has priority over it" ++ 10 ∷ [])))))
 
+-- `PATH: PUID: it has no signature`
 abbrev pub no_signature_line : (path puid : List ℕ) → List ℕ
 no_signature_line path puid = shown_text path ++ (codes ": " ++ (puid ++ (codes ": it has no signature" ++ 10 ∷ [])))

@@ -1,4 +1,4 @@
-//! Says what a file of a tree is.
+//! Says what a file of a tree is, by its first and last bytes, its length and its name.
 
 ghost use Rattle.std.specs.Prelude.{◌≡◌, ◌≤◌, IfErr, IfOk, MatchResult};
 ghost use Rattle.droid_tree.specs.declared.fault.WalkFault.TheVariants.{Memory};
@@ -26,11 +26,14 @@ pub struct TreeFile<'a> {
     pub name: &'a str,
     /// Its path in the tree.
     pub path: &'a str,
+    /// Its path as it is printed.
+    pub shown: &'a str,
     /// The file as its folder listed it.
     pub listed: &'a FolderEntry,
 }
 
-/// Reads the ends of a file of a tree, and says what the file is.
+/// Reads the ends of a file of a tree, and says what the file is: what is said is true of every file of its length with
+/// these ends.
 ///
 /// The inner error says that the file is unreadable, or that it is not as it was listed. `ends` has the file's ends
 /// afterwards, and its memory is used again.
@@ -48,8 +51,7 @@ pub fn identify_entry<T: Tree>(
         (λ why. StopsInEnds T.observes file.entry.path.now file.entry.listed.now options.limit why tree.old tree.new)) }
     ensures memory { IfErr result (λ fault. fault ≡ Memory) }
 {
-    let TreeFile { name, path, listed } = file;
-    match read_ends(alloc, tree, path, listed, options.limit, ends)? {
+    match read_ends(tree, file.path, file.listed, options.limit, ends)? {
         Ok(()) => {}
         Err(why) => return Ok(Err(why)),
     }
@@ -58,10 +60,10 @@ pub fn identify_entry<T: Tree>(
     let identity = identify_file(
         alloc,
         registry,
-        name,
+        file.name,
         first,
         last,
-        listed.len,
+        file.listed.len,
         options.match_all,
     )?;
     Ok(Ok(identity))

@@ -1,4 +1,4 @@
-//! The hash of a file of a tree.
+//! The hash of a file of a tree, which is read to its end for it.
 
 ghost use Rattle.std.specs.Prelude.{◌≡◌, [], IfErr, IfOk, MatchResult};
 ghost use Rattle.droid_tree.specs.Reading.{IsShort, StopsAt};
@@ -9,7 +9,7 @@ use droid_frame::{HashKind, HashValue, RunningHash};
 use droid_tree::{FolderEntry, Skipped, Tree, WalkFault, next_len, read_piece, see_end};
 use std::alloc::Global;
 
-/// How many bytes are read at once.
+/// How many bytes are read at once. `StopsHashing` has this number too, and the prover ties the two.
 const PIECE: u32 = 65_536;
 
 /// Reads a file of a tree to its end, and returns its hash. The inner error says that the file is unreadable, or that
@@ -43,7 +43,8 @@ pub fn hash_entry<T: Tree>(
     }
 }
 
-/// Reads a piece of a file, in the place of what stood in `piece`, and adds its bytes to the hash.
+/// Reads the `wanted` bytes of a file that begin at offset `from`, in the place of what stood in `piece`, and adds them
+/// to the hash. The inner error is that of `hash_entry`.
 fn add_piece<T: Tree>(
     tree: &mut T,
     path: &str,

@@ -1,4 +1,4 @@
-//! How `identify` ends.
+//! How `identify` ends: the endings, their row in the table of faults, and their exit status.
 
 ghost use Rattle.std.specs.Prelude.{◌≡◌};
 ghost use Rattle.droid_cmd_identify.specs.Endings.{ending_of, status_of, told_of};
@@ -25,7 +25,8 @@ pub enum IdentifyEnding {
 }
 
 impl IdentifyEnding {
-    /// Returns the ending after all files: whether one could not be read, and whether one has no format.
+    /// Returns the ending after all files were looked at. `unread` says whether something could not be read, which
+    /// counts first; `unidentified` whether a file has no format, which counts only where the PUIDs alone are printed.
     pub(crate) fn of(form: IdentifyForm, unread: bool, unidentified: bool) -> IdentifyEnding
         ensures { result ≡ ending_of form unread unidentified }
     {
@@ -44,7 +45,8 @@ impl IdentifyEnding {
         }
     }
 
-    /// Returns the ending by the table, given the PUID of the format of which is asked why a file does not have it.
+    /// Returns the ending in the words of the table that all commands share. `puid` is what `--why` asks about, and is
+    /// named only where the registry has no such format.
     pub fn told<'a>(self, puid: &'a str) -> Ending<'a>
         ensures { told result ≡ told_of self puid.now }
     {

@@ -1,4 +1,4 @@
-//! Reads a list of names, one at a time.
+//! Reads a list of names, one at a time: each ends with the same byte, in `identify` a line feed or 0.
 
 ghost use Rattle.std.specs.Prelude.{◌≡◌, ◌==◌, ◌<◌, ◌≤◌, ◌-◌, ◌++◌, ℕ, List, [], IfOk, IfSome, OnOk};
 ghost use Rattle.std.specs.Prelude.{MatchBool, length, take, drop};
@@ -10,10 +10,11 @@ use droid_frame::{InputFault, ReadFault, Retries, SteadyRead, read_some};
 use std::alloc::AllocError;
 use std::marker::Model;
 
-/// The most bytes that one read asks for.
+/// The most bytes that one read asks for. The invariant below has this number too.
 const CHUNK: usize = 8_192;
 
-/// How many bytes of a name are kept: one more than a path can have.
+/// How many bytes of a name are kept: one more than a path can have (`PATH_LIMIT` of `machine.rt`), so that a longer
+/// name is seen to be too long. `NameLists.antt` has this number too, and the prover ties the two.
 const KEPT: usize = 4_096;
 
 /// The bytes of a list that were read but not returned as names yet. Contracts see these bytes.
@@ -78,8 +79,8 @@ impl NameReader {
         Err(InputFault::TooLong)
     }
 
-    /// Moves the bytes before the next end to the name, as many as are kept, and drops the end. Without an end, takes
-    /// all bytes. Returns whether there was one.
+    /// Moves the bytes before the next end to the name, as many as are kept, and drops the end. Where the bytes that
+    /// were read have no end, takes all of them. Returns whether there was an end.
     fn move_name(&mut self, name: &mut Vec<u8>) -> Result<bool, AllocError>
         ensures moved { IfOk result (λ ended. Moves ended self.old.end self.old.bytes self.new.bytes name.old.items
             name.new.items) }
@@ -100,7 +101,7 @@ impl NameReader {
         }
     }
 
-    /// Reads more bytes after all others were returned. Returns whether any came.
+    /// Reads more bytes after all others were returned. Returns whether any came: none do at the list's end.
     fn refill<L: SteadyRead>(
         &mut self,
         reader: &mut L,
@@ -127,7 +128,7 @@ fn end_place(bytes: &[u8], end: u8) -> Option<usize>
     bytes.iter().position(|byte| *byte == end)
 }
 
-/// Appends bytes to a name, as many as are kept of it.
+/// Appends bytes to a name, as many as its 4,096 bytes leave room for. The others are dropped.
 fn keep(name: &mut Vec<u8>, bytes: &[u8]) -> Result<(), AllocError>
     ensures { OnOk result ((front : List ℕ) → name.old.items ≡ take 4096 front → name.new.items
         ≡ take 4096 (front ++ bytes.now)) }

@@ -9,7 +9,8 @@ use droid_tree::Skipped;
 /// What is said of a name that is empty.
 pub(crate) const EMPTY_NAME: &str = "a name is empty";
 
-/// What is said of a path that is longer than the system takes.
+/// What is said of a path that is longer than the system takes. The number is `PATH_LIMIT` of `machine.rt`; nothing but
+/// this line ties the two.
 pub(crate) const TOO_LONG: &str = "its path has more than 4,095 bytes";
 
 /// What is said of a folder whose files are not asked for.
@@ -24,7 +25,8 @@ pub(crate) const NO_INPUT: &str = "it could not be read";
 /// What is said of a list that can't be read.
 pub(crate) const NO_LIST: &str = "the list could not be opened or read";
 
-/// Returns why an entry was skipped, in words.
+/// Returns why a file or an entry of a folder was skipped, in words: in those of the other commands, but for a link,
+/// which they call no part of a profile.
 pub(crate) fn reason(why: Skipped) -> &'static str
     ensures { result.now ≡ reason_text why }
 {

@@ -1,4 +1,4 @@
-//! Why `identify` ended early.
+//! Why `identify` ended early: the faults that end the command, and where they come from.
 
 use crate::identify_ending::IdentifyEnding;
 use droid_tree::WalkFault;
@@ -6,7 +6,7 @@ use std::alloc::AllocError;
 
 /// Why `identify` ended early.
 #[derive(Clone, Copy)]
-pub(crate) enum RunFault {
+pub enum RunFault {
     /// Out of memory.
     Memory,
     /// The output could not be written.
@@ -14,7 +14,8 @@ pub(crate) enum RunFault {
 }
 
 impl RunFault {
-    /// Returns the ending.
+    /// Returns the command's ending for this fault. `names.py` of `tests/program/identify` holds its exit status where
+    /// the output can't be written; no clause holds it.
     pub(crate) fn ending(self) -> IdentifyEnding {
         match self {
             RunFault::Memory => IdentifyEnding::Memory,
@@ -24,13 +25,14 @@ impl RunFault {
 }
 
 impl From<AllocError> for RunFault {
+    /// Returns `Memory`. No clause holds that.
     fn from(_error: AllocError) -> RunFault {
         RunFault::Memory
     }
 }
 
 impl From<WalkFault> for RunFault {
-    // Reading folders and files ends early only where memory runs out.
+    /// Returns `Memory`: reading folders and files ends early only where memory runs out. No clause holds that.
     fn from(_fault: WalkFault) -> RunFault {
         RunFault::Memory
     }

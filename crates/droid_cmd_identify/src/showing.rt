@@ -1,4 +1,4 @@
-//! The formats of a file as they are printed.
+//! The formats of a file as they are printed: each with its names out of the registry, and why the file has it.
 
 ghost use Rattle.std.specs.Prelude.{◌≡◌, ℕ, Bool, List, IfOk, IsSomeAnd, None, Some, MatchOption, slice_get};
 ghost use Rattle.std.specs.List.{AllByRecursion};
@@ -15,7 +15,9 @@ use droid_identity::{Identity, SignatureBasis};
 use droid_pronom::{Format, Registry, extension};
 use std::alloc::{AllocError, Global};
 
-/// Returns the formats of a file of this name, each with the reason for which the file has it.
+/// Returns the formats of a file of this name, in the order of `identity`, each with the reason for which the file has
+/// it. Each caller hands over what this registry says of a file of this name; of another `identity` the clause promises
+/// nothing.
 pub fn shown_formats<'a>(
     alloc: Global,
     registry: &'a Registry,
@@ -26,7 +28,7 @@ pub fn shown_formats<'a>(
         → IsIdentity registry.now name.now file scan_limit match_all identity.now
         → AreShown registry.now.formats (extension_of name.now) identity.now shown.items) }
 {
-    // The rules that every registry keeps: no two formats have one PUID.
+    // Reading the registry tells the prover the rules that every registry keeps: no two formats have one PUID.
     prove!(registry.len() <= 4_096);
     let puids = identity.found.puids.as_slice();
     let mismatch = identity.found.mismatch;
@@ -42,7 +44,7 @@ pub fn shown_formats<'a>(
     }
 }
 
-/// Returns the format with this PUID.
+/// Returns the registry's format with this PUID, or `None` if it has none.
 fn format_of<'a>(registry: &'a Registry, puid: &str) -> Option<&'a Format>
     ensures { MatchOption result (place_of puid.now registry.now.formats ≡ None)
         (IsFormatOf registry.now.formats puid.now) }
@@ -51,7 +53,7 @@ fn format_of<'a>(registry: &'a Registry, puid: &str) -> Option<&'a Format>
     registry.format(place)
 }
 
-/// Returns formats that signatures give.
+/// Returns the formats that signatures show: the format of each PUID, with the basis at the PUID's place.
 fn shown_by_signature<'a>(
     alloc: Global,
     registry: &'a Registry,
@@ -72,7 +74,8 @@ fn shown_by_signature<'a>(
     Ok(shown)
 }
 
-/// Returns the format with this PUID, by the basis at this place.
+/// Returns the format with this PUID, by the basis at this place. Returns `None` where the registry has no such format
+/// or the list no such place: neither is so of what the registry itself says.
 fn shown_at<'a>(
     registry: &'a Registry,
     puid: &str,
@@ -96,7 +99,7 @@ fn shown_at<'a>(
     })
 }
 
-/// Returns formats that the extension gives.
+/// Returns the formats that list the extension of the file's name: the format of each PUID.
 fn shown_by_extension<'a>(
     alloc: Global,
     registry: &'a Registry,

@@ -10,7 +10,7 @@ use crate::ends::FileEnds;
 use droid_frame::{InputFault, Retries, RunningHash, SteadyRead, read_some};
 use std::alloc::AllocError;
 
-/// The most bytes that one read asks for.
+/// The most bytes that one read asks for. Nothing else depends on it.
 const CHUNK: usize = 8_192;
 
 /// Reads a stream to its end. Returns how many bytes it has. `ends` has its first and last bytes afterwards, at most
@@ -36,8 +36,8 @@ pub fn read_stream<R: SteadyRead>(
     Ok(size)
 }
 
-/// Reads a stream to its end. Returns how many bytes it has. Keeps of them what is among the first or perhaps the last
-/// ones.
+/// Reads a stream to its end. Returns how many bytes it has. Keeps its first `limit` bytes, and of the last ones at
+/// least `limit`: which bytes are the last shows only at the end, where `settle` drops the others.
 fn take_stream<R: SteadyRead>(
     reader: &mut R,
     limit: u32,
@@ -65,7 +65,7 @@ fn take_stream<R: SteadyRead>(
     }
 }
 
-/// Adds the bytes of a part to a size.
+/// Returns a size with the bytes of a part added. Fails with `TooLong` where 64 bits do not hold it.
 fn longer(size: u64, count: usize) -> Result<u64, InputFault>
     ensures { IfOk result (λ sum. sum ≡ size + count) }
 {
@@ -75,7 +75,7 @@ fn longer(size: u64, count: usize) -> Result<u64, InputFault>
     }
 }
 
-/// Keeps of the next bytes of a stream what is among its first or perhaps its last ones.
+/// Keeps, of the next bytes of a stream, those that are among its first `limit`, and all of them as possibly last ones.
 fn add_part(ends: &mut FileEnds, limit: u32, bytes: &[u8]) -> Result<(), AllocError>
     ensures { OnOk result ((seen : List ℕ) → KeepsEnds limit seen ends.old.first.items ends.old.rest.items
         → KeepsEnds limit (seen ++ bytes.now) ends.new.first.items ends.new.rest.items) }
@@ -89,7 +89,8 @@ fn add_part(ends: &mut FileEnds, limit: u32, bytes: &[u8]) -> Result<(), AllocEr
     Ok(())
 }
 
-/// Drops last bytes of which more than enough are kept.
+/// Leaves only the last `limit` bytes once more than twice as many are kept. So memory does not grow with the stream,
+/// and bytes are moved only once more than `limit` others came.
 fn trim(ends: &mut FileEnds, limit: u32)
     ensures { (seen : List ℕ) → KeepsEnds limit seen ends.old.first.items ends.old.rest.items
         → KeepsEnds limit seen ends.new.first.items ends.new.rest.items }
@@ -100,7 +101,7 @@ fn trim(ends: &mut FileEnds, limit: u32)
     }
 }
 
-/// Keeps the last bytes, at most this many.
+/// Drops all but the last `count` bytes, in place.
 fn keep_last(bytes: &mut Vec<u8>, count: usize)
     ensures { bytes.new.items ≡ drop (length bytes.old.items - count) bytes.old.items }
 {
@@ -110,7 +111,8 @@ fn keep_last(bytes: &mut Vec<u8>, count: usize)
     bytes.truncate(left);
 }
 
-/// Leaves the last bytes of a stream of this size.
+/// Sets, of a stream of this size that has ended, whether it is longer than `limit`, and then leaves just its last
+/// `limit` bytes. Of a shorter one the first bytes are all, and the others are not looked at.
 fn settle(ends: &mut FileEnds, limit: u32, size: u64)
     ensures { (seen : List ℕ) → length seen ≡ size → KeepsEnds limit seen ends.old.first.items ends.old.rest.items
         → AreEnds seen limit ends.new.first.items (last_of ends.new) }

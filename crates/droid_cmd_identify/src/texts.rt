@@ -1,4 +1,4 @@
-//! What is printed of a file, in each form.
+//! What is printed of a file, before the first and after the last one, in each form.
 
 ghost use Rattle.std.specs.Prelude.{◌≡◌, IfOk, string_bytes};
 ghost use Rattle.droid_cmd_identify.specs.FileTexts.{file_text, head_text, tail_text, unread_text};
@@ -15,7 +15,8 @@ use crate::forms::shown_file::ShownFile;
 use droid_arguments::IdentifyForm;
 use std::alloc::{AllocError, Global};
 
-/// Returns what is printed of a file. `first` says whether it is the first one.
+/// Returns what is printed of a file. `first` says whether it is the first one that is printed: before the others the
+/// document that is shaped as Siegfried's has a comma.
 pub fn file_text(
     alloc: Global,
     form: IdentifyForm,
@@ -63,7 +64,8 @@ pub fn tail_text(form: IdentifyForm) -> &'static str
     }
 }
 
-/// Returns what is printed, beside the report, of a file that could not be read.
+/// Returns what is printed, beside the report, of a file that could not be read: nothing but in the document that is
+/// shaped as Siegfried's. `first` is that of `file_text`.
 pub fn unread_text(
     alloc: Global,
     form: IdentifyForm,

@@ -68,7 +68,7 @@ class Changing(InFolder):
                     self.check_each(content, when, how)
 
     def test_grows(self):
-        for content in (SHORT, LONG):
+        for content in (b"", SHORT, LONG):
             for when in ("open", "end"):
                 self.check_each(content, when, "none", STATE_GROWS=self.big)
 

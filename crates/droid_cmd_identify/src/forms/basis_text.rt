@@ -1,4 +1,4 @@
-//! The basis of a format as it is printed.
+//! The basis of a format in words, as lines and CSV have it.
 
 ghost use Rattle.std.specs.Prelude.{Some};
 ghost use Rattle.droid_cmd_identify.specs.Lines.{basis_text};

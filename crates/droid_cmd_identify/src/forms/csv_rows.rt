@@ -18,7 +18,8 @@ use droid_pronom::Format;
 use droid_terminal::{finish_csv, new_csv, write_record};
 use std::alloc::{AllocError, Global};
 
-/// Returns the first line of the CSV, which names its columns.
+/// Returns the first line of the CSV, which names its columns. They stand in the order of `write_fields`; `columns` and
+/// `row_with` of `CsvRows.antt` hold both.
 pub fn csv_header(alloc: Global) -> Result<Vec<u8>, AllocError>
     ensures { IfOk result (λ text. text.items ≡ header) }
 {
@@ -48,7 +49,7 @@ pub fn csv_rows(alloc: Global, file: ShownFile<'_>) -> Result<Vec<u8>, AllocErro
     finish_csv(writer)
 }
 
-/// Writes the rows of a file.
+/// Writes the rows of a file behind what the writer holds.
 fn write_rows(
     alloc: Global,
     writer: &mut Writer<Vec<u8>>,
@@ -63,7 +64,7 @@ fn write_rows(
     write_formats(alloc, writer, file)
 }
 
-/// Writes a row for each format.
+/// Writes a row for each format of a file, in order.
 fn write_formats(
     alloc: Global,
     writer: &mut Writer<Vec<u8>>,
@@ -94,7 +95,7 @@ fn write_format(
     write_fields(writer, file, size.as_bytes(), format, basis.as_bytes())
 }
 
-/// Writes the row of a file without formats.
+/// Writes the row of a file without formats: the fields that a format gives are empty, and BASIS says which text it is.
 fn write_none(
     alloc: Global,
     writer: &mut Writer<Vec<u8>>,
@@ -123,7 +124,7 @@ struct FormatFields<'a> {
     version: &'a str,
 }
 
-/// Returns the fields that a format gives.
+/// Returns the fields that a format gives, as the registry has them.
 fn fields_of(format: &Format) -> FormatFields<'_>
     ensures puid { result.puid.now ≡ format.now.puid }
     ensures mime { result.mime.now ≡ format.now.mime }
@@ -138,7 +139,7 @@ fn fields_of(format: &Format) -> FormatFields<'_>
     }
 }
 
-/// Writes a row with these fields and those of the file.
+/// Writes a row: these fields and those of the file, in the order of `csv_header`.
 fn write_fields<'a>(
     writer: &mut Writer<Vec<u8>>,
     file: ShownFile<'a>,
@@ -197,7 +198,7 @@ fn method_text<'a>(file: ShownFile<'a>) -> &'a [u8]
     }
 }
 
-/// Returns whether the extension of a file contradicts its formats, in words.
+/// Returns `true` or `false`: whether the extension of a file contradicts its formats.
 fn mismatch_text<'a>(file: ShownFile<'a>) -> &'a [u8]
     ensures { result.now ≡ bool_text file.entry.mismatch }
 {

@@ -1,4 +1,4 @@
-//! The lines of one file.
+//! All lines of one file: of its hash and its formats, or of the PUIDs alone.
 
 ghost use Rattle.std.specs.Prelude.{Some, flat_map};
 ghost use Rattle.std.specs.Fmt.{WritesOnOk};
@@ -37,7 +37,7 @@ impl Display for FileLines<'_> {
     }
 }
 
-/// The line with the hash of a file; nothing if it has none.
+/// The line with the hash of a file, `PATH: md5 DIGITS`; nothing if it has none.
 #[derive(Clone, Copy)]
 struct HashLine<'a> {
     path: &'a str,
@@ -87,7 +87,7 @@ impl Display for FormatLines<'_> {
     }
 }
 
-/// Writes the lines of further formats.
+/// Writes a line for each of a file's formats behind the first.
 fn write_more<W: Write>(
     path: &str,
     formats: &[ShownFormat<'_>],
@@ -101,7 +101,7 @@ fn write_more<W: Write>(
     Ok(())
 }
 
-/// The PUIDs of a file's formats, one on a line.
+/// The PUIDs of a file's formats, one on a line; nothing if it has none.
 #[derive(Clone, Copy)]
 pub struct PuidLines<'a>(pub &'a [ShownFormat<'a>]);
 

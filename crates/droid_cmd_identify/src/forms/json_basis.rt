@@ -1,4 +1,4 @@
-//! The basis of a format in JSON.
+//! The basis of a format as an object of JSON.
 
 ghost use Rattle.std.specs.Prelude.{Some, flat_map};
 ghost use Rattle.std.specs.Fmt.{WritesOnOk};
@@ -61,7 +61,8 @@ fn write_more<W: Write>(matches: &[Match], f: &mut Formatter<W>) -> fmt::Result
     Ok(())
 }
 
-/// A match as an object of JSON.
+/// A match as an object of JSON. Its offset is counted from the end of the file that `from` names, as the registry
+/// counts.
 #[derive(Clone, Copy)]
 struct JsonMatch(Match);
 

@@ -106,7 +106,7 @@ impl Display for JsonFormats<'_> {
     }
 }
 
-/// Writes further formats, each after a comma.
+/// Writes the objects of further formats, each after a comma.
 fn write_more<W: Write>(formats: &[ShownFormat<'_>], f: &mut Formatter<W>) -> fmt::Result
     ensures { WritesOnOk W.write_str_gives f.old result (flat_map json_more_formats formats.now) f.new }
 {

@@ -35,21 +35,22 @@ impl Display for JsonInside<'_> {
     }
 }
 
-/// Returns whether a character of the text needs an escape.
+/// Returns whether a character of the text needs an escape. Most texts have none, and are written at once.
 fn has_escape(text: &str) -> bool
     ensures { result ≡ list_any needs_escape (chars text.now) }
 {
     text.chars().any(|letter| needs_escape(letter))
 }
 
-/// Returns whether it is a quotation mark, a backslash or a control character of ASCII.
+/// Returns whether JSON wants an escape for a character (RFC 8259, section 7): a quotation mark, a backslash, and what
+/// is below a space.
 fn needs_escape(letter: char) -> bool
     ensures { result ≡ needs_escape letter }
 {
     letter == '"' || letter == '\\' || letter < ' '
 }
 
-/// Writes the characters, with the escapes that they need.
+/// Writes a text character by character, with the escapes that they need.
 fn write_escaped<W: Write>(text: &str, f: &mut Formatter<W>) -> fmt::Result
     ensures { WritesOnOk W.write_str_gives f.old result (flat_map json_char (chars text.now)) f.new }
 {
@@ -59,7 +60,7 @@ fn write_escaped<W: Write>(text: &str, f: &mut Formatter<W>) -> fmt::Result
     Ok(())
 }
 
-/// A character in a string of JSON.
+/// A character in a string of JSON, with the escape that it needs: `\u001f` below a space, else a backslash before it.
 #[derive(Clone, Copy)]
 struct JsonChar(char);
 

@@ -1,4 +1,4 @@
-//! The lines of a file.
+//! The line of one format of a file, and the line of a file that has none.
 
 ghost use Rattle.std.specs.Prelude.{Some};
 ghost use Rattle.droid_cmd_identify.specs.Lines.{after_space, format_line, in_parentheses, kind_text};
@@ -11,7 +11,7 @@ use droid_identity::TextKind;
 use droid_terminal::Shown;
 use std::fmt::{self, Display, Formatter, Write};
 
-/// The line of a file's format.
+/// The line of a file's format: `PATH: PUID NAME VERSION (MIME), BASIS`, and a warning at its end.
 #[derive(Clone, Copy)]
 pub struct FormatLine<'a> {
     /// The path of the file, as it was named.
@@ -82,7 +82,7 @@ impl Display for Warning {
     }
 }
 
-/// The line of a file without formats.
+/// The line of a file without formats: `PATH: unidentified`, and which text it is if it is one.
 #[derive(Clone, Copy)]
 pub struct UnidentifiedLine<'a> {
     /// The path of the file, as it was named.
@@ -100,7 +100,7 @@ impl Display for UnidentifiedLine<'_> {
     }
 }
 
-/// How a file is written, if it is plain text.
+/// The end of the line of a file without formats: `, text, UTF-8` or the like; nothing if it is no plain text.
 #[derive(Clone, Copy)]
 struct KindText(Option<TextKind>);
 

@@ -28,7 +28,7 @@ impl Display for MatchText {
     }
 }
 
-/// Bytes that are counted from the beginning of a file.
+/// Bytes that are counted from the beginning of a file: `bytes 0 to 7`, both included, or `byte 4`.
 #[derive(Clone, Copy)]
 struct AtBegin {
     offset: u32,
@@ -48,7 +48,8 @@ impl Display for AtBegin {
     }
 }
 
-/// Bytes that are counted from the end of a file.
+/// Bytes that are counted from the end of a file: `the last 6`, or `6 before the last 10`. `offset` counts the bytes
+/// behind them.
 #[derive(Clone, Copy)]
 struct AtEnd {
     offset: u32,
@@ -67,7 +68,7 @@ impl Display for AtEnd {
     }
 }
 
-/// The matches of a signature.
+/// The matches of a signature's byte sequences, separated by semicolons.
 #[derive(Clone, Copy)]
 pub struct MatchesText<'a>(pub &'a [Match]);
 

@@ -16,7 +16,7 @@ use droid_identity::{Match, TextKind};
 use droid_pronom::{Anchor, Format};
 use std::fmt::{self, Display, Formatter, Write};
 
-/// A file in the document. A comma stands before each but the first.
+/// A file that was identified, in the document, as an object of JSON.
 #[derive(Clone, Copy)]
 pub struct SfFile<'a> {
     /// Whether it is the first file.
@@ -43,7 +43,8 @@ impl Display for SfFile<'_> {
     }
 }
 
-/// A file that could not be read, in the document.
+/// A file that could not be read, in the document: the reason stands in its `errors`, and its size and moment are not
+/// known.
 #[derive(Clone, Copy)]
 pub struct SfUnread<'a> {
     /// Whether it is the first file.
@@ -69,7 +70,7 @@ impl Display for SfUnread<'_> {
     }
 }
 
-/// The comma before a file that is not the first.
+/// The comma before a file. It prints nothing if this says that the file is the first one.
 #[derive(Clone, Copy)]
 struct Comma(bool);
 
@@ -116,7 +117,7 @@ impl Display for SfMatches<'_> {
     }
 }
 
-/// Writes further matches, each after a comma.
+/// Writes the matches of further formats, each after a comma. `size` and `method` are those of the file.
 fn write_more<W: Write>(
     size: u64,
     method: Method,
@@ -139,7 +140,7 @@ fn write_more<W: Write>(
     Ok(())
 }
 
-/// The match of a format.
+/// The match of a format in a file of this size, whose formats were found by this method: an object of JSON.
 #[derive(Clone, Copy)]
 struct SfMatch<'a> {
     size: u64,
@@ -165,7 +166,7 @@ impl Display for SfMatch<'_> {
     }
 }
 
-/// The names of a format.
+/// The names of a format, as members of the object of its match.
 #[derive(Clone, Copy)]
 struct SfFormat<'a>(&'a Format);
 
@@ -185,7 +186,7 @@ impl Display for SfFormat<'_> {
     }
 }
 
-/// Returns what Siegfried warns of.
+/// Returns what Siegfried warns of, in its words. An empty text is no warning.
 fn sf_warning(method: Method, mismatch: bool) -> &'static str
     ensures { result.now ≡ sf_warning method mismatch }
 {
@@ -234,7 +235,8 @@ impl Display for SfBasis<'_> {
     }
 }
 
-/// Where matches begin in a file of this size, and how many bytes they have.
+/// Where matches begin in a file of this size, and how many bytes they have: `0, 8` of one, `[[0 8] [100 6]]` of
+/// several.
 #[derive(Clone, Copy)]
 struct SfSpans<'a> {
     size: u64,
@@ -253,7 +255,7 @@ impl Display for SfSpans<'_> {
     }
 }
 
-/// Pairs of offsets and lengths, separated by spaces.
+/// The pairs of several matches, separated by spaces.
 #[derive(Clone, Copy)]
 struct SfPairs<'a> {
     size: u64,
@@ -275,7 +277,7 @@ impl Display for SfPairs<'_> {
     }
 }
 
-/// Writes further pairs, each after a space.
+/// Writes the pairs of further matches in a file of this size, each after a space.
 fn write_pairs<W: Write>(size: u64, matches: &[Match], f: &mut Formatter<W>) -> fmt::Result
     ensures { WritesOnOk W.write_str_gives f.old result (flat_map (sf_more_pair size) matches.now) f.new }
 {
@@ -285,7 +287,8 @@ fn write_pairs<W: Write>(size: u64, matches: &[Match], f: &mut Formatter<W>) -> 
     Ok(())
 }
 
-/// The offset and the length of a match.
+/// The offset and the length of a match in a file of this size: `[100 6]`. Siegfried counts all offsets from the
+/// beginning.
 #[derive(Clone, Copy)]
 struct SfPair {
     size: u64,
@@ -300,7 +303,8 @@ impl Display for SfPair {
     }
 }
 
-/// Returns how many bytes of a file of this size stand before a match.
+/// Returns how many bytes of a file of this size stand before a match. Of a match that is counted from the end: the
+/// size without the bytes behind it and its own, or 0 if these are more, as no match in the file has.
 fn sf_start(size: u64, its: Match) -> u64
     ensures { result ≡ sf_start size its }
 {

@@ -1,4 +1,4 @@
-//! Why a file does not have a format, in lines.
+//! Why a file does not have a format, or what shows it, in lines: the answer to `--why`.
 
 ghost use Rattle.std.specs.Prelude.{Some, flat_map};
 ghost use Rattle.std.specs.Fmt.{WritesOnOk};
@@ -53,7 +53,7 @@ impl Display for TriedTexts<'_> {
     }
 }
 
-/// Writes further byte sequences, each after a semicolon.
+/// Writes what became of further byte sequences, each after a semicolon.
 fn write_more<W: Write>(matches: &[Option<Match>], f: &mut Formatter<W>) -> fmt::Result
     ensures { WritesOnOk W.write_str_gives f.old result (flat_map more_tried matches.now) f.new }
 {
