@@ -3,7 +3,7 @@ src = open("/work/h/chk.py").read().split("\nif len(sys.argv) < 3")[0]
 exec(src)
 def count(g): return sum(len(f) for _,_,f in os.walk(g))
 end = time.time()+10300
-CL=["/work/h/next"]
+CL=["/work/h/base","/work/h/next"]
 maps={}
 def sums(top):
     return Map(top)
